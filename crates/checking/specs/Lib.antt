@@ -1,0 +1,6 @@
+pub mod Faults
+pub mod Scope
+pub mod CountFaults
+pub mod NameFaults
+pub mod KindFaults
+pub mod Verdict

@@ -1,0 +1,110 @@
+-- Expressions, conditions and calls at one binding, as code works them out: the total machine. What the reference machine is stuck at gives unset, false or no write here.
+use Prim.Native.Nat.{ℕ}
+use mathlib.Core.List.{List, [], _∷_, flatMap}
+use mathlib.Core.Bool.{Bool, true, false, not, _&&_, _||_}
+use mathlib.Core.Option.{Option, none, some}
+use Rattle.values.specs.declared.Value.{Value}
+use Rattle.values.specs.declared.Value.the-variants.{Unset}
+use Rattle.values.specs.Value.{is-set, fitted, settled, operated, negated, as-real, equal, differ}
+use Rattle.text.specs.Syntax.{
+  Name,
+  literal-value,
+  Expression,
+  literal,
+  member,
+  to-real,
+  negate,
+  apply,
+  Target,
+  Filter,
+  Test,
+  changed,
+  equals,
+  Clause,
+  Condition,
+  clause,
+  both,
+  either,
+  Call,
+  Rule,
+}
+use Rattle.cycles.specs.Store.{Store, read-cell}
+use Rattle.cycles.specs.Spots.{Spot, Spots}
+
+unfoldable pub read-spot : Store → Spot → Value
+unfolding read-cell
+read-spot s p = read-cell s (p .entity) (p .member)
+
+unfoldable pub value-at : Store → Option Spot → Value
+unfolding read-spot
+value-at s none = Unset
+value-at s (some p) = read-spot s p
+
+unfoldable pub is-present-at : Store → Option Spot → Bool
+is-present-at s none = false
+is-present-at s (some p) = s .present (p .entity)
+
+unfoldable pub value : Spots → Store → Expression → Value
+unfolding literal-value value-at fitted settled
+value sp s (literal l) = literal-value l
+value sp s (member n m) = value-at s (sp (n .bytes) (m .bytes))
+value sp s (to-real at a) = as-real (value sp s a)
+value sp s (negate at a) = negated (value sp s a)
+value sp s (apply o at a b) = operated o (value sp s a) (value sp s b)
+
+-- "`with` attribute `=` sum", at a target, read in one store
+unfoldable pub filter-holds : Spots → Store → Target → Option Filter → Bool
+unfolding value-at value
+filter-holds sp s t none = true
+filter-holds sp s t (some g) = equal (value-at s (sp (t .name .bytes) (g .attribute .bytes))) (value sp s (g .expression))
+
+-- "`value = X` holds if equal now and not equal one cycle before, X worked out in each. `changed` holds if the two values differ"
+unfoldable pub test-holds : Spots → Store → Store → Option Spot → Test → Bool
+unfolding value-at value
+test-holds sp now previous p changed = differ (value-at now p) (value-at previous p)
+test-holds sp now previous p (equals at a) =
+    equal (value-at now p) (value sp now a) && not (equal (value-at previous p) (value sp previous a))
+
+-- "A clause's `with` reads the cycle before"; "A clause at an absent entity is false"
+unfoldable pub clause-holds : Spots → Store → Store → Clause → Bool
+unfolding is-present-at filter-holds test-holds
+clause-holds sp now previous c =
+    is-present-at now (sp (c .target .name .bytes) (c .event .bytes))
+    && (filter-holds sp previous (c .target) (c .filter)
+    && test-holds sp now previous (sp (c .target .name .bytes) (c .event .bytes)) (c .test))
+
+unfoldable pub holds : Spots → Store → Store → Condition → Bool
+unfolding clause-holds
+holds sp now previous (clause c) = clause-holds sp now previous c
+holds sp now previous (both a b) = holds sp now previous a && holds sp now previous b
+holds sp now previous (either a b) = holds sp now previous a || holds sp now previous b
+
+pub record Write : Type 0 where
+  pub entity : ℕ
+  pub member : ℕ
+  pub value : Value
+
+unfoldable pub written-if : Bool → Option Spot → Value → List Write
+written-if false p v = []
+written-if true none v = []
+written-if true (some p) v = record { entity = p .entity; member = p .member; value = v } ∷ []
+
+-- "a call's `with` and parameter read now"; "a call [at an absent entity] writes nothing"; "An unset parameter writes nothing"
+unfoldable pub call-writes : Spots → Store → Call → List Write
+unfolding written-if is-present-at filter-holds value
+call-writes sp now c =
+    written-if
+    (is-present-at now (sp (c .target .name .bytes) (c .action .bytes))
+    && (filter-holds sp now (c .target) (c .filter)
+    && is-set (value sp now (c .parameter))))
+    (sp (c .target .name .bytes) (c .action .bytes))
+    (value sp now (c .parameter))
+
+unfoldable pub writes-if : Bool → List Write → List Write
+writes-if true ws = ws
+writes-if false ws = []
+
+-- a rule at one binding
+unfoldable pub binding-writes : Spots → Store → Store → Rule → List Write
+unfolding writes-if holds flatMap call-writes
+binding-writes sp now previous r = writes-if (holds sp now previous (r .condition)) (flatMap (call-writes sp now) (r .calls))

@@ -1,0 +1,15 @@
+pub mod Outcome
+pub mod Store
+pub mod Spots
+pub mod Evaluate
+pub mod Reference
+pub mod Bindings
+pub mod Cycle
+pub mod Fields
+pub mod Header
+pub mod Record
+pub mod Line
+pub mod Row
+pub mod StateImage
+pub mod ClosedSet
+pub mod SoundState

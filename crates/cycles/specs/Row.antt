@@ -1,0 +1,27 @@
+-- Rows of fired actions, and their header (document 01, "Rows and names").
+use Prim.Native.Nat.{ℕ}
+use mathlib.Core.List.{List, [], _∷_, _++_, flatMap}
+use mathlib.Core.Bool.{Bool, true, false}
+use mathlib.Core.Option.{Option}
+use lib.ListN.{getElem?}
+use Rattle.values.specs.Forms.{digit-byte, digits, decimal, printed}
+use Rattle.text.specs.Syntax.{Name, Member, Entity, File}
+use Rattle.checking.specs.Scope.{is-action}
+use Rattle.checking.specs.Verdict.{name-if-found}
+use Rattle.cycles.specs.Store.{State}
+use Rattle.cycles.specs.Spots.{Spot, cells}
+
+-- a space and a field for each action cell
+unfoldable pub action-fields : File → (Spot → List ℕ) → List ℕ
+unfolding flatMap is-action cells
+action-fields f field = flatMap (λ p. elim (is-action (p .what .sort)) [ true ↦ 32 ∷ field p | false ↦ [] ]) (cells f)
+
+-- "`n` and every action cell as `entity.action`, in entity and member order"
+unfoldable pub row-header : File → List ℕ
+unfolding action-fields name-if-found
+row-header f = 110 ∷ action-fields f (λ p. name-if-found (getElem? (f .entities) (p .entity)) ++ 46 ∷ p .what .name .bytes)
+
+-- "the number and each fired value, in the form of readings, or `-`, one space between fields"
+unfoldable pub row : File → State → List ℕ
+unfolding action-fields digit-byte digits
+row f s = decimal (s .last) ++ action-fields f (λ p. printed (s .now .cell (p .entity) (p .member)))

@@ -1,0 +1,23 @@
+-- The bench image: 4 bytes of the text's length, the lowest first, then the text. So memory stands for a bench exactly if its text is accepted.
+use Prim.Native.Nat.{ℕ, _+_}
+use mathlib.Core.List.{List, _++_}
+use mathlib.Core.Bool.{true, false}
+use mathlib.Core.Option.{Option, none}
+use lib.Dec.{leb}
+use lib.ListN.{length, take, drop}
+use Rattle.values.specs.Bytes.{word-at, low-first}
+use Rattle.text.specs.Syntax.{File}
+use Rattle.checking.specs.Verdict.{MOST-BYTES, accepted-file}
+
+-- the stated size
+abbrev pub BENCH : ℕ
+BENCH = 32772
+
+-- memory with a text's image written to it
+unfoldable pub with-bench : List ℕ → List ℕ → List ℕ
+with-bench text m = low-first 4 (length text) ++ text ++ drop (4 + length text) m
+
+-- the file that memory stands for, or none: "32: memory is no checked bench", of memory of the stated size at least
+unfoldable pub bench-of : List ℕ → Option File
+unfolding accepted-file
+bench-of m = elim (leb (word-at 4 m 0) MOST-BYTES) [ true ↦ accepted-file (take (word-at 4 m 0) (drop 4 m)) | false ↦ none ]

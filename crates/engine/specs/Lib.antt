@@ -1,0 +1,4 @@
+pub mod BenchImage
+pub mod Calls
+pub mod Runs
+pub mod DemandThree

@@ -1,0 +1,82 @@
+-- Runs: "a list of cycle calls, refused ones included, from a fresh state of one accepted bench file".
+use Prim.Native.Nat.{ℕ, _%_}
+use mathlib.Core.List.{List, [], _∷_, _++_}
+use mathlib.Core.Bool.{Bool, true, false}
+use mathlib.Core.Option.{Option, none, some}
+use lib.Dec.{ltb, eqb}
+use lib.ListN.{length}
+use Rattle.text.specs.Syntax.{File}
+use Rattle.cycles.specs.Outcome.{Outcome, running, proceed}
+use Rattle.cycles.specs.Store.{State, Line}
+use Rattle.cycles.specs.Cycle.{ref-follow}
+use Rattle.cycles.specs.Line.{Answer, refused, accepted, Reading, reading, line-of, line}
+use Rattle.cycles.specs.Row.{row}
+use Rattle.cycles.specs.StateImage.{state-of}
+use Rattle.engine.specs.Calls.{ROW, with-row, row-answer, After-line, line-call}
+
+-- what is lent to one call beside bench and state: "whatever else is lent may be any bytes"
+pub record Request : Type 0 where
+  pub names : List ℕ
+  pub values : List ℕ
+  pub row : List ℕ
+
+-- "Each gets bench and state as the last call left them"
+unfoldable pub replies : List ℕ → List ℕ → List Request → List After-line
+unfolding line-call
+replies bench state [] = []
+replies bench state (q ∷ qs) =
+    let r = line-call bench state (q .names) (q .values) (q .row) in
+    r ∷ replies bench (r .state) qs
+
+-- what a call shows: its answer, the state that its memory stands for, the row's memory
+pub record Sight : Type 0 where
+  pub answer : ℕ
+  pub state : Option State
+  pub row : List ℕ
+
+unfoldable pub sight : File → After-line → Sight
+unfolding state-of
+sight f r = record { answer = r .answer; state = state-of f (r .state); row = r .row }
+
+-- "whether and how the table refuses a call follows from that call and the machine's state before it"
+unfoldable pub machine-answer : File → State → Request → Answer Line
+unfolding line
+machine-answer f s q = elim (ltb (length (q .row)) ROW) [ true ↦ refused 31 | false ↦ line f s (q .names) (q .values) ]
+
+unfoldable pub refused-sight : ℕ → State → Request → Sight
+refused-sight code s q = record { answer = code; state = some s; row = q .row }
+
+unfoldable pub accepted-sight : File → State → Request → Sight
+unfolding row with-row
+accepted-sight f s q = record { answer = row-answer (row f s); state = some s; row = with-row (row f s) (q .row) }
+
+-- one call, and then the others from the state after it: "A refused line isn't given to it; a resent one starts no cycle"
+unfoldable pub ref-answered : File → State → Request → Answer Line → (State → Outcome (List Sight)) → Outcome (List Sight)
+unfolding proceed ref-follow refused-sight accepted-sight
+ref-answered f s q (refused code) others = proceed (others s) λ rest. running (refused-sight code s q ∷ rest)
+ref-answered f s q (accepted l) others =
+    proceed (ref-follow f s l) λ t. proceed (others t) λ rest. running (accepted-sight f t q ∷ rest)
+
+-- the reference machine over the same requests
+unfoldable pub ref-run : File → State → List Request → Outcome (List Sight)
+unfolding ref-answered machine-answer
+ref-run f s [] = running []
+ref-run f s (q ∷ qs) = ref-answered f s q (machine-answer f s q) (λ t. ref-run f t qs)
+
+-- an accepted line of a run, and the memory of the state after it
+pub record Taken : Type 0 where
+  pub line : Line
+  pub state : List ℕ
+
+unfoldable pub taken-if : Bool → Answer Reading → List ℕ → List Taken
+unfolding line-of
+taken-if false a m = []
+taken-if true (refused code) m = []
+taken-if true (accepted r) m = record { line = line-of r; state = m } ∷ []
+
+-- the accepted lines of a run: those whose answer has the number 0
+unfoldable pub taken-lines : File → List Request → List After-line → List Taken
+unfolding taken-if reading
+taken-lines f [] rs = []
+taken-lines f (q ∷ qs) [] = []
+taken-lines f (q ∷ qs) (r ∷ rs) = taken-if (eqb (r .answer % 256) 0) (reading f (q .names) (q .values)) (r .state) ++ taken-lines f qs rs
