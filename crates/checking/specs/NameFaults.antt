@@ -3,13 +3,11 @@ use Prim.Native.Nat.{ℕ}
 use mathlib.Core.List.{List, [], _∷_, _++_, map, flatMap}
 use mathlib.Core.Bool.{Bool, true, false, not, _||_}
 use mathlib.Core.Option.{Option, none, some}
-use lib.Dec.{eqb}
 use Rattle.text.specs.Syntax.{
   Name,
   Sort,
   Member,
   Interface,
-  Assignment,
   Entity,
   Expression,
   literal,
@@ -37,6 +35,7 @@ use Rattle.checking.specs.Scope.{
   member-named,
   clauses,
   Scope,
+  variables,
   scope-of,
   is-known,
   interface-in,
@@ -46,14 +45,16 @@ use Rattle.checking.specs.Scope.{
   is-member,
 }
 
-unfoldable pub stands-at : ℕ → Option (Found Name) → Bool
-stands-at p none = false
-stands-at p (some f) = eqb (f .item .at) p
+unfoldable pub repeated-faults : List Name → List Name → List Fault
+unfolding fault-unless is-found look-up
+repeated-faults before [] = []
+repeated-faults before (n ∷ ns) =
+    fault-unless (not (is-found (look-up (λ m. m) (n .bytes) before))) 15 (n .at) ++ repeated-faults (before ++ n ∷ []) ns
 
--- "15: name declared or attribute set again": of the names in the list, the first of its spelling stands elsewhere
-unfoldable pub again-faults : List Name → Name → List Fault
-unfolding fault-unless stands-at look-up
-again-faults all n = fault-unless (stands-at (n .at) (look-up (λ m. m) (n .bytes) all)) 15 (n .at)
+-- "15: name declared or attribute set again": a name of the list that stands among those before it
+unfoldable pub again-faults : List Name → List Fault
+unfolding repeated-faults
+again-faults ns = repeated-faults [] ns
 
 -- "16: name .. unknown": of an interface
 unfoldable pub interface-faults : File → Name → List Fault
@@ -70,12 +71,10 @@ unfolding fault-unless is-of-sort member-named
 member-faults sort none n = []
 member-faults sort (some i) n = fault-unless (is-of-sort sort (member-named i (n .bytes))) 16 (n .at)
 
--- "No two interfaces .., no two members of one interface (of any sort) .. share a name"
-unfoldable pub interface-names : File → Interface → List Fault
-unfolding again-faults flatMap
-interface-names f i =
-    again-faults (map (λ j. j .name) (f .interfaces)) (i .name)
-    ++ flatMap (λ m. again-faults (map (λ k. k .name) (i .members)) (m .name)) (i .members)
+-- "no two members of one interface (of any sort) .. share a name"
+unfoldable pub interface-names : Interface → List Fault
+unfolding again-faults
+interface-names i = again-faults (map (λ m. m .name) (i .members))
 
 -- "17, place of `}`: attribute not set"
 unfoldable pub attribute-faults : Entity → Member → List Fault
@@ -89,16 +88,12 @@ unset-faults e none = []
 unset-faults e (some i) = flatMap (attribute-faults e) (i .members)
 
 -- "An entity sets each attribute of its interface just once"
-unfoldable pub assignment-names : Entity → Option Interface → Assignment → List Fault
-unfolding again-faults member-faults is-attribute
-assignment-names e i a = again-faults (map (λ b. b .name) (e .assignments)) (a .name) ++ member-faults is-attribute i (a .name)
-
 unfoldable pub entity-names : File → Entity → List Fault
-unfolding again-faults interface-faults flatMap assignment-names interface-named unset-faults
+unfolding interface-faults again-faults flatMap member-faults is-attribute interface-named unset-faults
 entity-names f e =
-    again-faults (map (λ d. d .name) (f .entities)) (e .name)
-    ++ interface-faults f (e .interface)
-    ++ flatMap (assignment-names e (interface-named f (e .interface .bytes))) (e .assignments)
+    interface-faults f (e .interface)
+    ++ again-faults (map (λ a. a .name) (e .assignments))
+    ++ flatMap (λ a. member-faults is-attribute (interface-named f (e .interface .bytes)) (a .name)) (e .assignments)
     ++ unset-faults e (interface-named f (e .interface .bytes))
 
 -- "16: name .. unknown": neither an entity nor a variable of the rule
@@ -114,13 +109,10 @@ expression-names s (to-real at a) = expression-names s a
 expression-names s (negate at a) = expression-names s a
 expression-names s (apply o at a b) = expression-names s a ++ expression-names s b
 
--- "no two variables of a rule share a name; no variable bears an entity's name"
+-- "no variable bears an entity's name"
 unfoldable pub variable-faults : Scope → Name → Name → List Fault
-unfolding again-faults fault-unless is-found entity-named interface-faults
-variable-faults s n i =
-    again-faults (map (λ v. v .name) (s .variables)) n
-    ++ fault-unless (not (is-found (entity-named (s .file) (n .bytes)))) 15 (n .at)
-    ++ interface-faults (s .file) i
+unfolding fault-unless is-found entity-named interface-faults
+variable-faults s n i = fault-unless (not (is-found (entity-named (s .file) (n .bytes)))) 15 (n .at) ++ interface-faults (s .file) i
 
 unfoldable pub declaration-faults : Scope → Name → Option Name → List Fault
 unfolding name-faults-at variable-faults
@@ -157,14 +149,20 @@ call-names s c =
     ++ target-names s (c .target)
     ++ filter-names s (c .target) (c .filter)
 
+-- "no two variables of a rule share a name"
 unfoldable pub rule-names : File → Rule → List Fault
-unfolding flatMap clause-names scope-of clauses call-names
-rule-names f r = flatMap (clause-names (scope-of f r)) (clauses (r .condition)) ++ flatMap (call-names (scope-of f r)) (r .calls)
+unfolding again-faults variables flatMap clause-names scope-of clauses call-names
+rule-names f r =
+    again-faults (map (λ v. v .name) (variables r))
+    ++ flatMap (clause-names (scope-of f r)) (clauses (r .condition))
+    ++ flatMap (call-names (scope-of f r)) (r .calls)
 
--- "15 to 17 are one pass"
+-- "15 to 17 are one pass"; "No two interfaces, no two entities .. share a name"
 unfoldable pub name-faults : File → List Fault
-unfolding flatMap interface-names entity-names rule-names
+unfolding again-faults flatMap interface-names entity-names rule-names
 name-faults f =
-    flatMap (interface-names f) (f .interfaces)
+    again-faults (map (λ i. i .name) (f .interfaces))
+    ++ flatMap interface-names (f .interfaces)
+    ++ again-faults (map (λ e. e .name) (f .entities))
     ++ flatMap (entity-names f) (f .entities)
     ++ flatMap (rule-names f) (f .rules)

@@ -11,7 +11,7 @@ use Rattle.cycles.specs.Store.{Store}
 use Rattle.cycles.specs.Spots.{Spots}
 use Rattle.cycles.specs.Evaluate.{clause-holds}
 use Rattle.cycles.specs.Cycle.{fresh}
-use Rattle.engine.proofs.Trials.{
+use Rattle.trials.proofs.Trials.{
   pedal,
   calling,
   filtered,
@@ -22,7 +22,7 @@ use Rattle.engine.proofs.Trials.{
   refused-by,
   checked-as,
 }
-use Rattle.engine.proofs.FirstCycle.{no-filter-holds-first}
+use Rattle.trials.proofs.FirstCycle.{no-filter-holds-first}
 
 pub record Trial-cases : Type 0 where
   -- the pedal table

@@ -1,3 +1,0 @@
-pub mod Trials
-pub mod FirstCycle
-pub mod TrialCases

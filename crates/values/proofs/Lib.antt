@@ -1,0 +1,10 @@
+pub mod Variants
+pub mod WholeLaws
+pub mod RealLaws
+pub mod ByteLaws
+pub mod DigitLaws
+pub mod StorableLaws
+pub mod CellLaws
+pub mod FormLaws
+pub mod ReadBack
+pub mod PrintedReadsBack

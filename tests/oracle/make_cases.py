@@ -1,0 +1,1037 @@
+"""Writes cases.json: bench texts and readings with the results of bench_oracle.
+
+Every stored result comes from bench_oracle; next to each written case stands the
+result worked out by hand from document 01, and the two must agree.  In a refused
+bench text the mark @ (no byte of any such text otherwise) shows the expected place.
+"""
+
+import dataclasses
+import json
+import random
+from pathlib import Path
+
+from bench_oracle import Bench, check, run
+
+SEED = 20240601
+OUTPUT = Path(__file__).resolve().parent / "cases.json"
+
+CASES = []
+
+
+def add(name, bench, readings):
+    """Stores a case with the oracle's results."""
+    assert all(case["name"] != name for case in CASES), name
+    text = bench.encode("ascii")
+    printed = None if readings is None else run(text, readings.encode("ascii")).decode("ascii")
+    CASES.append(
+        {"name": name, "bench": bench, "readings": readings, "check": list(check(text)), "printed": printed}
+    )
+    return CASES[-1]
+
+
+def accepted(name, bench):
+    """A bench text that the check accepts."""
+    case = add(name, bench, None)
+    assert case["check"] == [0, 0], case
+
+
+def refused(name, code, marked):
+    """A bench text that the check refuses with this code at the mark @."""
+    assert marked.count("@") == 1, name
+    case = add(name, marked.replace("@", ""), None)
+    assert case["check"] == [code, marked.index("@")], (case, code, marked.index("@"))
+
+
+def ran(name, bench, table, last_feed=True):
+    """A bench with readings; `table` has the lines of readings and of print, side by side."""
+    readings = "\n".join(left for left, _ in table) + ("\n" if last_feed else "")
+    printed = "".join(right + "\n" for _, right in table)
+    ran_text(name, bench, readings, printed)
+
+
+def ran_text(name, bench, readings, printed):
+    """A bench with the whole text of its readings and of its print."""
+    assert len(bench) <= 1200, name
+    assert readings.count("\n") <= 13, name
+    case = add(name, bench, readings)
+    assert case["printed"] == printed, (name, case["printed"], printed)
+
+
+# --------------------------------------------------------------------------
+# Bench texts for the check alone: accepted
+# --------------------------------------------------------------------------
+
+FULL = """# everything once
+interface Lamp {
+	attribute room : whole
+	attribute dim : real
+	attribute spare : bool
+	event seen : bool
+	event level : real
+	action set ( real )
+	action mark ( bool )
+}
+interface Clock { event tick : whole action beep ( whole ) }
+entity hall : Lamp { spare = false room = - 3 dim = 2r }
+entity attic : Lamp { room = 4 dim = -0r spare = true }
+entity clock : Clock { }
+rules
+  when event tick from clock value changed
+   and ( event level from x : Lamp with room = clock.tick - 7 value = y.dim * 2r
+      or event set from y : Lamp with spare = true value changed )
+  trigger action set ( real ( clock.tick ) / ( x.level + -1r ) ) on y with dim = 2r ,
+          action beep ( - ( clock.tick + clock.beep ) ) on c : Clock
+  end
+  when event mark from x : Lamp value = x.seen trigger action mark ( false ) on x end
+end # no line feed here"""
+
+LETTERS = "abcdefghijklmnopqrstuvwxyzABCDEFGHIJKLMNOPQRSTUVWXYZ"
+
+
+def interfaces(letters):
+    return "".join("interface %s { } " % letter for letter in letters)
+
+
+def make_accepted():
+    accepted(
+        "accepted-tight-words",
+        "interface a_1{attribute x:real event E:whole action K(real)}"
+        "entity abcdefghijklmnopqrstuvwx:a_1{x=2147483647r}entity End:a_1{x=-0r}"
+        "rules when event E from End value=0000000012trigger action K(1r*2r)on End with x=0rend end",
+    )
+    accepted("accepted-full", FULL)
+    accepted(
+        "accepted-sixteen-openers",
+        "interface I { event r : real action k ( real ) } entity s : I { } rules "
+        "when ( ( ( ( event r from s value = - ( - ( - real ( - ( - ( - ( 1 ) ) ) ) ) ) ) ) ) ) "
+        "trigger action k ( " + "- " * 16 + "1r ) on s end end",
+    )
+    accepted("accepted-sixteen-interfaces", interfaces(LETTERS[:16]) + "rules end")
+
+
+# --------------------------------------------------------------------------
+# Words and grammar (12, 13)
+# --------------------------------------------------------------------------
+
+
+def make_words():
+    refused("word-bad-byte-after-grammar-fault", 12, "end rules 5 ( @_x )")
+    refused("word-name-of-25-letters", 12, "interface @abcdefghijklmnopqrstuvwxy { } rules end")
+    refused("word-eleven-digits", 12, "entity s : I { a = @00000000001 } rules end")
+    refused("word-number-too-large", 12, "entity s : I { a = 2147483647r b = - @2147483648r } rules end")
+    refused("word-bad-byte-in-comment", 12, "rules end # tab\t is fine\n# return is not@\r\n")
+
+
+OPEN_I = "interface I { attribute a : real event r : real action k ( real ) } entity s : I { a = 1r } rules "
+
+
+def make_grammar():
+    refused("grammar-early-end-blanks-comment", 13, "interface I { }\nrules\t # no end\n \t@")
+    refused("grammar-word-after-end", 13, "rules end # done\n @interface I { }")
+    refused("grammar-reserved-as-name", 13, "interface whole_ { event Value : whole event @value : bool attribute a : bool } rules end")
+    refused("grammar-minus-true-literal", 13, "interface I { attribute a : bool } entity s : I { a = - @true } rules end")
+    refused(
+        "grammar-number-eats-r",
+        13,
+        OPEN_I + "when event r from s value = 1r@eal ( 1 ) trigger action k ( 1r ) on s end end",
+    )
+    refused(
+        "grammar-seventeenth-opener-mixed",
+        13,
+        OPEN_I + "when ( ( ( ( ( event r from s value = - ( - ( - real ( - ( - ( - @( 1 ) ) ) ) ) ) ) ) ) ) ) "
+        "trigger action k ( 1r ) on s end end",
+    )
+    refused(
+        "grammar-seventeenth-opener-real-in-filter",
+        13,
+        OPEN_I + "when " + "( " * 16 + "event r from s with a = @real ( 1 ) value changed" + " )" * 16
+        + " trigger action k ( 1r ) on s end end",
+    )
+
+
+# --------------------------------------------------------------------------
+# Counts (14)
+# --------------------------------------------------------------------------
+
+EK = "interface I { event e : whole action k ( whole ) } entity s : I { } "
+CLAUSE = "event e from s value changed"
+CALL = "action k ( 1 ) on s"
+
+
+def make_counts():
+    refused("count-17-interfaces-of-one-name", 14, "interface A { } " * 16 + "@interface A { } rules end")
+    refused(
+        "count-13-members",
+        14,
+        "interface I { attribute a : whole attribute b : bool attribute c : real attribute d : whole "
+        "event e : whole event f : bool event g : real event h : whole "
+        "action i ( whole ) action j ( bool ) action k ( real ) action l ( whole ) @action m ( bool ) } rules end",
+    )
+    entities = ["entity %s : I { } " % letter for letter in LETTERS[:33]]
+    refused("count-33-entities", 14, "interface I { } " + "".join(entities[:32]) + "@" + entities[32] + "rules end")
+    rule = "when event e from s value changed trigger action k(1)on s end "
+    refused("count-65-rules", 14, EK + "rules " + rule * 64 + "@" + rule + "end")
+    refused(
+        "count-4-variables-one-repeated",
+        14,
+        EK + "rules when event e from x : I value changed and event e from y : I value changed "
+        "and event e from x value changed trigger action k ( 1 ) on x : I , action k ( 1 ) on @y : I end end",
+    )
+    refused(
+        "count-9-clauses",
+        14,
+        EK + "rules when " + "( %s or %s ) and " % (CLAUSE, CLAUSE) * 4 + "@" + CLAUSE + " trigger " + CALL + " end end",
+    )
+    refused(
+        "count-9-calls",
+        14,
+        EK + "rules when " + CLAUSE + " trigger " + (CALL + " , ") * 8 + "@action k ( 1 ) on x : Z end end",
+    )
+
+
+# --------------------------------------------------------------------------
+# Names (15, 16, 17)
+# --------------------------------------------------------------------------
+
+TWO = (
+    "interface I { attribute a : whole event e : whole action k ( whole ) } "
+    "interface J { attribute c : bool event f : bool action m ( bool ) } "
+    "entity s : I { a = 1 } entity t : J { c = true } "
+)
+
+
+def make_names():
+    # 15
+    refused("name-interface-twice", 15, "interface I { } interface J { } interface @I { } entity s : Z { } rules end")
+    refused("name-member-twice-other-sort", 15, "interface I { attribute m : whole event n : bool action @m ( bool ) } rules end")
+    refused(
+        "name-variable-twice",
+        15,
+        TWO + "rules when event e from x : I value changed trigger action k ( x.e ) on @x : I end end",
+    )
+    refused(
+        "name-variable-as-entity",
+        15,
+        TWO + "rules when event e from @s : I value changed trigger action k ( 1 ) on s end end",
+    )
+    refused("name-attribute-set-twice", 15, "interface I { attribute a : whole } entity s : I { a = 1 @a = 1 } rules end")
+    # 16
+    refused("name-entity-of-unknown-interface", 16, "interface I { } entity s : I { } entity t : @s { x = 1 } rules end")
+    refused("name-place-is-interface", 16, TWO + "rules when event e from @I value changed trigger action k ( 1 ) on s end end")
+    refused(
+        "name-variable-of-other-rule",
+        16,
+        TWO + "rules when event e from x : I value changed trigger action k ( x.a ) on x end "
+        "when event e from s value = @x.a trigger action k ( 1 ) on s end end",
+    )
+    refused(
+        "name-filter-is-event",
+        16,
+        TWO + "rules when event k from x with a = 1 value changed trigger action k ( 1 ) on x : I with @e = 1 end end",
+    )
+    refused(
+        "name-call-is-event",
+        16,
+        TWO + "rules when event k from s value changed trigger action k ( 1 ) on s , action @e ( 1 ) on s end end",
+    )
+    refused(
+        "name-member-of-other-interface",
+        16,
+        TWO + "rules when event e from s value = s.a + s.k * s.e / s.@f trigger action k ( 1 ) on s end end",
+    )
+    # 17
+    refused(
+        "name-attribute-not-set",
+        17,
+        TWO + "entity u : J { c = false } entity v : I { @} rules when event e from v value = 1r trigger action k ( 1 ) on v end end",
+    )
+
+
+def make_mixed_names():
+    refused(
+        "mixed-17-before-16",
+        17,
+        "interface I { attribute a : whole attribute b : whole attribute c : bool } "
+        "entity s : I { b = 1 c = 2 @} entity t : Z { } rules end",
+    )
+    refused(
+        "mixed-17-before-15",
+        17,
+        "interface I { attribute a : whole attribute b : whole } entity s : I { b = 1 @} entity s : I { a = 1 b = 1 } rules end",
+    )
+    refused("mixed-15-before-16", 15, "interface I { } entity s : I { } entity @s : Z { } rules end")
+    refused(
+        "mixed-16-before-17",
+        16,
+        "interface I { attribute a : whole event e : whole } entity s : I { @e = 1 } rules end",
+    )
+    refused(
+        "mixed-entity-before-variable",
+        16,
+        "interface I { attribute f : bool } interface J { event f : bool action m ( bool ) } "
+        "entity s : I { f = true } entity t : J { } "
+        "rules when event @f from s : J value changed trigger action m ( true ) on t end end",
+    )
+    refused(
+        "mixed-first-variable-counts",
+        16,
+        TWO + "rules when event e from x value changed and event e from x : I value changed "
+        "and event @f from x : J value changed trigger action m ( true ) on t end end",
+    )
+    refused(
+        "mixed-unknown-interface-hides-members",
+        16,
+        TWO + "rules when event what from x : @Z with nope = 1 value = x.none trigger action never ( x.none ) on x end end",
+    )
+
+
+# --------------------------------------------------------------------------
+# Kinds (18)
+# --------------------------------------------------------------------------
+
+
+def make_kinds():
+    refused(
+        "kind-assignment",
+        18,
+        "interface I { attribute a : bool attribute b : whole attribute c : real } "
+        "entity s : I { c = -1r a = true b @= - 1r } entity t : I { a = 1 b = 1 c = 1 } rules end",
+    )
+    rule = TWO + "rules when event e from s %s trigger action k ( %s ) on s %s end end"
+    refused("kind-clause-filter", 18, rule % ("with a @= t.c value changed", "true", ""))
+    refused("kind-clause-value", 18, rule % ("with a = - 1 value @= real ( s.a )", "1", ""))
+    refused("kind-operator", 18, rule % ("value = 1 + s.e * 3 @/ 2r - true", "1", ""))
+    refused("kind-minus-of-bool", 18, rule % ("value = ( - @- t.f )", "1", ""))
+    refused("kind-real-of-real", 18, rule % ("value changed", "@real ( 1r )", ""))
+    refused(
+        "kind-call-bracket",
+        18,
+        TWO + "rules when event e from s value changed trigger action k @( 1r / 2r ) on s end end",
+    )
+    refused("kind-call-filter", 18, rule % ("value changed", "1", "with a @= 2r"))
+    refused(
+        "kind-inner-fault-silences-outer",
+        18,
+        TWO + "rules when event f from t value = ( 3 - - real ( 1 @+ 2r ) ) * 4 trigger action m ( 1 ) on t end end",
+    )
+    refused(
+        "kind-bool-beside-inner-fault",
+        18,
+        TWO + "rules when event f from t value = true @+ ( 1 + 2r ) trigger action m ( 1 ) on t end end",
+    )
+
+
+# --------------------------------------------------------------------------
+# Readings: the trial table, headers, refusals
+# --------------------------------------------------------------------------
+
+PEDAL = (
+    "interface P { event down : bool } interface S { event pos : whole } interface L { action keep ( whole ) } "
+    "entity p : P { } entity s : S { } entity k : L { } rules when event down from p value = true "
+    "trigger action keep ( s.pos ) on k end end"
+)
+
+PLAIN = (
+    "interface I { attribute a : whole event e : whole action k ( whole ) } entity s : I { a = 1 } "
+    "rules when event e from s value changed trigger action k ( s.e ) on s end end"
+)
+
+NAMED_N = (
+    "interface I { event n : bool action k ( bool ) } entity n : I { } "
+    "rules when event n from n value changed trigger action k ( n.n ) on n end end"
+)
+
+
+def make_headers():
+    ran_text("run-refused-bench", "", "n\n1\n", "refused 13 0\n")
+    for name, header in (
+        ("action", "n s.e s.k"),
+        ("attribute", "n s.a"),
+        ("column-twice", "n s s.e s"),
+        ("trailing-space", "n s.e "),
+    ):
+        ran_text("run-header-" + name, PLAIN, header + "\n1 1\n", "refused 22\n")
+    ran_text("run-empty-readings", PLAIN, "", "refused 22\n")
+    ran_text("run-header-only", PLAIN, "n s s.e", "n s.k\n")
+    ran("run-entity-n-no-line-feed", NAMED_N, [
+        ("n n.n n", "n n.k"),
+        ("1 true -", "1 true"),
+        ("2 false true", "2 false"),
+        ("3 - false", "3 -"),
+        ("4 true true", "4 true"),
+    ], last_feed=False)
+    ran_text("run-empty-lines", PLAIN, "n s.e\n\n1 5\n\n", "n s.k\nrefused 21\n1 5\nrefused 21\n")
+
+
+def make_refused_lines():
+    ran("run-numbers-alone", "rules end", [
+        ("n", "n"),
+        ("0", "refused 24"),
+        ("01", "refused 21"),
+        ("1", "1"),
+        ("1", "1"),
+        ("0", "refused 24"),
+        ("00", "refused 21"),
+        ("3", "refused 24"),
+        ("2", "2"),
+    ])
+    ran("run-refused-21", PLAIN, [
+        ("n s.e", "n s.k"),
+        ("1", "refused 21"),
+        ("1 5 6", "refused 21"),
+        ("1  5", "refused 21"),
+        (" 1 5", "refused 21"),
+        ("1 5 ", "refused 21"),
+        ("1\t5", "refused 21"),
+        ("+1 5", "refused 21"),
+        ("1\t 5", "refused 21"),
+        ("01 5", "refused 21"),
+        ("10000000000 5", "refused 21"),
+        ("n 5", "refused 21"),
+        ("1 5", "1 5"),
+    ])
+    ran("run-refused-23-whole", PLAIN, [
+        ("n s.e", "n s.k"),
+        ("1 05", "refused 23"),
+        ("1 -0", "refused 23"),
+        ("1 00", "refused 23"),
+        ("1 2147483648", "refused 23"),
+        ("1 -2147483649", "refused 23"),
+        ("1 +5", "refused 23"),
+        ("1 5r", "refused 23"),
+        ("1 --5", "refused 23"),
+        ("1 true", "refused 23"),
+        ("1 -2147483648", "1 -2147483648"),
+        ("2 2147483647", "2 2147483647"),
+        ("3 0", "3 0"),
+    ])
+    ran(
+        "run-refused-23-real-bool",
+        "interface I { event r : real event b : bool action k ( real ) action m ( bool ) } entity s : I { } "
+        "rules when event r from s value changed or event b from s value changed "
+        "trigger action k ( s.r ) on s , action m ( s.b ) on s end end",
+        [
+            ("n s.r s.b", "n s.k s.m"),
+            ("1 3FF0000000000000 true", "refused 23"),
+            ("1 3ff000000000000 true", "refused 23"),
+            ("1 3ff00000000000000 true", "refused 23"),
+            ("1 7ff0000000000000 true", "refused 23"),
+            ("1 fff8000000000001 true", "refused 23"),
+            ("1 1 true", "refused 23"),
+            ("1 - True", "refused 23"),
+            ("1 - 0", "refused 23"),
+            ("1 7fefffffffffffff ?", "1 7fefffffffffffff -"),
+            ("2 - false", "2 7fefffffffffffff false"),
+            ("3 800000000000000f -", "3 800000000000000f false"),
+            ("4 ? -", "4 - false"),
+        ],
+    )
+    ran("run-refused-23-presence", PLAIN, [
+        ("n s.e s", "n s.k"),
+        ("1 5 ?", "refused 23"),
+        ("1 5 1", "refused 23"),
+        ("1 5 false", "refused 23"),
+        ("1 ? false", "refused 23"),
+        ("1 - false", "1 -"),
+        ("2 5 -", "refused 23"),
+        ("2 ? -", "refused 23"),
+        ("2 5 false", "refused 23"),
+        ("2 - false", "2 -"),
+        ("3 ? true", "3 -"),
+        ("4 5 true", "4 5"),
+        ("5 7 -", "5 7"),
+    ])
+    ran("run-refused-24", PLAIN, [
+        ("n s.e", "n s.k"),
+        ("2 5", "refused 24"),
+        ("4294967295 5", "refused 24"),
+        ("1 5", "1 5"),
+        ("0 5", "refused 24"),
+        ("3 5", "refused 24"),
+        ("2 6", "2 6"),
+        ("1 5", "refused 24"),
+        ("4294967296 6", "refused 24"),
+        ("4294967298 6", "refused 24"),
+        ("9999999999 6", "refused 24"),
+        ("2 6", "2 6"),
+        ("3 6", "3 -"),
+    ])
+    ran("run-refused-25", PEDAL, [
+        ("n p p.down s.pos", "n k.keep"),
+        ("1 - true 10", "1 10"),
+        ("1 true true 10", "refused 25"),
+        ("1 - true 11", "refused 25"),
+        ("1 - - 10", "refused 25"),
+        ("1 - true ?", "refused 25"),
+        ("1 - true 10", "1 10"),
+        ("2 - - ?", "2 -"),
+        ("2 - - -", "refused 25"),
+        ("2 - - ?", "2 -"),
+        ("3 - - -", "3 -"),
+        ("3 - - ?", "refused 25"),
+        ("3 - - -", "3 -"),
+    ])
+    ran("run-refusal-order", PLAIN, [
+        ("n s.e", "n s.k"),
+        ("9 bad 5", "refused 21"),
+        ("01 bad", "refused 21"),
+        ("9 bad", "refused 23"),
+        ("0 bad", "refused 23"),
+        ("4294967296 bad", "refused 23"),
+        ("9 5", "refused 24"),
+        ("1 5", "1 5"),
+        ("1 bad", "refused 23"),
+        ("1 6", "refused 25"),
+        ("1 6 7", "refused 21"),
+        ("1 5", "1 5"),
+        ("2 6", "2 6"),
+    ])
+    ran("run-absent-with-last-number", PLAIN, [
+        ("n s s.e", "n s.k"),
+        ("1 - 5", "1 5"),
+        ("2 false -", "2 -"),
+        ("2 - 5", "refused 23"),
+        ("2 - -", "refused 25"),
+        ("2 true 5", "refused 25"),
+        ("2 false -", "2 -"),
+        ("3 true 5", "3 5"),
+        ("3 - 5", "refused 25"),
+        ("3 false -", "refused 25"),
+        ("3 false 5", "refused 23"),
+        ("3 true 5", "3 5"),
+        ("4 true 5", "4 -"),
+    ])
+
+
+# --------------------------------------------------------------------------
+# Readings: presence, choices, writes
+# --------------------------------------------------------------------------
+
+OUT = "interface O { action o ( whole ) action p ( whole ) } "
+GO = "interface G { event t : whole } "
+
+
+def make_presence():
+    ran(
+        "run-leave-and-return",
+        OUT + GO + "interface S { attribute id : whole event v : whole } "
+        "entity g : G { } entity s : S { id = 7 } entity z : O { } "
+        "rules when event t from g value changed trigger action o ( s.id ) on z , action p ( s.v ) on z end end",
+        [
+            ("n g.t s s.v", "n z.o z.p"),
+            ("1 1 - 5", "1 7 5"),
+            ("2 2 false -", "2 - -"),
+            ("3 3 true -", "3 7 -"),
+            ("4 4 - 6", "4 7 6"),
+            ("5 5 false 6", "refused 23"),
+            ("5 5 true -", "5 7 6"),
+            ("6 6 false -", "6 - -"),
+            ("7 7 true 8", "7 7 8"),
+        ],
+    )
+    ran(
+        "run-clause-at-absent-entity",
+        OUT + "interface S { event v : whole } entity s : S { } entity z : O { } "
+        "rules when event v from s value changed trigger action o ( 1 ) on z end "
+        "when event v from s value = 5 trigger action p ( 2 ) on z end end",
+        [
+            ("n s s.v", "n z.o z.p"),
+            ("1 - 5", "1 1 2"),
+            ("2 false -", "2 - -"),
+            ("3 false -", "3 - -"),
+            ("4 true 5", "4 1 2"),
+            ("5 - 5", "5 - -"),
+            ("6 false -", "6 - -"),
+            ("7 true -", "7 - -"),
+            ("8 - 5", "8 1 2"),
+            ("9 - ?", "9 1 -"),
+        ],
+    )
+    ran(
+        "run-choices-of-present-entities",
+        "interface B { event p : bool action r ( whole ) } entity x : B { } entity y : B { } entity z : B { } "
+        "rules when event p from v : B value = true trigger action r ( 1 ) on w : B end end",
+        [
+            ("n x y z x.p z.p", "n x.r y.r z.r"),
+            ("1 - - - true -", "1 1 1 1"),
+            ("2 - false - false -", "2 - - -"),
+            ("3 - - - true -", "3 1 - 1"),
+            ("4 false true - - false", "4 - - -"),
+            ("5 - - - - true", "5 - 1 1"),
+            ("6 true - false - -", "6 - - -"),
+            ("7 - - - true -", "7 1 1 -"),
+        ],
+    )
+    ran(
+        "run-variable-only-in-call",
+        OUT + GO + "interface B { action q ( whole ) } entity g : G { } entity z : O { } entity b : B { } entity c : B { } "
+        "rules when event t from g value changed trigger action o ( g.t ) on z , action q ( 1 ) on y : B end end",
+        [
+            ("n g.t b c z", "n z.o z.p b.q c.q"),
+            ("1 1 - - -", "1 1 - 1 1"),
+            ("2 2 false - -", "2 2 - - 1"),
+            ("3 3 - false -", "3 - - - -"),
+            ("4 4 true - -", "4 4 - 1 -"),
+            ("5 5 - - false", "5 - - 1 -"),
+        ],
+    )
+
+
+def make_writes():
+    ran(
+        "run-order-of-choices",
+        "interface O { action o ( whole ) action p ( whole ) action q ( whole ) } "
+        "interface A { attribute n : whole event t : whole } interface B { attribute n : whole action w ( whole ) } "
+        "entity b : B { n = 10 } entity a : A { n = 1 } entity c : A { n = 2 } entity d : B { n = 20 } entity z : O { } "
+        "rules when event t from x : A value changed "
+        "trigger action o ( x.n * 100 + y.n + 0 / ( 220 - x.n * 100 - y.n ) ) on z , "
+        "action p ( x.n * 100 + y.n ) on z , action w ( x.n ) on y : B end end",
+        [
+            ("n a.t c.t c", "n b.w d.w z.o z.p z.q"),
+            ("1 1 1 -", "1 2 2 210 220 -"),
+            ("2 2 - -", "2 1 1 120 120 -"),
+            ("3 - 2 -", "3 2 2 210 220 -"),
+            ("4 3 - false", "4 1 1 120 120 -"),
+            ("5 - - true", "5 - - - - -"),
+        ],
+    )
+    ran(
+        "run-last-write-stands",
+        "interface S { event e : whole action keep ( whole ) } entity s : S { } "
+        "rules when event e from s value changed trigger action keep ( 1 ) on s , action keep ( 2 ) on s end "
+        "when event e from s value = 5 trigger action keep ( 3 ) on s , action keep ( 1 / 0 ) on s end end",
+        [
+            ("n s.e", "n s.keep"),
+            ("1 4", "1 2"),
+            ("2 5", "2 3"),
+            ("3 5", "3 -"),
+            ("4 4", "4 2"),
+        ],
+    )
+
+
+# --------------------------------------------------------------------------
+# Readings: clauses
+# --------------------------------------------------------------------------
+
+
+def make_clauses():
+    ran(
+        "run-changed-and-unset",
+        PLAIN.replace("action k ( s.e )", "action k ( 1 )"),
+        [
+            ("n s.e", "n s.k"),
+            ("1 -", "1 -"),
+            ("2 5", "2 1"),
+            ("3 5", "3 -"),
+            ("4 ?", "4 1"),
+            ("5 ?", "5 -"),
+            ("6 -", "6 -"),
+            ("7 5", "7 1"),
+            ("8 -", "8 -"),
+            ("9 6", "9 1"),
+        ],
+    )
+    ran(
+        "run-two-zeros",
+        OUT + "interface S { event r : real } entity s : S { } entity z : O { } "
+        "rules when event r from s value changed trigger action o ( 1 ) on z end "
+        "when event r from s value = 0r trigger action p ( 2 ) on z end end",
+        [
+            ("n s.r", "n z.o z.p"),
+            ("1 0000000000000000", "1 1 2"),
+            ("1 8000000000000000", "refused 25"),
+            ("1 0000000000000000", "1 1 2"),
+            ("2 8000000000000000", "2 - -"),
+            ("3 0000000000000000", "3 - -"),
+            ("4 0000000000000001", "4 1 -"),
+            ("5 8000000000000000", "5 1 2"),
+            ("6 ?", "6 1 -"),
+            ("7 ?", "7 - -"),
+            ("8 8000000000000000", "8 1 2"),
+        ],
+    )
+    ran(
+        "run-value-fires-once",
+        "interface S { event e : whole event f : whole action k ( whole ) } entity s : S { } "
+        "rules when event e from s value = s.f trigger action k ( s.e ) on s end end",
+        [
+            ("n s.e s.f", "n s.k"),
+            ("1 1 2", "1 -"),
+            ("2 2 -", "2 2"),
+            ("3 3 3", "3 -"),
+            ("4 - -", "4 -"),
+            ("5 3 4", "5 -"),
+            ("6 4 -", "6 4"),
+            ("7 ? -", "7 -"),
+            ("8 4 -", "8 4"),
+            ("9 - ?", "9 -"),
+            ("10 - 4", "10 4"),
+        ],
+    )
+    ran(
+        "run-clause-filter-reads-before",
+        "interface G { event t : whole } interface S { attribute id : whole event v : whole action k ( whole ) } "
+        "entity g : G { } entity s : S { id = 7 } "
+        "rules when event v from s with id = g.t value changed trigger action k ( s.v ) on s end end",
+        [
+            ("n g.t s.v s", "n s.k"),
+            ("1 7 1 -", "1 -"),
+            ("2 8 2 -", "2 2"),
+            ("3 7 3 -", "3 -"),
+            ("4 - 4 -", "4 4"),
+            ("5 - - false", "5 -"),
+            ("6 - 5 true", "6 -"),
+            ("7 - 6 -", "7 6"),
+            ("8 ? 7 -", "8 7"),
+            ("9 7 8 -", "9 -"),
+        ],
+    )
+    ran(
+        "run-call-filter-reads-now",
+        "interface G { event t : whole } interface S { attribute id : whole action k ( whole ) } "
+        "entity g : G { } entity s : S { id = 7 } entity r : S { id = 8 } "
+        "rules when event t from g value changed trigger action k ( g.t ) on s with id = g.t , "
+        "action k ( x.id ) on x : S with id = g.t + 0 end end",
+        [
+            ("n g.t s", "n s.k r.k"),
+            ("1 7 -", "1 7 -"),
+            ("2 8 -", "2 - 8"),
+            ("3 9 -", "3 - -"),
+            ("4 ? -", "4 - -"),
+            ("5 7 -", "5 7 -"),
+            ("6 8 false", "6 - 8"),
+            ("7 7 -", "7 - -"),
+            ("8 - true", "8 - -"),
+            ("9 ? -", "9 - -"),
+            ("10 7 -", "10 7 -"),
+        ],
+    )
+    ran(
+        "run-and-or",
+        OUT + "interface S { event a : bool event b : bool event c : bool } entity s : S { } entity z : O { } "
+        "rules when event a from s value = true or event b from s value = true and event c from s value = true "
+        "trigger action o ( 1 ) on z end "
+        "when ( event a from s value = true or event b from s value = true ) and event c from s value = true "
+        "trigger action p ( 1 ) on z end end",
+        [
+            ("n s.a s.b s.c", "n z.o z.p"),
+            ("1 true false false", "1 1 -"),
+            ("2 false true true", "2 1 1"),
+            ("3 false false true", "3 - -"),
+            ("4 false true false", "4 - -"),
+            ("5 true true true", "5 1 1"),
+            ("6 false false false", "6 - -"),
+            ("7 false false true", "7 - -"),
+            ("8 false true true", "8 - -"),
+            ("9 true - -", "9 1 -"),
+        ],
+    )
+
+
+# --------------------------------------------------------------------------
+# Readings: actions seen as events
+# --------------------------------------------------------------------------
+
+
+def make_actions():
+    ran(
+        "run-action-seen-one-cycle-later",
+        OUT + "interface S { event e : whole action k ( whole ) } entity s : S { } entity z : O { } "
+        "rules when event e from s value changed trigger action k ( s.e ) on s end "
+        "when event k from s value changed trigger action o ( s.k ) on z , action p ( 1 ) on z end end",
+        [
+            ("n s.e", "n s.k z.o z.p"),
+            ("1 5", "1 5 - -"),
+            ("2 -", "2 - 5 1"),
+            ("3 -", "3 - - 1"),
+            ("4 -", "4 - - -"),
+            ("5 6", "5 6 - -"),
+            ("6 6", "6 - 6 1"),
+            ("7 7", "7 7 - 1"),
+            ("8 8", "8 8 7 1"),
+            ("9 9", "9 9 8 1"),
+        ],
+    )
+    ran(
+        "run-action-feeds-itself",
+        "interface S { event e : bool action k ( whole ) } entity s : S { } "
+        "rules when event e from s value = true trigger action k ( 1 ) on s end "
+        "when event k from s value changed trigger action k ( s.k * 2 ) on s end end",
+        [
+            ("n s s.e", "n s.k"),
+            ("1 - true", "1 1"),
+            ("2 - -", "2 2"),
+            ("2 - -", "2 2"),
+            ("2 - true", "refused 25"),
+            ("3 - -", "3 4"),
+            ("4 - -", "4 8"),
+            ("5 false -", "5 -"),
+            ("5 false -", "5 -"),
+            ("6 true -", "6 -"),
+            ("7 - true", "7 1"),
+            ("8 true true", "8 2"),
+        ],
+    )
+
+
+# --------------------------------------------------------------------------
+# Readings: sums
+# --------------------------------------------------------------------------
+
+
+def sums(kind, parameters):
+    """A bench whose action cells a, b, .. take these sums when c.t becomes true."""
+    letters = LETTERS[: len(parameters)]
+    actions = " ".join("action %s ( %s )" % (letter, kind) for letter in letters)
+    calls = " , ".join("action %s ( %s ) on o" % pair for pair in zip(letters, parameters))
+    return (
+        "interface C { event t : bool } interface O { %s } entity c : C { } entity o : O { } "
+        "rules when event t from c value = true trigger %s end end" % (actions, calls)
+    )
+
+
+def sums_table(results):
+    names = " ".join("o." + letter for letter in LETTERS[: len(results)])
+    nothing = " ".join("-" for _ in results)
+    row = " ".join(results)
+    return [
+        ("n c.t", "n " + names),
+        ("1 true", "1 " + row),
+        ("2 false", "2 " + nothing),
+        ("3 true", "3 " + row),
+        ("3 true", "3 " + row),
+    ]
+
+
+def ran_sums(name, kind, table):
+    ran(name, sums(kind, [left for left, _ in table]), sums_table([right for _, right in table]))
+
+
+def make_sums():
+    ran_sums("run-whole-limits", "whole", [
+        ("2147483647 + 1", "-"),
+        ("-7 / 2", "-3"),
+        ("7 / 0", "-"),
+        ("(-2147483647 - 1) / -1", "-"),
+        ("-2147483647 - 1", "-2147483648"),
+        ("7 / -2", "-3"),
+        ("-(-2147483647 - 1)", "-"),
+        ("-65536 * 32768", "-2147483648"),
+    ])
+    ran_sums("run-whole-grouping", "whole", [
+        ("10 - 3 - 4", "3"),
+        ("100 / 10 / 2", "5"),
+        ("2 + 3 * 4", "14"),
+        ("2147483647 + 1 - 1", "-"),
+        ("7 / 2 * 2", "6"),
+        ("65536 * 32768", "-"),
+        ("0 * (1 / 0)", "-"),
+        ("-0 - - - 5", "-5"),
+    ])
+    ran_sums("run-real-sums", "real", [
+        ("1r / 3r", "3fd5555555555555"),
+        ("real ( 7 ) / 2r", "400c000000000000"),
+        ("-0r", "8000000000000000"),
+        ("0r - 0r", "0000000000000000"),
+        ("0r * -1r", "8000000000000000"),
+        ("1r / 0r", "-"),
+        ("0r / 0r", "-"),
+        ("real ( -3 / 2 * 2147483647 / 0 ) + 1r", "-"),
+    ])
+    ran(
+        "run-real-rounding",
+        "interface S { event x : real event y : real action a ( real ) action b ( real ) action c ( real ) "
+        "action d ( real ) action f ( real ) } entity s : S { } rules when event x from s value changed trigger "
+        "action a ( s.x + s.y ) on s , action b ( s.x - s.y ) on s , action c ( s.x * s.y ) on s , "
+        "action d ( s.x / s.y ) on s , action f ( - s.x ) on s end end",
+        [
+            ("n s.x s.y", "n s.a s.b s.c s.d s.f"),
+            # greatest finite twice: the sum and the product overflow
+            ("1 7fefffffffffffff 7fefffffffffffff", "1 - 0000000000000000 - 3ff0000000000000 ffefffffffffffff"),
+            # least positive and 2: half of the least rounds to even, to zero
+            ("2 0000000000000001 4000000000000000",
+             "2 4000000000000000 c000000000000000 0000000000000002 0000000000000000 8000000000000001"),
+            # 0.1 and 0.2
+            ("3 3fb999999999999a 3fc999999999999a",
+             "3 3fd3333333333334 bfb999999999999a 3f947ae147ae147c 3fe0000000000000 bfb999999999999a"),
+            # minus zero and zero
+            ("4 8000000000000000 0000000000000000",
+             "4 0000000000000000 8000000000000000 8000000000000000 - 0000000000000000"),
+            # greatest finite by the least: the quotient overflows
+            ("5 7fefffffffffffff 0000000000000001", "5 7fefffffffffffff 7fefffffffffffff 3ccfffffffffffff - ffefffffffffffff"),
+        ],
+    )
+
+
+# --------------------------------------------------------------------------
+# Readings drawn at random
+# --------------------------------------------------------------------------
+
+MAZE = (
+    "interface D { attribute id : whole event on_ : bool event v : whole action set ( whole ) action flag ( bool ) } "
+    "interface H { event w : whole action sum ( whole ) } "
+    "entity a : D { id = 1 } entity b : D { id = 2 } entity h : H { } "
+    "rules when event v from x : D value changed and ( event on_ from y : D with id = 3 - x.id value changed "
+    "or event w from h value = x.v ) trigger action sum ( x.v * 10 + y.id ) on h , action flag ( y.on_ ) on x with id = 1 end "
+    "when event sum from h value changed trigger action set ( h.sum - z.v ) on z : D end "
+    "when event set from x : D value = x.v or event flag from a value = true trigger action sum ( - h.w / x.id ) on h end end"
+)
+
+
+def random_field(draw, column):
+    if column in ("a", "b"):
+        return draw.choice(["-", "-", "-", "-", "true", "false"])
+    if column.endswith("on_"):
+        return draw.choice(["-", "true", "false", "true", "false", "?"])
+    return draw.choice(["-", "0", "1", "1", "2", "2", "-3", "?"])
+
+
+def random_readings(draw, columns):
+    """Twelve lines: mostly the next number, now and then the line before once more."""
+    lines = ["n " + " ".join(columns)]
+    number = 0
+    for _ in range(12):
+        fresh = " ".join(random_field(draw, column) for column in columns)
+        turn = draw.random()
+        if number > 0 and turn < 0.1:
+            lines.append(lines[-1])
+        elif number > 0 and turn < 0.2:
+            lines.append("%d %s" % (number, fresh))
+        else:
+            number += 1
+            lines.append("%d %s" % (number, fresh))
+            if run(MAZE.encode(), "\n".join(lines).encode()).split(b"\n")[-2].startswith(b"refused"):
+                number -= 1
+    return "\n".join(lines) + "\n"
+
+
+def make_random():
+    draw = random.Random(SEED)
+    columns = ["a", "a.on_", "a.v", "b", "b.on_", "b.v", "h.w"]
+    draw.shuffle(columns)
+    add("run-random", MAZE, random_readings(draw, columns))
+
+
+# --------------------------------------------------------------------------
+# Facts of document 01 checked without a stored case
+# --------------------------------------------------------------------------
+
+
+def one_action(parameter, kind="whole"):
+    """What the parameter writes, as printed."""
+    return run(sums(kind, [parameter]).encode(), b"n c.t\n1 true\n").split()[-1]
+
+
+def check_trials():
+    """Every trial case of document 01, P or not."""
+    table = [
+        ("n p.down s.pos", "n k.keep"),
+        ("1 false 100", "1 -"),
+        ("2 true 140", "2 140"),
+        ("2 true 140", "2 140"),
+        ("3 - 150", "3 -"),
+        ("4 false 150", "4 -"),
+        ("5 true 190", "5 190"),
+        ("4 - -", "refused 24"),
+    ]
+    ran("run-pedal-table", PEDAL, table)
+    assert check(b"rules end") == (0, 0)
+    assert check(b"") == (13, 0)
+    assert one_action("2147483647 + 1") == b"-"
+    assert one_action("-7 / 2") == b"-3"
+    assert one_action("7 / 0") == b"-"
+    assert one_action("(-2147483647 - 1) / -1") == b"-"
+    assert one_action("1r / 3r", "real") == b"3fd5555555555555"
+    keep = PEDAL.replace("action keep ( s.pos ) on k", "action keep ( 1 ) on k , action keep ( 2 ) on k")
+    assert run(keep.encode(), b"n p.down\n1 true\n") == b"n k.keep\n1 2\n"
+    for clause in ("value changed", "value = 1"):
+        text = PLAIN.replace("from s value changed", "from s with a = 1 " + clause)
+        assert check(text.encode()) == (0, 0)
+        assert run(text.encode(), b"n s.e\n1 1\n") == b"n s.k\n1 -\n"
+        assert run(text.encode(), b"n s.e\n1 2\n2 1\n") == b"n s.k\n1 -\n2 1\n"
+    bench = Bench(b"rules end")
+    fresh = bench.fresh()
+    code, row, following = bench.line(fresh, b"n", b"1")
+    assert (code, row, following.number) == (0, b"1", 1)
+    assert bench.line(fresh, b"n", b"0") == (24, None, fresh)
+    assert bench.line(fresh, b"n", b"01") == (21, None, fresh)
+    assert check((interfaces(LETTERS[:16]) + "rules end").encode()) == (0, 0)
+    seventeen = interfaces(LETTERS[:17]) + "rules end"
+    assert check(seventeen.encode()) == (14, seventeen.rindex("interface"))
+    assert check(b"interface " + b"a" * 24 + b" { } rules end") == (0, 0)
+    assert check(b"interface " + b"a" * 25 + b" { } rules end") == (12, 10)
+
+
+def check_sizes():
+    """Limits of length and number."""
+    assert check(b"rules end".ljust(32768)) == (0, 0)
+    assert check(b"rules end".ljust(32769)) == (11, 32768)
+    assert check(b"\xff" * 40000) == (11, 32768)
+    assert check(b"rules \xc8 end") == (12, 6)
+    bench = Bench(PLAIN.encode())
+    fresh = bench.fresh()
+    assert bench.line(fresh, b"n s.e", b"1 " + b"9" * 8190) == (23, None, fresh)
+    assert bench.line(fresh, b"n s.e", b"1 " + b"9" * 8191) == (21, None, fresh)
+    assert bench.line(fresh, b"n s.e ", b"") == (22, None, fresh)
+    assert bench.line(fresh, b"n s.e\n", b"1 5") == (22, None, fresh)
+    assert bench.line(fresh, b"n s.e", b"1 5\n") == (21, None, fresh)
+    late = dataclasses.replace(bench.line(fresh, b"n s.e", b"1 5")[2], number=4294967294)
+    code, row, last = bench.line(late, b"n s.e", b"4294967295 6")
+    assert (code, row) == (0, b"4294967295 6")
+    assert bench.line(last, b"n s.e", b"4294967295 6") == (0, row, last)
+    assert bench.line(last, b"n s.e", b"4294967296 6") == (24, None, last)
+
+
+def check_missing_columns():
+    """A missing column is `-`, and the order of columns is no matter."""
+    bench = Bench(PEDAL.encode())
+    _, row, state = bench.line(bench.fresh(), b"n p.down s.pos", b"1 true 4")
+    assert row == b"1 4"
+    assert bench.line(state, b"n s.pos p p.down", b"1 4 - true") == (0, row, state)
+    assert bench.line(state, b"n p.down", b"1 true") == (25, None, state)
+    code, row, state = bench.line(state, b"n s.pos p", b"2 5 -")
+    assert (code, row) == (0, b"2 -")
+    assert bench.line(state, b"n s.pos", b"2 5") == (0, row, state)
+    assert bench.line(state, b"n s.pos p", b"2 5 true") == (25, None, state)
+    assert bench.line(state, b"n k.keep", b"2 5") == (22, None, state)
+
+
+def check_folder_of_cases():
+    """What the list must hold."""
+    assert 70 <= len(CASES) <= 90, len(CASES)
+    codes = [case["check"][0] for case in CASES if case["readings"] is None]
+    assert codes.count(0) >= 3
+    for code in range(12, 19):
+        assert codes.count(code) >= 3, code
+    printed = "".join(case["printed"] or "" for case in CASES)
+    for code in range(21, 26):
+        assert "refused %d\n" % code in printed, code
+
+
+def main():
+    make_accepted()
+    make_words()
+    make_grammar()
+    make_counts()
+    make_names()
+    make_mixed_names()
+    make_kinds()
+    check_trials()
+    make_headers()
+    make_refused_lines()
+    make_presence()
+    make_writes()
+    make_clauses()
+    make_actions()
+    make_sums()
+    make_random()
+    check_sizes()
+    check_missing_columns()
+    check_folder_of_cases()
+    OUTPUT.write_text(json.dumps(CASES, indent=1) + "\n", encoding="ascii")
+    print("%d cases" % len(CASES))
+
+
+if __name__ == "__main__":
+    main()
