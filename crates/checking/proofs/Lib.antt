@@ -1,1 +1,6 @@
 pub mod WithinCounts
+pub mod VerdictLaws
+pub mod LookUpLaws
+pub mod AcceptedLaws
+pub mod CheckedExpressions
+pub mod CheckedFile

@@ -162,15 +162,17 @@ unfolding each
 flags-below bound n fs = each (λ e. ltb (getD fs e 0) bound) 0 n
 
 -- "33: memory is no state of that bench", of memory of the stated size at least
+-- (the first test holds of every memory of bytes; it is for lists of other numbers)
 unfoldable pub is-state : File → List ℕ → Bool
 unfolding flags-below cells-fit now-fits previous-fits input-fits-in
 is-state f m =
-    flags-below 2 (entity-count f) (now-flags (entity-count f) m)
+    ltb (word-at 4 m 0) 4294967296
+    && (flags-below 2 (entity-count f) (now-flags (entity-count f) m)
     && (flags-below 2 (entity-count f) (previous-flags (entity-count f) m)
     && (flags-below 3 (entity-count f) (read-flags (entity-count f) m)
     && (cells-fit now-fits f (now-cells (entity-count f) m)
     && (cells-fit previous-fits f (previous-cells (entity-count f) m)
-    && cells-fit input-fits-in f (input-cells (entity-count f) m)))))
+    && cells-fit input-fits-in f (input-cells (entity-count f) m))))))
 
 -- the state that memory stands for, or none
 unfoldable pub state-of : File → List ℕ → Option State

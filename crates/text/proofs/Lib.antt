@@ -5,3 +5,7 @@ pub mod PredictiveLaws
 pub mod GrammarLaws
 pub mod ParserLaws
 pub mod ParserViable
+pub mod ListLaws
+pub mod TreeLaws
+pub mod NumberLaws
+pub mod LiteralLaws

@@ -4,6 +4,7 @@ pub mod RealLaws
 pub mod ByteLaws
 pub mod DigitLaws
 pub mod StorableLaws
+pub mod FittingLaws
 pub mod CellLaws
 pub mod FormLaws
 pub mod ReadBack

@@ -57,7 +57,7 @@ storable-at-kind j Bools (Truth b) h o = tt
 storable-at-kind Reals Reals (Real x) h o = h
 storable-at-kind j k Unset h o = unset-storable k
 
-test-storable : (k : Kind) (b : Bool) (v : Value) → (b ≡ true → T (storable k v)) → T (storable k (cond b v Unset))
+pub test-storable : (k : Kind) (b : Bool) (v : Value) → (b ≡ true → T (storable k v)) → T (storable k (cond b v Unset))
 test-storable k true v h = h refl
 test-storable k false v h = unset-storable k
 
@@ -72,11 +72,11 @@ whole-storable : (z : ℤ) → mag z < 2 ^ 31 → T (storable Wholes (Whole z))
 unfolding storable
 whole-storable z h = lt→ltb (mag z) (2 ^ 31) h
 
-fitted-storable : (z : ℤ) → T (storable Wholes (fitted z))
+pub fitted-storable : (z : ℤ) → T (storable Wholes (fitted z))
 unfolding fitted
 fitted-storable z = test-storable Wholes (ltb (mag z) (2 ^ 31)) (Whole z) (λ e. whole-storable z (ltb-true (mag z) (2 ^ 31) e))
 
-settled-storable : (x : Float) → T (fits binary64 x) → T (storable Reals (settled x))
+pub settled-storable : (x : Float) → T (fits binary64 x) → T (storable Reals (settled x))
 unfolding settled storable
 settled-storable nan h = tt
 settled-storable (inf s) h = tt

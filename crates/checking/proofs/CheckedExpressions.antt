@@ -1,0 +1,234 @@
+-- What a rule's clauses and calls have where the checks find no fault: known members of the right sort, and expressions of a cell's kind.
+use Prim.Native.Nat.{ℕ}
+use mathlib.Core.Path.{_≡_, refl, sym, ap, _∙_}
+use mathlib.Core.Bool.{Bool, true, false}
+use mathlib.Core.List.{List, [], cons≢nil}
+use mathlib.Core.Option.{Option, none, some}
+use lib.Dec.{T}
+use Rattle.values.specs.declared.Kind.{Kind}
+use Rattle.values.specs.declared.Kind.the-variants.{Wholes, Bools, Reals}
+use Rattle.text.specs.Syntax.{
+  Name,
+  Sort,
+  Member,
+  Interface,
+  literal-kind,
+  Expression,
+  literal,
+  member,
+  to-real,
+  negate,
+  apply,
+  Target,
+  Filter,
+  Test,
+  changed,
+  equals,
+  Clause,
+  Call,
+}
+use Rattle.checking.specs.Faults.{fault-unless}
+use Rattle.checking.specs.Scope.{Found, member-named, Scope, is-known, interface-in, is-attribute, is-action, is-event, is-member}
+use Rattle.checking.specs.NameFaults.{
+  is-of-sort,
+  member-faults,
+  name-faults-at,
+  expression-names,
+  target-names,
+  filter-names,
+  test-names,
+  clause-names,
+  call-names,
+}
+use Rattle.checking.specs.KindFaults.{
+  same-kind,
+  kinds-fit,
+  fits-operator,
+  operands-fit,
+  kind-if-found,
+  member-kind,
+  kind-in,
+  real-kind,
+  negated-kind,
+  operated-kind,
+  kind-of,
+  expression-kinds,
+  matched-kinds,
+  filter-kinds,
+  test-kinds,
+  clause-kinds,
+  call-kinds,
+}
+use Rattle.text.proofs.ListLaws.{both-empty, three-empty, four-empty}
+
+pub no-fault : (b : Bool) (c p : ℕ) → fault-unless b c p ≡ [] → T b
+unfolding fault-unless
+no-fault true c p h = tt
+no-fault false c p h = absurd (cons≢nil h)
+
+-- ---- what is known
+
+-- a name whose interface is known, and a member of that interface
+pub record Known-member (s : Scope) (sort : Sort → Bool) (n m : List ℕ) : Type 0 where
+  pub interface : Interface
+  pub found : Found Member
+  pub of-interface : interface-in s n ≡ some interface
+  pub named : member-named interface m ≡ some found
+  pub of-sort : T (sort (found .item .sort))
+
+-- a cell beside an expression of its kind
+pub record Known-equation (s : Scope) (sort : Sort → Bool) (n m : List ℕ) (a : Expression) : Type 0 where
+  pub cell : Known-member s sort n m
+  pub kind : kind-of s a ≡ some (cell .found .item .kind)
+
+abbrev pub Known-filter : Scope → List ℕ → Option Filter → Type 0
+Known-filter s n none = Unit {0}
+Known-filter s n (some g) = Known-equation s is-attribute n (g .attribute .bytes) (g .expression)
+
+abbrev pub Known-test : Scope → Kind → Test → Type 0
+Known-test s k changed = Unit {0}
+Known-test s k (equals at a) = kind-of s a ≡ some k
+
+pub record Known-clause (s : Scope) (c : Clause) : Type 0 where
+  pub cell : Known-member s is-event (c .target .name .bytes) (c .event .bytes)
+  pub filter : Known-filter s (c .target .name .bytes) (c .filter)
+  pub test : Known-test s (cell .found .item .kind) (c .test)
+
+pub record Known-call (s : Scope) (c : Call) : Type 0 where
+  pub parameter : Known-equation s is-action (c .target .name .bytes) (c .action .bytes) (c .parameter)
+  pub filter : Known-filter s (c .target .name .bytes) (c .filter)
+
+-- ---- kinds
+
+pub same-kind-eq : (j k : Kind) → T (same-kind j k) → j ≡ k
+unfolding same-kind
+same-kind-eq Wholes Wholes h = refl
+same-kind-eq Bools Bools h = refl
+same-kind-eq Reals Reals h = refl
+
+pub kinds-fit-eq : (j k : Kind) → T (kinds-fit (some j) (some k)) → j ≡ k
+unfolding kinds-fit
+kinds-fit-eq j k h = same-kind-eq j k h
+
+pub member-kind-found : (i : Interface) (m : Name) {r : Found Member} → member-named i (m .bytes) ≡ some r → member-kind (some i) m ≡ some (r .item .kind)
+unfolding member-kind
+member-kind-found i m h = ap kind-if-found h
+
+pub cell-kind : (s : Scope) {sort : Sort → Bool} (n m : Name) (c : Known-member s sort (n .bytes) (m .bytes)) → kind-in s n m ≡ some (c .found .item .kind)
+unfolding kind-in
+cell-kind s n m c = ap (λ (i : Option Interface). member-kind i m) (c .of-interface) ∙ member-kind-found (c .interface) m (c .named)
+
+-- an expression with no fault inside has a kind
+Kinded : Option Kind → Type 0
+Kinded o = (k : Kind) × (o ≡ some k)
+
+real-kinded : (o : Option Kind) → Kinded o → T (kinds-fit o (some Wholes)) → Kinded (real-kind o)
+unfolding Kinded real-kind kinds-fit
+real-kinded o (Wholes, e) h = (Reals, rw e)
+real-kinded o (Bools, e) h = absurd (rw e at h)
+real-kinded o (Reals, e) h = absurd (rw e at h)
+
+negated-kinded : (o : Option Kind) → Kinded o → T (fits-operator o) → Kinded (negated-kind o)
+unfolding Kinded negated-kind fits-operator
+negated-kinded o (Wholes, e) h = (Wholes, rw e)
+negated-kinded o (Bools, e) h = absurd (rw e at h)
+negated-kinded o (Reals, e) h = (Reals, rw e)
+
+operated-kinded : (o p : Option Kind) → Kinded o → Kinded p → T (operands-fit o p) → Kinded (operated-kind o p)
+unfolding Kinded operated-kind operands-fit
+operated-kinded o p (j, d) (k, e) h = go j k d e (rw (d, e) at h)
+  where
+    go : (j k : Kind) → o ≡ some j → p ≡ some k → T (operands-fit (some j) (some k)) → Kinded (operated-kind o p)
+    go Wholes Wholes d e h = (Wholes, rw (d, e))
+    go Reals Reals d e h = (Reals, rw (d, e))
+
+-- ---- no fault
+
+module _ (s : Scope) (known-interface : (n : List ℕ) → T (is-known s n) → (i : Interface) × (interface-in s n ≡ some i)) where
+  member-known : (sort : Sort → Bool) (n : List ℕ) (m : Name) → T (is-known s n) → member-faults sort (interface-in s n) m ≡ []
+      → Known-member s sort n (m .bytes)
+  unfolding member-faults
+  member-known sort n m k h = go (known-interface n k)
+    where
+      by-member : (i : Interface) → interface-in s n ≡ some i → (o : Option (Found Member)) → member-named i (m .bytes) ≡ o → T (is-of-sort sort o)
+          → Known-member s sort n (m .bytes)
+      by-member i e (some r) q t = record { interface = i; found = r; of-interface = e; named = q; of-sort = t }
+
+      go : (i : Interface) × (interface-in s n ≡ some i) → Known-member s sort n (m .bytes)
+      go (i, e) =
+          by-member i e (member-named i (m .bytes)) refl (no-fault (is-of-sort sort (member-named i (m .bytes))) 16 (m .at) (rw e at h))
+
+  expression-kinded : (a : Expression) → expression-names s a ≡ [] → expression-kinds s a ≡ [] → Kinded (kind-of s a)
+  unfolding Kinded expression-names expression-kinds
+  expression-kinded (literal l) n k = (literal-kind l, refl)
+  expression-kinded (member x m) n k =
+      let p : (name-faults-at s x ≡ []) × (member-faults is-member (interface-in s (x .bytes)) m ≡ []) = both-empty n in
+      let c = member-known is-member (x .bytes) m (no-fault (is-known s (x .bytes)) 16 (x .at) (p .0)) (p .1) in
+      (c .found .item .kind, cell-kind s x m c)
+  expression-kinded (to-real at a) n k =
+      let p : (fault-unless (kinds-fit (kind-of s a) (some Wholes)) 18 at ≡ []) × (expression-kinds s a ≡ []) = both-empty k in
+      real-kinded (kind-of s a) (expression-kinded a n (p .1)) (no-fault (kinds-fit (kind-of s a) (some Wholes)) 18 at (p .0))
+  expression-kinded (negate at a) n k =
+      let p : (fault-unless (fits-operator (kind-of s a)) 18 at ≡ []) × (expression-kinds s a ≡ []) = both-empty k in
+      negated-kinded (kind-of s a) (expression-kinded a n (p .1)) (no-fault (fits-operator (kind-of s a)) 18 at (p .0))
+  expression-kinded (apply o at a b) n k =
+      let p : (fault-unless (operands-fit (kind-of s a) (kind-of s b)) 18 at ≡ []) × (expression-kinds s a ≡ []) × (expression-kinds s b ≡ []) =
+      three-empty k in
+      let q : (expression-names s a ≡ []) × (expression-names s b ≡ []) = both-empty n in
+      operated-kinded (kind-of s a) (kind-of s b) (expression-kinded a (q .0) (p .1)) (expression-kinded b (q .1) (p .2))
+      (no-fault (operands-fit (kind-of s a) (kind-of s b)) 18 at (p .0))
+
+  -- beside a cell
+  matched : (k : Kind) (at : ℕ) (a : Expression) → expression-names s a ≡ [] → matched-kinds s (some k) at a ≡ [] → kind-of s a ≡ some k
+  unfolding Kinded matched-kinds
+  matched k at a n h =
+      let p : (fault-unless (kinds-fit (some k) (kind-of s a)) 18 at ≡ []) × (expression-kinds s a ≡ []) = both-empty h in
+      go (expression-kinded a n (p .1)) (no-fault (kinds-fit (some k) (kind-of s a)) 18 at (p .0))
+    where
+      go : Kinded (kind-of s a) → T (kinds-fit (some k) (kind-of s a)) → kind-of s a ≡ some k
+      go (j, e) t = e ∙ ap some (sym (kinds-fit-eq k j (rw e at t)))
+
+  equation-known : (sort : Sort → Bool) (x m : Name) (at : ℕ) (a : Expression) → T (is-known s (x .bytes))
+      → member-faults sort (interface-in s (x .bytes)) m ≡ [] → expression-names s a ≡ [] → matched-kinds s (kind-in s x m) at a ≡ []
+      → Known-equation s sort (x .bytes) (m .bytes) a
+  equation-known sort x m at a k f n h =
+      let c = member-known sort (x .bytes) m k f in
+      record { cell = c; kind = matched (c .found .item .kind) at a n (rw (cell-kind s x m c) at h) }
+
+  filter-known : (t : Target) (g : Option Filter) → T (is-known s (t .name .bytes)) → filter-names s t g ≡ [] → filter-kinds s t g ≡ []
+      → Known-filter s (t .name .bytes) g
+  unfolding filter-names filter-kinds
+  filter-known t none k n h = tt
+  filter-known t (some g) k n h =
+      let p : (member-faults is-attribute (interface-in s (t .name .bytes)) (g .attribute) ≡ []) × (expression-names s (g .expression) ≡ []) = both-empty n in
+      equation-known is-attribute (t .name) (g .attribute) (g .equals-at) (g .expression) k (p .0) (p .1) h
+
+  test-known : (k : Kind) (t : Test) → test-names s t ≡ [] → test-kinds s (some k) t ≡ [] → Known-test s k t
+  unfolding test-names test-kinds
+  test-known k changed n h = tt
+  test-known k (equals at a) n h = matched k at a n h
+
+  pub clause-known : (c : Clause) → T (is-known s (c .target .name .bytes)) → clause-names s c ≡ [] → clause-kinds s c ≡ [] → Known-clause s c
+  unfolding clause-names clause-kinds
+  clause-known c k n h =
+      let p : (member-faults is-event (interface-in s (c .target .name .bytes)) (c .event) ≡ []) × (target-names s (c .target) ≡ [])
+      × (filter-names s (c .target) (c .filter) ≡ []) × (test-names s (c .test) ≡ []) = four-empty n in
+      let q : (filter-kinds s (c .target) (c .filter) ≡ []) × (test-kinds s (kind-in s (c .target .name) (c .event)) (c .test) ≡ []) = both-empty h in
+      let m = member-known is-event (c .target .name .bytes) (c .event) k (p .0) in
+      record {
+        cell = m;
+        filter = filter-known (c .target) (c .filter) k (p .2) (q .0);
+        test = test-known (m .found .item .kind) (c .test) (p .3) (rw (cell-kind s (c .target .name) (c .event) m) at (q .1));
+      }
+
+  pub call-known : (c : Call) → T (is-known s (c .target .name .bytes)) → call-names s c ≡ [] → call-kinds s c ≡ [] → Known-call s c
+  unfolding call-names call-kinds
+  call-known c k n h =
+      let p : (member-faults is-action (interface-in s (c .target .name .bytes)) (c .action) ≡ []) × (expression-names s (c .parameter) ≡ [])
+      × (target-names s (c .target) ≡ []) × (filter-names s (c .target) (c .filter) ≡ []) = four-empty n in
+      let q : (matched-kinds s (kind-in s (c .target .name) (c .action)) (c .open-at) (c .parameter) ≡ [])
+      × (filter-kinds s (c .target) (c .filter) ≡ []) = both-empty h in
+      record {
+        parameter = equation-known is-action (c .target .name) (c .action) (c .open-at) (c .parameter) k (p .0) (p .1) (q .0);
+        filter = filter-known (c .target) (c .filter) k (p .3) (q .1);
+      }

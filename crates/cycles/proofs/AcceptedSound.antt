@@ -1,0 +1,26 @@
+-- For an accepted bench text and a state image of it, the reference machine is never stuck, agrees with the total machine, and keeps the state sound.
+use Prim.Native.Nat.{ℕ}
+use mathlib.Core.Path.{_≡_}
+use mathlib.Core.List.{List}
+use mathlib.Core.Option.{some}
+use Rattle.text.specs.Syntax.{File}
+use Rattle.checking.specs.Verdict as Verdict
+use Rattle.checking.specs.Verdict.{verdict}
+use Rattle.checking.proofs.VerdictLaws.{accepted-verdict}
+use Rattle.checking.proofs.AcceptedLaws.{within-counts}
+use Rattle.cycles.specs.Outcome.{running}
+use Rattle.cycles.specs.Store.{State, Line}
+use Rattle.cycles.specs.Cycle.{follow, ref-follow}
+use Rattle.cycles.specs.Line.{accepted, line}
+use Rattle.cycles.specs.StateImage.{state-of}
+use Rattle.cycles.specs.SoundState.{Sound-state}
+use Rattle.cycles.proofs.ImageLaws.{state-decoded-sound}
+use Rattle.cycles.proofs.SoundCycle.{line-sound, follow-sound}
+
+pub accepted-sound : (text : List ℕ) (f : File) → verdict text ≡ Verdict.accepted f → (m : List ℕ) (s : State) → state-of f m ≡ some s
+    → (names values : List ℕ) (l : Line) → line f s names values ≡ accepted l
+    → (ref-follow f s l ≡ running (follow f s l)) × Sound-state f (follow f s l)
+accepted-sound text f h m s i names values l t =
+    let v = accepted-verdict text h in
+    let p = line-sound f s names values l t in
+    follow-sound f v s (state-decoded-sound f (within-counts f v) m s i) l (p .0) (p .1)

@@ -1,0 +1,49 @@
+-- The bench image, written and read back.
+use Prim.Native.Nat.{ℕ, _+_, _≤_}
+use native.Mathlib.Omega.{arith}
+use mathlib.Core.Path.{_≡_, refl, ap}
+use mathlib.Core.Bool.{Bool, true, false}
+use mathlib.Core.List.{List, _++_}
+use mathlib.Core.Option.{none, some}
+use lib.Dec.{leb}
+use lib.ListN.{length, take, drop, length-append, length-drop}
+use lib.Seq.{take-append-seam}
+use borrow.Author.Tests.{le-leb}
+use Rattle.values.specs.Bytes.{word-at, low-first}
+use Rattle.text.specs.Syntax.{File}
+use Rattle.checking.specs.Verdict.{Verdict, verdict, MOST-BYTES, accepted-file}
+use Rattle.checking.proofs.VerdictLaws.{file-is-accepted}
+use Rattle.engine.specs.BenchImage.{BENCH, with-bench, bench-of}
+
+-- the length that the first 4 bytes hold
+length-word : (n : ℕ) (rest : List ℕ) → n ≤ MOST-BYTES → word-at 4 (low-first 4 n ++ rest) 0 ≡ n
+length-word n rest h = omega arith
+
+pub bench-written : (text m : List ℕ) → length text ≤ MOST-BYTES → bench-of (with-bench text m) ≡ accepted-file text
+unfolding bench-of with-bench
+bench-written text m h =
+    let rest = text ++ drop (4 + length text) m in
+    rw (length-word (length text) rest h, le-leb (length text) MOST-BYTES h, bench-of)
+    (rw (length-word (length text) rest h) (ap accepted-file (take-append-seam text (drop (4 + length text) m))))
+
+pub bench-length : (text m : List ℕ) → BENCH ≤ length m → length text ≤ MOST-BYTES → length (with-bench text m) ≡ length m
+unfolding with-bench
+bench-length text m h g = simp (length-append, length-drop) (omega arith)
+
+-- memory that stands for a bench holds an accepted text
+pub record Holds-text (f : File) : Type 0 where
+  pub text : List ℕ
+  pub is-accepted : verdict text ≡ Verdict.accepted f
+
+pub bench-accepted : (m : List ℕ) {f : File} → bench-of m ≡ some f → Holds-text f
+unfolding bench-of
+bench-accepted m {f} h = go (leb (word-at 4 m 0) MOST-BYTES) refl
+  where
+    go : (b : Bool) → leb (word-at 4 m 0) MOST-BYTES ≡ b → Holds-text f
+    go true e =
+        let t = take (word-at 4 m 0) (drop 4 m) in
+        record { text = t; is-accepted = file-is-accepted t (rw (e, bench-of) at h) }
+    go false e =
+        let g : none ≡ some f = rw (e, bench-of) at h in
+        let z : _≡_ {A = ℕ} 0 1 = cc in
+        absurd (omega arith)
