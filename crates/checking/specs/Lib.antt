@@ -4,3 +4,4 @@ pub mod CountFaults
 pub mod NameFaults
 pub mod KindFaults
 pub mod Verdict
+pub mod Directory

@@ -9,3 +9,12 @@ pub mod ListLaws
 pub mod TreeLaws
 pub mod NumberLaws
 pub mod LiteralLaws
+pub mod RunLaws
+pub mod FixedLaws
+pub mod DigitRunLaws
+pub mod ItemLaws
+pub mod StepLaws
+pub mod RowLaws
+pub mod IntoColumnsLaws
+pub mod LexLaws
+pub mod TokenFacts

@@ -1,5 +1,6 @@
 pub mod Bytes
 pub mod Tokens
+pub mod TokenTable
 pub mod Syntax
 pub mod Readers
 pub mod Grammar

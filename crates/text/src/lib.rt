@@ -1,13 +1,39 @@
-// The text of a bench file.
-ghost use mathlib.Core.Path.{_≡_};
-ghost use Rattle.text.specs.Bytes.{between};
+// The text of a bench file: its bytes and its tokens.
+pub mod bytes; // which bytes tokens and gaps are made of
+pub mod classes; // the numbers of the tokens' classes
+pub mod tokens; // what begins at an offset, and all tokens as columns
 
-// Is the byte one of low to high?
-pub fn is_between(low: u8, high: u8, b: u8) -> bool
-    ensures { λ r. ⌜ r ≡ between low high b ⌝ }
-{
-    if b < low {
-        return false;
-    }
-    b <= high
+pub use bytes::is_between;
+pub use bytes::is_blank;
+pub use bytes::is_comment_byte;
+pub use bytes::is_digit;
+pub use bytes::is_letter;
+pub use bytes::is_name_byte;
+pub use bytes::mark_class;
+pub use tokens::lex;
+pub use tokens::name_class;
+pub use tokens::token_at;
+
+// What begins at an offset: a gap or a token, with the offset after it, a byte that begins neither, or nothing, at the text's end.
+pub enum Item {
+    Gap(usize),
+    Found { class: u8, value: u32, next: usize },
+    Bad,
+    End,
+}
+
+// What became of a text: so many rows of the columns are its tokens, it has more bytes than a bench file may have, no token is
+// allowed at an offset, or a column has fewer rows than the text has bytes.
+pub enum Lexed {
+    Count(usize),
+    TooLong,
+    BadAt(usize),
+    NoRoom,
+}
+
+// What a run of bytes belongs to.
+pub enum Run {
+    Comment,
+    Name,
+    Digits,
 }

@@ -1,8 +1,8 @@
--- `text::is_between` meets its contract.
+-- `is_between` meets its contract.
 use borrow.Author.Tests.{le-leb, lt-leb}
 use Rattle.text.specs.Bytes.{between}
-use Rattle.text.proofs.is_between.Statement.{statement}
-use Rattle.text.proofs.is_between.Tie as tie
+use Rattle.text.proofs.bytes.is_between.Statement.{statement}
+use Rattle.text.proofs.bytes.is_between.Tie as tie
 
 returns : tie.Need-returns
 unfolding between

@@ -1,0 +1,65 @@
+-- `class_of_five` meets its contract: one word after another, the last of the list first.
+use mathlib.Core.List.{[]}
+use denote.Ref.{now}
+use Rattle.text.specs.Tokens.{reserved}
+use Rattle.text.specs.TokenTable.{of-length}
+use Rattle.text.proofs.FixedLaws.{class-nothing}
+use borrow.Author.Needs.{needs}
+use Rattle.text.proofs.tokens.class_of_five.Statement.{statement}
+use Rattle.text.proofs.tokens.class_of_five.Tie as tie
+
+slice-aggregate-class-if : tie.Need-slice-aggregate-class-if
+slice-aggregate-class-if c = search needs
+
+class-if-requires : tie.Need-class-if-requires
+class-if-requires c κs = search needs
+
+slice-aggregate-class-if-2 : tie.Need-slice-aggregate-class-if-2
+slice-aggregate-class-if-2 c = search needs
+
+class-if-requires-2 : tie.Need-class-if-requires-2
+class-if-requires-2 c κs = search needs
+
+slice-aggregate-class-if-3 : tie.Need-slice-aggregate-class-if-3
+slice-aggregate-class-if-3 c = search needs
+
+class-if-requires-3 : tie.Need-class-if-requires-3
+class-if-requires-3 c κs = search needs
+
+slice-aggregate-class-if-4 : tie.Need-slice-aggregate-class-if-4
+slice-aggregate-class-if-4 c = search needs
+
+class-if-requires-4 : tie.Need-class-if-requires-4
+class-if-requires-4 c κs = search needs
+
+slice-aggregate-class-if-5 : tie.Need-slice-aggregate-class-if-5
+slice-aggregate-class-if-5 c = search needs
+
+class-if-requires-5 : tie.Need-class-if-requires-5
+class-if-requires-5 c κs = search needs
+
+returns : tie.Need-returns
+unfolding reserved of-length
+returns c =
+    let name = now (c .before .before .before .before .before .before .before .before .before .before .before .args .name) in
+    let whole-on = c .before .before .before .before .before .before .before .before .class-if .ensures [] (class-nothing name) in
+    let false-on = c .before .before .before .before .before .before .class-if2 .ensures _ whole-on in
+    let value-on = c .before .before .before .before .class-if3 .ensures _ false-on in
+    let rules-on = c .before .before .class-if4 .ensures _ value-on in
+    c .class-if5 .ensures _ rules-on
+
+pub class-of-five-spec : {M : Type 1} → statement M
+class-of-five-spec =
+    tie.close
+    (tie.spec
+    slice-aggregate-class-if
+    class-if-requires
+    slice-aggregate-class-if-2
+    class-if-requires-2
+    slice-aggregate-class-if-3
+    class-if-requires-3
+    slice-aggregate-class-if-4
+    class-if-requires-4
+    slice-aggregate-class-if-5
+    class-if-requires-5
+    returns)
