@@ -4,3 +4,5 @@ pub mod LookUpLaws
 pub mod AcceptedLaws
 pub mod CheckedExpressions
 pub mod CheckedFile
+pub mod FaultLaws
+pub mod DirectoryLaws

@@ -5,3 +5,5 @@ pub mod NameFaults
 pub mod KindFaults
 pub mod Verdict
 pub mod Directory
+pub mod FoundFaults
+pub mod DirectoryReads

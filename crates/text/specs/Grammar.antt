@@ -97,31 +97,21 @@ kind-reader =
 unfoldable pub member-after : Sort → Token → Reader Member
 unfolding expect and-then kind-reader give name-of
 member-after s start =
-    expect NAME λ n.
-    expect COLON λ t.
-    and-then kind-reader λ k.
-    give (record { at = start .at; sort = s; name = name-of n; kind = k })
+    expect NAME λ n. expect COLON λ t. and-then kind-reader λ k. give (record { at = start .at; sort = s; name = name-of n; kind = k })
 
 -- after `action`: "name `(` kind `)`"
 unfoldable pub action-after : Token → Reader Member
 unfolding expect and-then kind-reader give name-of
 action-after start =
-    expect NAME λ n.
-    expect ROUND-OPEN λ o.
-    and-then kind-reader λ k.
-    expect ROUND-CLOSE λ t.
+    expect NAME λ n. expect ROUND-OPEN λ o. and-then kind-reader λ k. expect ROUND-CLOSE λ t.
     give (record { at = start .at; sort = action; name = name-of n; kind = k })
 
 -- after `interface`: "name `{` members `}`", attributes, then events, then actions
 unfoldable pub interface-after : Token → Reader Interface
 unfolding expect and-then many member-after action-after give name-of
 interface-after start =
-    expect NAME λ n.
-    expect BRACE-OPEN λ o.
-    and-then (many ATTRIBUTE (member-after attribute)) λ attributes.
-    and-then (many EVENT (member-after event)) λ events.
-    and-then (many ACTION action-after) λ actions.
-    expect BRACE-CLOSE λ t.
+    expect NAME λ n. expect BRACE-OPEN λ o. and-then (many ATTRIBUTE (member-after attribute)) λ attributes.
+    and-then (many EVENT (member-after event)) λ events. and-then (many ACTION action-after) λ actions. expect BRACE-CLOSE λ t.
     give (record { at = start .at; name = name-of n; members = attributes ++ events ++ actions })
 
 -- a number, after its sign
@@ -144,21 +134,14 @@ literal-reader =
 unfoldable pub assignment-after : Token → Reader Assignment
 unfolding expect and-then literal-reader give name-of
 assignment-after n =
-    expect EQUALS λ e.
-    and-then literal-reader λ l.
-    give (record { name = name-of n; equals-at = e .at; literal = l })
+    expect EQUALS λ e. and-then literal-reader λ l. give (record { name = name-of n; equals-at = e .at; literal = l })
 
 -- after `entity`: "name `:` interface `{` assignments `}`"
 unfoldable pub entity-after : Token → Reader Entity
 unfolding expect and-then many assignment-after give name-of
 entity-after start =
-    expect NAME λ n.
-    expect COLON λ t.
-    expect NAME λ i.
-    expect BRACE-OPEN λ o.
-    and-then (many NAME assignment-after) λ set.
-    expect BRACE-CLOSE λ c.
-    give (record { at = start .at; name = name-of n; interface = name-of i; assignments = set; close-at = c .at })
+    expect NAME λ n. expect COLON λ t. expect NAME λ i. expect BRACE-OPEN λ o. and-then (many NAME assignment-after) λ set.
+    expect BRACE-CLOSE λ c. give (record { at = start .at; name = name-of n; interface = name-of i; assignments = set; close-at = c .at })
 
 unfoldable pub operator-of : ℕ → Operator
 operator-of c = elim (eqb c PLUS) [
@@ -193,10 +176,7 @@ expression-of factor = chain is-term-operator apply-at (term-of factor)
 unfoldable pub member-reader : Reader Expression
 unfolding expect give name-of
 member-reader =
-    expect NAME λ n.
-    expect DOT λ t.
-    expect NAME λ m.
-    give (member (name-of n) (name-of m))
+    expect NAME λ n. expect DOT λ t. expect NAME λ m. give (member (name-of n) (name-of m))
 
 -- "Factor: literal without sign, name `.` member", or else
 unfoldable pub simple-or : Reader Expression → Reader Expression
@@ -214,19 +194,10 @@ unfoldable pub opener-reader : Reader Expression → Reader Expression
 unfolding if-next expect and-then expression-of give
 opener-reader inside =
     if-next REAL
-    (expect REAL λ r.
-    expect ROUND-OPEN λ o.
-    and-then (expression-of inside) λ e.
-    expect ROUND-CLOSE λ t.
-    give (to-real (r .at) e))
+    (expect REAL λ r. expect ROUND-OPEN λ o. and-then (expression-of inside) λ e. expect ROUND-CLOSE λ t. give (to-real (r .at) e))
     (if-next ROUND-OPEN
-    (expect ROUND-OPEN λ o.
-    and-then (expression-of inside) λ e.
-    expect ROUND-CLOSE λ t.
-    give e)
-    (expect MINUS λ m.
-    and-then inside λ e.
-    give (negate (m .at) e)))
+    (expect ROUND-OPEN λ o. and-then (expression-of inside) λ e. expect ROUND-CLOSE λ t. give e)
+    (expect MINUS λ m. and-then inside λ e. give (negate (m .at) e)))
 
 -- "At most 16 openers .. enclose one another; the 17th breaks the grammar": by the openers that may still come
 unfoldable pub factor-reader : ℕ → Reader Expression
@@ -248,9 +219,7 @@ unfolding expect if-next give name-of
 target-reader =
     expect NAME λ n.
     if-next COLON
-    (expect COLON λ t.
-    expect NAME λ i.
-    give (record { name = name-of n; declares = some (name-of i) }))
+    (expect COLON λ t. expect NAME λ i. give (record { name = name-of n; declares = some (name-of i) }))
     (give (record { name = name-of n; declares = none }))
 
 -- "optionally `with` attribute `=` sum"
@@ -258,10 +227,7 @@ unfoldable pub filter-reader : ℕ → Reader (Option Filter)
 unfolding if-next expect and-then expression-reader give name-of
 filter-reader left =
     if-next WITH
-    (expect WITH λ t.
-    expect NAME λ n.
-    expect EQUALS λ q.
-    and-then (expression-reader left) λ e.
+    (expect WITH λ t. expect NAME λ n. expect EQUALS λ q. and-then (expression-reader left) λ e.
     give (some (record { attribute = name-of n; equals-at = q .at; expression = e })))
     (give none)
 
@@ -270,22 +236,14 @@ unfoldable pub test-reader : ℕ → Reader Test
 unfolding if-next expect and-then expression-reader give
 test-reader left =
     if-next CHANGED (expect CHANGED λ t. give changed)
-    (expect EQUALS λ q.
-    and-then (expression-reader left) λ e.
-    give (equals (q .at) e))
+    (expect EQUALS λ q. and-then (expression-reader left) λ e. give (equals (q .at) e))
 
 -- "Clause: `event` name `from` place, optionally `with` .., then `value` .."
 unfoldable pub clause-reader : ℕ → Reader Condition
 unfolding expect and-then target-reader filter-reader test-reader give name-of
 clause-reader left =
-    expect EVENT λ start.
-    expect NAME λ n.
-    expect FROM λ t.
-    and-then target-reader λ p.
-    and-then (filter-reader left) λ f.
-    expect VALUE λ v.
-    and-then (test-reader left) λ x.
-    give (clause (record { at = start .at; event = name-of n; target = p; filter = f; test = x }))
+    expect EVENT λ start. expect NAME λ n. expect FROM λ t. and-then target-reader λ p. and-then (filter-reader left) λ f. expect VALUE λ v.
+    and-then (test-reader left) λ x. give (clause (record { at = start .at; event = name-of n; target = p; filter = f; test = x }))
 
 unfoldable pub both-at : Token → Condition → Condition → Condition
 both-at t a b = both a b
@@ -314,10 +272,7 @@ unfolding if-next expect and-then condition-of clause-reader give
 atom-reader zero = clause-reader zero
 atom-reader (suc left) =
     if-next ROUND-OPEN
-    (expect ROUND-OPEN λ o.
-    and-then (condition-of (atom-reader left)) λ c.
-    expect ROUND-CLOSE λ t.
-    give c)
+    (expect ROUND-OPEN λ o. and-then (condition-of (atom-reader left)) λ c. expect ROUND-CLOSE λ t. give c)
     (clause-reader (suc left))
 
 unfoldable pub conjunction-reader : ℕ → Reader Condition
@@ -336,14 +291,8 @@ OPENERS = 16
 unfoldable pub call-reader : Reader Call
 unfolding expect and-then expression-reader target-reader filter-reader give name-of
 call-reader =
-    expect ACTION λ start.
-    expect NAME λ n.
-    expect ROUND-OPEN λ o.
-    and-then (expression-reader OPENERS) λ e.
-    expect ROUND-CLOSE λ t.
-    expect ON λ u.
-    and-then target-reader λ p.
-    and-then (filter-reader OPENERS) λ f.
+    expect ACTION λ start. expect NAME λ n. expect ROUND-OPEN λ o. and-then (expression-reader OPENERS) λ e. expect ROUND-CLOSE λ t.
+    expect ON λ u. and-then target-reader λ p. and-then (filter-reader OPENERS) λ f.
     give (record { at = start .at; action = name-of n; open-at = o .at; parameter = e; target = p; filter = f })
 
 -- after a `,`
@@ -355,20 +304,12 @@ call-after comma = call-reader
 unfoldable pub rule-after : Token → Reader Rule
 unfolding expect and-then condition-reader call-reader many call-after give
 rule-after start =
-    and-then (condition-reader OPENERS) λ c.
-    expect TRIGGER λ t.
-    and-then call-reader λ first.
-    and-then (many COMMA call-after) λ others.
-    expect END λ u.
-    give (record { at = start .at; condition = c; calls = first ∷ others })
+    and-then (condition-reader OPENERS) λ c. expect TRIGGER λ t. and-then call-reader λ first. and-then (many COMMA call-after) λ others.
+    expect END λ u. give (record { at = start .at; condition = c; calls = first ∷ others })
 
 -- "File: interfaces, then entities, then `rules`, rules, `end`; each group may be empty"
 unfoldable pub file-reader : Reader File
 unfolding expect and-then many interface-after entity-after rule-after give
 file-reader =
-    and-then (many INTERFACE interface-after) λ is.
-    and-then (many ENTITY entity-after) λ es.
-    expect RULES λ t.
-    and-then (many WHEN rule-after) λ rs.
-    expect END λ u.
-    give (record { interfaces = is; entities = es; rules = rs })
+    and-then (many INTERFACE interface-after) λ is. and-then (many ENTITY entity-after) λ es. expect RULES λ t.
+    and-then (many WHEN rule-after) λ rs. expect END λ u. give (record { interfaces = is; entities = es; rules = rs })
