@@ -18,3 +18,5 @@ pub mod RowLaws
 pub mod IntoColumnsLaws
 pub mod LexLaws
 pub mod TokenFacts
+pub mod CodeReaderLaws
+pub mod CodeGrammarLaws

@@ -5,5 +5,6 @@ pub mod Syntax
 pub mod Readers
 pub mod Grammar
 pub mod Parse
+pub mod ParseAnswers
 pub mod Language
 pub mod Viable

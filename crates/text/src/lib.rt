@@ -1,6 +1,7 @@
 // The text of a bench file: its bytes and its tokens.
 pub mod bytes; // which bytes tokens and gaps are made of
 pub mod classes; // the numbers of the tokens' classes
+pub mod grammar; // which token classes make a file
 pub mod tokens; // what begins at an offset, and all tokens as columns
 
 pub use bytes::is_between;
@@ -10,6 +11,8 @@ pub use bytes::is_digit;
 pub use bytes::is_letter;
 pub use bytes::is_name_byte;
 pub use bytes::mark_class;
+pub use grammar::Parsing;
+pub use grammar::parse;
 pub use tokens::lex;
 pub use tokens::name_class;
 pub use tokens::token_at;

@@ -1,0 +1,55 @@
+-- `assignments` meets its contract.
+use lib.ListN.{length}
+use borrow.Author.Needs.{needs}
+use Rattle.text.specs.Grammar.{assignment-after}
+use Rattle.text.specs.ParseAnswers.{classes-from, is-class}
+use Rattle.text.specs.Readers.{added}
+use Rattle.text.specs.Tokens.{NAME}
+use Rattle.text.proofs.CodeReaderLaws.{some-token, Going, begins, many-answers, added-answers, stops, goes-on, turn-less}
+use Rattle.text.proofs.grammar.assignments.Statement.{statement}
+use Rattle.text.proofs.grammar.assignments.Tie as tie
+
+abbrev Inv-loop : tie.InvT-loop
+Inv-loop classes p₀ p = Going classes (is-class NAME) (added assignment-after) p₀ p
+
+abbrev μ-loop : tie.MeasureT-loop
+μ-loop classes p₀ p = length (classes-from classes p)
+
+loop-holds : tie.Need-loop-holds Inv-loop μ-loop
+loop-holds c = begins
+
+next-is-requires : tie.Need-next-is-requires Inv-loop μ-loop
+next-is-requires c κs = search needs
+
+any-token-requires : tie.Need-any-token-requires Inv-loop μ-loop
+any-token-requires c κs = search needs
+
+assignment-requires : tie.Need-assignment-requires Inv-loop μ-loop
+assignment-requires c κs = search needs
+
+loop-less : tie.Need-loop-less Inv-loop μ-loop
+loop-less c =
+    turn-less _ _ (c .before .before .before .next-is .ensures) (c .before .before .if1 .taken) (c .before .any-token .ensures)
+    (c .assignment .ensures some-token)
+
+loop-again : tie.Need-loop-again Inv-loop μ-loop
+loop-again c =
+    goes-on (c .before .before .before .before .loop .inv) (c .before .before .before .next-is .ensures) (c .before .before .if1 .taken)
+    (c .before .any-token .ensures) (added-answers (c .assignment .ensures))
+
+returns : tie.Need-returns Inv-loop μ-loop
+returns c = many-answers _ _ (stops (c .before .before .loop .inv) (c .before .next-is .ensures) (c .if1 .left))
+
+pub assignments-spec : {M : Type 1} → statement M
+assignments-spec =
+    tie.close
+    (tie.spec
+    Inv-loop
+    μ-loop
+    loop-holds
+    next-is-requires
+    any-token-requires
+    assignment-requires
+    loop-less
+    loop-again
+    returns)

@@ -1,0 +1,55 @@
+-- `members` meets its contract.
+use lib.ListN.{length}
+use borrow.Author.Needs.{needs}
+use Rattle.text.specs.Grammar.{member-after}
+use Rattle.text.specs.ParseAnswers.{classes-from, is-class}
+use Rattle.text.specs.Readers.{added}
+use Rattle.text.specs.Syntax.{Sort, attribute}
+use Rattle.text.proofs.CodeReaderLaws.{some-token, Going, begins, many-answers, added-answers, stops, goes-on, turn-less}
+use Rattle.text.proofs.grammar.members.Statement.{statement}
+use Rattle.text.proofs.grammar.members.Tie as tie
+
+abbrev Inv-loop : tie.InvT-loop
+Inv-loop classes first p₀ p = (s : Sort) → Going classes (is-class first) (added (member-after s)) p₀ p
+
+abbrev μ-loop : tie.MeasureT-loop
+μ-loop classes first p₀ p = length (classes-from classes p)
+
+loop-holds : tie.Need-loop-holds Inv-loop μ-loop
+loop-holds c s = begins
+
+next-is-requires : tie.Need-next-is-requires Inv-loop μ-loop
+next-is-requires c κs = search needs
+
+any-token-requires : tie.Need-any-token-requires Inv-loop μ-loop
+any-token-requires c κs = search needs
+
+member-requires : tie.Need-member-requires Inv-loop μ-loop
+member-requires c κs = search needs
+
+loop-less : tie.Need-loop-less Inv-loop μ-loop
+loop-less c =
+    turn-less _ _ (c .before .before .before .next-is .ensures) (c .before .before .if1 .taken) (c .before .any-token .ensures)
+    (c .member .ensures attribute some-token)
+
+loop-again : tie.Need-loop-again Inv-loop μ-loop
+loop-again c s =
+    goes-on (c .before .before .before .before .loop .inv s) (c .before .before .before .next-is .ensures) (c .before .before .if1 .taken)
+    (c .before .any-token .ensures) (added-answers (c .member .ensures s))
+
+returns : tie.Need-returns Inv-loop μ-loop
+returns c s = many-answers _ _ (stops (c .before .before .loop .inv s) (c .before .next-is .ensures) (c .if1 .left))
+
+pub members-spec : {M : Type 1} → statement M
+members-spec =
+    tie.close
+    (tie.spec
+    Inv-loop
+    μ-loop
+    loop-holds
+    next-is-requires
+    any-token-requires
+    member-requires
+    loop-less
+    loop-again
+    returns)
