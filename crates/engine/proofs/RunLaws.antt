@@ -27,7 +27,7 @@ use Rattle.cycles.proofs.SoundCycle.{fresh-sound, line-sound, follow-sound}
 use Rattle.engine.specs.BenchImage.{BENCH, bench-of}
 use Rattle.engine.specs.Calls.{with-row, row-answer, After-line, line-accepted, line-answered, line-call}
 use Rattle.engine.specs.Runs.{Request, replies, sight, machine-answer, ref-answered, ref-run, Taken, taken-if, taken-lines}
-use Rattle.engine.specs.DemandThree.{Same-stores, Same-lines, Same-values, Pairwise, start-bench, start-state, run-lines}
+use Rattle.engine.specs.DemandThree.{Same-stores, Same-lines, Same-values, Side-by-side, start-bench, start-state, run-lines}
 use Rattle.engine.proofs.BenchLaws.{bench-written, bench-length}
 use Rattle.engine.proofs.CallLaws.{
   Stands-for,
@@ -55,7 +55,7 @@ same-stores S g = record { presence = g .presence; cells = g .cells }
 
 -- two such chains over lines that agree on a closed set
 pub chains-agree : (f : File) (S : ℕ → Type 0) → Closed f S → (xs ys : List Taken) (s t : State) → Chain f s xs → Chain f t ys → States-agree S s t
-    → Pairwise (λ x y. Same-lines S (x .line) (y .line)) xs ys → Pairwise (λ x y. Same-values f S (x .state) (y .state)) xs ys
+    → Side-by-side (λ x y. Same-lines S (x .line) (y .line)) xs ys → Side-by-side (λ x y. Same-values f S (x .state) (y .state)) xs ys
 chains-agree f S c [] [] s t p q g h = tt
 chains-agree f S c [] (y ∷ ys) s t p q g h = h
 chains-agree f S c (x ∷ xs) [] s t p q g h = h

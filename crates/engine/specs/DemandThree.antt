@@ -39,11 +39,11 @@ pub record Same-values (f : File) (S : ℕ → Type 0) (m n : List ℕ) : Type 0
   pub fired : (e k : ℕ) → S e → T (is-sort is-action (member-of f e k)) → one .now .cell e k ≡ other .now .cell e k
 
 -- as many accepted lines in one run as in the other, first beside first and so on
-abbrev pub Pairwise : (Taken → Taken → Type 0) → List Taken → List Taken → Type 0
-Pairwise R [] [] = Unit {0}
-Pairwise R [] (y ∷ ys) = ⊥
-Pairwise R (x ∷ xs) [] = ⊥
-Pairwise R (x ∷ xs) (y ∷ ys) = R x y × Pairwise R xs ys
+abbrev pub Side-by-side : (Taken → Taken → Type 0) → List Taken → List Taken → Type 0
+Side-by-side R [] [] = Unit {0}
+Side-by-side R [] (y ∷ ys) = ⊥
+Side-by-side R (x ∷ xs) [] = ⊥
+Side-by-side R (x ∷ xs) (y ∷ ys) = R x y × Side-by-side R xs ys
 
 -- the memory of bench and state from which a run starts: as check and fresh leave what was lent to them
 unfoldable pub start-bench : List ℕ → List ℕ → List ℕ
@@ -70,5 +70,5 @@ pub record Demand-three : Type 1 where
       → (S : ℕ → Type 0) → Closed f S
       → (bench state bench′ state′ : List ℕ) → BENCH ≤ length bench → STATE ≤ length state → BENCH ≤ length bench′ → STATE ≤ length state′
       → (qs qs′ : List Request)
-      → Pairwise (λ x y. Same-lines S (x .line) (y .line)) (run-lines f text bench state qs) (run-lines f text bench′ state′ qs′)
-      → Pairwise (λ x y. Same-values f S (x .state) (y .state)) (run-lines f text bench state qs) (run-lines f text bench′ state′ qs′)
+      → Side-by-side (λ x y. Same-lines S (x .line) (y .line)) (run-lines f text bench state qs) (run-lines f text bench′ state′ qs′)
+      → Side-by-side (λ x y. Same-values f S (x .state) (y .state)) (run-lines f text bench state qs) (run-lines f text bench′ state′ qs′)

@@ -78,7 +78,7 @@ use Rattle.text.specs.Language.{
   Language,
   Only,
   _⨾_,
-  _∣_,
+  _or_,
   first,
   second,
   Many,
@@ -235,14 +235,14 @@ member-parses =
 
 -- "literal without sign, name `.` member", or O, in the order of the reader's choices
 abbrev Choices : Language → Language
-Choices O = Only NAME ⨾ Only DOT ⨾ Only NAME ∣ Only TRUE ∣ Only FALSE ∣ Only WHOLE-NUMBER ∣ Only REAL-NUMBER ∣ O
+Choices O = Only NAME ⨾ Only DOT ⨾ Only NAME or Only TRUE or Only FALSE or Only WHOLE-NUMBER or Only REAL-NUMBER or O
 
 module _ {O : Language} where
-  from-choices : Choices O ⊆ Simple-language ∣ O
+  from-choices : Choices O ⊆ Simple-language or O
   unfolding Simple-language
   from-choices = record { holds = go }
     where
-      go : {cs : List ℕ} → Choices O cs → (Simple-language ∣ O) cs
+      go : {cs : List ℕ} → Choices O cs → (Simple-language or O) cs
       go (first w) = first (second (second (second w)))
       go (second (first w)) = first (first w)
       go (second (second (first w))) = first (second (first w))
@@ -250,11 +250,11 @@ module _ {O : Language} where
       go (second (second (second (second (first w))))) = first (second (second (first (second w))))
       go (second (second (second (second (second w))))) = second w
 
-  to-choices : Simple-language ∣ O ⊆ Choices O
+  to-choices : Simple-language or O ⊆ Choices O
   unfolding Simple-language
   to-choices = record { holds = go }
     where
-      go : {cs : List ℕ} → (Simple-language ∣ O) cs → Choices O cs
+      go : {cs : List ℕ} → (Simple-language or O) cs → Choices O cs
       go (first (second (second (second w)))) = first w
       go (first (first w)) = second (first w)
       go (first (second (first w))) = second (second (first w))
@@ -276,8 +276,8 @@ module _ (c : ℕ) (make : ℕ → Literal) (seen : (t : Token) (ts : List Token
       expect-takes c _ t ts e ∙ sym (and-give-reads (number-reader false) literal (make (t .value)) 1 (t ∷ ts) (seen t ts e)))
 
 module _ (otherwise : Reader Expression) {O : Language} (o : (c : ℕ) → simple-begins c ≡ true → Avoids (is c) O)
-    (q : Parses (if-next REAL-NUMBER (expect REAL-NUMBER λ t. give (literal (real-number false (t .value)))) otherwise) (Only REAL-NUMBER ∣ O) ∅) where
-  simple-or-parses : Parses (simple-or otherwise) (Simple-language ∣ O) ∅
+    (q : Parses (if-next REAL-NUMBER (expect REAL-NUMBER λ t. give (literal (real-number false (t .value)))) otherwise) (Only REAL-NUMBER or O) ∅) where
+  simple-or-parses : Parses (simple-or otherwise) (Simple-language or O) ∅
   unfolding simple-begins simple-or number-reader if-next next-is pick expect expected shift give
   simple-or-parses =
       parses-in from-choices to-choices
@@ -291,7 +291,7 @@ module _ (otherwise : Reader Expression) {O : Language} (o : (c : ℕ) → simpl
 
 module _ {inside : Reader Expression} {F : Language} (q : Parses inside F ∅) where
   pub opener-parses : Parses (opener-reader inside)
-      (Only REAL ⨾ Only ROUND-OPEN ⨾ Expression-over F ⨾ Only ROUND-CLOSE ∣ Only ROUND-OPEN ⨾ Expression-over F ⨾ Only ROUND-CLOSE ∣ Only MINUS ⨾ F) ∅
+      (Only REAL ⨾ Only ROUND-OPEN ⨾ Expression-over F ⨾ Only ROUND-CLOSE or Only ROUND-OPEN ⨾ Expression-over F ⨾ Only ROUND-CLOSE or Only MINUS ⨾ F) ∅
   unfolding opener-reader is-term-operator is-factor-operator
   opener-parses =
       if-next-parses REAL (search look-ahead) (search look-ahead)
@@ -346,7 +346,7 @@ filter-parses left =
     and-then-last _ (parses-among (among-right (is WITH) expression-goes-on) (expression-parses left)))
 
 -- after `value`
-pub test-parses : (left : ℕ) → Parses (test-reader left) (Only CHANGED ∣ Only EQUALS ⨾ Expression-language left) expression-goes-on
+pub test-parses : (left : ℕ) → Parses (test-reader left) (Only CHANGED or Only EQUALS ⨾ Expression-language left) expression-goes-on
 unfolding test-reader
 test-parses left =
     if-next-parses CHANGED (search look-ahead) (search look-ahead) (expect-last _)

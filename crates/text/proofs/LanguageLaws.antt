@@ -6,7 +6,7 @@ use mathlib.Core.Bool.{Bool, true, false, not, _||_, or-true, true≢false}
 use lib.Dec.{eqb}
 use borrow.Author.Tests.{eqb-true, eq-eqb, ne-eqb}
 use Rattle.text.specs.Tokens.{Token}
-use Rattle.text.specs.Language.{Language, Only, only, _⨾_, sequel, _∣_, first, second, Many, nothing, further, Maybe, absent, given}
+use Rattle.text.specs.Language.{Language, Only, only, _⨾_, sequel, _or_, first, second, Many, nothing, further, Maybe, absent, given}
 
 abbrev pub classes : List Token → List ℕ
 classes ts = map (λ t. t .class) ts
@@ -34,10 +34,10 @@ pub record _⊆_ (L M : Language) : Type 0 where
   pub holds : {cs : List ℕ} → L cs → M cs
 
 module _ {L : Language} where
-  pub either-never : L ∣ Never ⊆ L
+  pub either-never : L or Never ⊆ L
   either-never = record { holds = go }
     where
-      go : {cs : List ℕ} → (L ∣ Never) cs → L cs
+      go : {cs : List ℕ} → (L or Never) cs → L cs
       go (first l) = l
 
   pub drop-empty : L ⨾ Empty ⊆ L
@@ -49,45 +49,45 @@ module _ {L : Language} where
   pub add-empty : L ⊆ L ⨾ Empty
   add-empty = record { holds = λ {cs} w. subst (L ⨾ Empty) (append-nil cs) (sequel w empty) }
 
-  pub from-maybe : Maybe L ⊆ L ∣ Empty
+  pub from-maybe : Maybe L ⊆ L or Empty
   from-maybe = record { holds = go }
     where
-      go : {cs : List ℕ} → Maybe L cs → (L ∣ Empty) cs
+      go : {cs : List ℕ} → Maybe L cs → (L or Empty) cs
       go (given l) = first l
       go absent = second empty
 
-  pub to-maybe : L ∣ Empty ⊆ Maybe L
+  pub to-maybe : L or Empty ⊆ Maybe L
   to-maybe = record { holds = go }
     where
-      go : {cs : List ℕ} → (L ∣ Empty) cs → Maybe L cs
+      go : {cs : List ℕ} → (L or Empty) cs → Maybe L cs
       go (first l) = given l
       go (second empty) = absent
 
 module _ {L M : Language} where
-  pub in-first : L ⊆ L ∣ M
+  pub in-first : L ⊆ L or M
   in-first = record { holds = first }
 
-  pub in-second : M ⊆ L ∣ M
+  pub in-second : M ⊆ L or M
   in-second = record { holds = second }
 
-  pub either-swap : L ∣ M ⊆ M ∣ L
+  pub either-swap : L or M ⊆ M or L
   either-swap = record { holds = go }
     where
-      go : {cs : List ℕ} → (L ∣ M) cs → (M ∣ L) cs
+      go : {cs : List ℕ} → (L or M) cs → (M or L) cs
       go (first l) = second l
       go (second m) = first m
 
-  pub from-maybe-then : Maybe L ⨾ M ⊆ L ⨾ M ∣ M
+  pub from-maybe-then : Maybe L ⨾ M ⊆ L ⨾ M or M
   from-maybe-then = record { holds = go }
     where
-      go : {cs : List ℕ} → (Maybe L ⨾ M) cs → (L ⨾ M ∣ M) cs
+      go : {cs : List ℕ} → (Maybe L ⨾ M) cs → (L ⨾ M or M) cs
       go (sequel (given l) m) = first (sequel l m)
       go (sequel absent m) = second m
 
-  pub to-maybe-then : L ⨾ M ∣ M ⊆ Maybe L ⨾ M
+  pub to-maybe-then : L ⨾ M or M ⊆ Maybe L ⨾ M
   to-maybe-then = record { holds = go }
     where
-      go : {cs : List ℕ} → (L ⨾ M ∣ M) cs → (Maybe L ⨾ M) cs
+      go : {cs : List ℕ} → (L ⨾ M or M) cs → (Maybe L ⨾ M) cs
       go (first (sequel l m)) = sequel (given l) m
       go (second m) = sequel absent m
 
@@ -155,14 +155,14 @@ leads-only {c} = record { single = go; spells = λ d e. rw (eqb-true d c e) only
     go : {cs : List ℕ} → Only c cs → (d : ℕ) × (cs ≡ d ∷ []) × (is c d ≡ true)
     go only = (c, refl, eq-eqb c c refl)
 
-pub leads-either : {p q : ℕ → Bool} {O P : Language} → Leads p O → Leads q P → Leads (p ∪ q) (O ∣ P)
+pub leads-either : {p q : ℕ → Bool} {O P : Language} → Leads p O → Leads q P → Leads (p ∪ q) (O or P)
 leads-either {p} {q} {O} {P} f g = record { single = go; spells = λ c e. spell c (p c) refl e }
   where
-    go : {cs : List ℕ} → (O ∣ P) cs → (c : ℕ) × (cs ≡ c ∷ []) × ((p ∪ q) c ≡ true)
+    go : {cs : List ℕ} → (O or P) cs → (c : ℕ) × (cs ≡ c ∷ []) × ((p ∪ q) c ≡ true)
     go (first o) = let s = f .single o in (s .0, s .1, rw (s .2))
     go (second o) = let s = g .single o in (s .0, s .1, rw (s .2, or-true))
 
-    spell : (c : ℕ) (b : Bool) → p c ≡ b → b || q c ≡ true → (O ∣ P) (c ∷ [])
+    spell : (c : ℕ) (b : Bool) → p c ≡ b → b || q c ≡ true → (O or P) (c ∷ [])
     spell c true e h = first (f .spells c e)
     spell c false e h = second (g .spells c h)
 
@@ -255,10 +255,10 @@ module _ {p : ℕ → Bool} where
       go : {cs : List ℕ} → (L ⨾ M) cs → Outside p cs
       go (sequel {xs} {ys} l m) = outside-append p xs ys (a .outside l)
 
-  pub avoids-either : {L M : Language} → Avoids p L → Avoids p M → Avoids p (L ∣ M)
+  pub avoids-either : {L M : Language} → Avoids p L → Avoids p M → Avoids p (L or M)
   avoids-either {L} {M} a b = record { outside = go }
     where
-      go : {cs : List ℕ} → (L ∣ M) cs → Outside p cs
+      go : {cs : List ℕ} → (L or M) cs → Outside p cs
       go (first l) = a .outside l
       go (second m) = b .outside m
 
@@ -296,10 +296,10 @@ module _ {p q : ℕ → Bool} where
       go : {cs : List ℕ} → (L ⨾ M) cs → (ds : List ℕ) → Clear q ds → Clear p (cs ++ ds)
       go (sequel {ys} l m) ds h = rw append-assoc (f .clears l (ys ++ ds) (g .clears m ds h))
 
-  pub follows-either : {L M : Language} → Follows p q L → Follows p q M → Follows p q (L ∣ M)
+  pub follows-either : {L M : Language} → Follows p q L → Follows p q M → Follows p q (L or M)
   follows-either {L} {M} f g = record { clears = go }
     where
-      go : {cs : List ℕ} → (L ∣ M) cs → (ds : List ℕ) → Clear q ds → Clear p (cs ++ ds)
+      go : {cs : List ℕ} → (L or M) cs → (ds : List ℕ) → Clear q ds → Clear p (cs ++ ds)
       go (first l) ds h = f .clears l ds h
       go (second m) ds h = g .clears m ds h
 

@@ -25,7 +25,7 @@ use Rattle.text.specs.Readers.{
   added,
   many,
 }
-use Rattle.text.specs.Language.{Language, Only, only, _⨾_, sequel, _∣_, first, second, Many, nothing, further, Maybe}
+use Rattle.text.specs.Language.{Language, Only, only, _⨾_, sequel, _or_, first, second, Many, nothing, further, Maybe}
 use Rattle.text.proofs.ReaderLaws.{count, Bounded, expect-takes, expect-refuses, if-next-first, if-next-second, loop-ends, loop-stops, loop-turns}
 use Rattle.text.proofs.LanguageLaws.{
   classes,
@@ -204,7 +204,7 @@ next-is-other c (t ∷ ts) h = h
 
 module _ {A : Type 0} (c : ℕ) {r s : Reader A} {L M : Language} {p : ℕ → Bool} where
   -- a choice: the words of the one begin with c, and those of the other do not
-  pub if-next-parses : Avoids (is-not c) L → Follows (is c) p M → Parses r L p → Parses s M p → Parses (if-next c r s) (L ∣ M) p
+  pub if-next-parses : Avoids (is-not c) L → Follows (is c) p M → Parses r L p → Parses s M p → Parses (if-next c r s) (L or M) p
   if-next-parses a h f g = record {
     word = f .word;
     spells = first (f .spells);
@@ -212,11 +212,11 @@ module _ {A : Type 0} (c : ℕ) {r s : Reader A} {L M : Language} {p : ℕ → B
     complete = whole;
   }
     where
-      traced : (ts : List Token) (b : Bool) → next-is c ts ≡ b → Trace (if-next c r s) (L ∣ M) ts (if-next c r s ts)
+      traced : (ts : List Token) (b : Bool) → next-is c ts ≡ b → Trace (if-next c r s) (L or M) ts (if-next c r s ts)
       traced ts true e = choice-trace c ts true e (if-next-first c r s) (trace-in in-first (f .trace ts))
       traced ts false e = choice-trace c ts false e (if-next-second c r s) (trace-in in-second (g .trace ts))
 
-      whole : (xs rest : List Token) → (L ∣ M) (classes xs) → Clear p (classes rest) → Reads (if-next c r s) xs rest
+      whole : (xs rest : List Token) → (L or M) (classes xs) → Clear p (classes rest) → Reads (if-next c r s) xs rest
       whole xs rest (first w) k =
           let u = f .complete xs rest w k in
           let begins : Outside (is-not c) (classes (xs ++ rest)) = rw map-append (outside-append (is-not c) (classes xs) (classes rest) (a .outside w)) in

@@ -45,7 +45,7 @@ abbrev pub Language : Type 1
 Language = List ℕ → Type 0
 
 infixr 30 _⨾_
-infixr 20 _∣_
+infixr 20 _or_
 -- one token of a class
 pub data Only (c : ℕ) : List ℕ → Type 0 where
   only : Only c (c ∷ [])
@@ -55,9 +55,9 @@ pub data _⨾_ (L M : Language) : List ℕ → Type 0 where
   sequel : {xs ys : List ℕ} → L xs → M ys → (L ⨾ M) (xs ++ ys)
 
 -- the one or the other
-pub data _∣_ (L M : Language) : List ℕ → Type 0 where
-  first : {xs : List ℕ} → L xs → (L ∣ M) xs
-  second : {xs : List ℕ} → M xs → (L ∣ M) xs
+pub data _or_ (L M : Language) : List ℕ → Type 0 where
+  first : {xs : List ℕ} → L xs → (L or M) xs
+  second : {xs : List ℕ} → M xs → (L or M) xs
 
 -- any number of them, one after another
 pub data Many (L : Language) : List ℕ → Type 0 where
@@ -70,7 +70,7 @@ pub data Maybe (L : Language) : List ℕ → Type 0 where
   given : {xs : List ℕ} → L xs → Maybe L xs
 
 unfoldable pub Kind-language : Language
-Kind-language = Only WHOLE ∣ Only BOOL ∣ Only REAL
+Kind-language = Only WHOLE or Only BOOL or Only REAL
 
 unfoldable pub Attribute-language : Language
 unfolding Kind-language
@@ -93,12 +93,12 @@ Interface-language =
     ⨾ Only BRACE-CLOSE
 
 unfoldable pub Number-language : Language
-Number-language = Only WHOLE-NUMBER ∣ Only REAL-NUMBER
+Number-language = Only WHOLE-NUMBER or Only REAL-NUMBER
 
 -- "literal (`true`, `false`, or a number with or without `-`)"
 unfoldable pub Literal-language : Language
 unfolding Number-language
-Literal-language = Only TRUE ∣ Only FALSE ∣ Maybe (Only MINUS) ⨾ Number-language
+Literal-language = Only TRUE or Only FALSE or Maybe (Only MINUS) ⨾ Number-language
 
 -- "Entity: `entity` name `:` interface `{` assignments `}`, each attribute `=` literal"
 unfoldable pub Entity-language : Language
@@ -110,25 +110,25 @@ Entity-language =
 
 -- "Sum: products under `+` `-`; product: factors under `*` `/`", over the language of a factor
 unfoldable pub Term-over : Language → Language
-Term-over F = F ⨾ Many ((Only TIMES ∣ Only DIVIDE) ⨾ F)
+Term-over F = F ⨾ Many ((Only TIMES or Only DIVIDE) ⨾ F)
 
 unfoldable pub Expression-over : Language → Language
 unfolding Term-over
-Expression-over F = Term-over F ⨾ Many ((Only PLUS ∣ Only MINUS) ⨾ Term-over F)
+Expression-over F = Term-over F ⨾ Many ((Only PLUS or Only MINUS) ⨾ Term-over F)
 
 -- "Factor: literal without sign, name `.` member, `real` `(` sum `)`, `(` sum `)`, or `-` factor", by the openers that may still come
 unfoldable pub Simple-language : Language
 unfolding Number-language
-Simple-language = Only TRUE ∣ Only FALSE ∣ Number-language ∣ Only NAME ⨾ Only DOT ⨾ Only NAME
+Simple-language = Only TRUE or Only FALSE or Number-language or Only NAME ⨾ Only DOT ⨾ Only NAME
 
 unfoldable pub Factor-language : ℕ → Language
 unfolding Simple-language Expression-over
 Factor-language zero = Simple-language
 Factor-language (suc left) =
     Simple-language
-    ∣ Only REAL ⨾ Only ROUND-OPEN ⨾ Expression-over (Factor-language left) ⨾ Only ROUND-CLOSE
-    ∣ Only ROUND-OPEN ⨾ Expression-over (Factor-language left) ⨾ Only ROUND-CLOSE
-    ∣ Only MINUS ⨾ Factor-language left
+    or Only REAL ⨾ Only ROUND-OPEN ⨾ Expression-over (Factor-language left) ⨾ Only ROUND-CLOSE
+    or Only ROUND-OPEN ⨾ Expression-over (Factor-language left) ⨾ Only ROUND-CLOSE
+    or Only MINUS ⨾ Factor-language left
 
 unfoldable pub Expression-language : ℕ → Language
 unfolding Expression-over Factor-language
@@ -148,7 +148,7 @@ unfoldable pub Clause-language : ℕ → Language
 unfolding Target-language Filter-language Expression-language
 Clause-language left =
     Only EVENT ⨾ Only NAME ⨾ Only FROM ⨾ Target-language ⨾ Filter-language left
-    ⨾ Only VALUE ⨾ (Only CHANGED ∣ Only EQUALS ⨾ Expression-language left)
+    ⨾ Only VALUE ⨾ (Only CHANGED or Only EQUALS ⨾ Expression-language left)
 
 -- "Condition: clauses under `and` and `or`, `and` binding tighter, parentheses allowed", over the language of an atom
 unfoldable pub Conjunction-over : Language → Language
@@ -161,7 +161,7 @@ Condition-over A = Conjunction-over A ⨾ Many (Only OR ⨾ Conjunction-over A)
 unfoldable pub Atom-language : ℕ → Language
 unfolding Clause-language Condition-over
 Atom-language zero = Clause-language zero
-Atom-language (suc left) = Clause-language (suc left) ∣ Only ROUND-OPEN ⨾ Condition-over (Atom-language left) ⨾ Only ROUND-CLOSE
+Atom-language (suc left) = Clause-language (suc left) or Only ROUND-OPEN ⨾ Condition-over (Atom-language left) ⨾ Only ROUND-CLOSE
 
 -- "Call: `action` name `(` sum `)` `on` place, optionally `with` attribute `=` sum"
 unfoldable pub Call-language : Language
