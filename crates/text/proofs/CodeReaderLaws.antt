@@ -78,6 +78,32 @@ kept : {A : Type 0} {cs : List ℕ} {r : Reader A} (at : ℕ) → Reads-as cs r 
 unfolding answer-from
 kept at = record { told = λ ts e. refl }
 
+-- a reading leaves no more tokens than it found
+pub tokens-left : {A : Type 0} {cs : List ℕ} {r : Reader A} {p q : Parsed} → Reads-as cs r p q
+    → length (classes-from cs q) ≤ length (classes-from cs p)
+unfolding answer-from parse-answer classes-from
+tokens-left {A} {cs} {r} {p} {q} h = on p (h .told (sample cs) (classes-sample cs))
+  where
+    part : (at : ℕ) (x : Parse A) → q ≡ parse-answer at x → length (classes-from cs q) ≤ length (drop at cs)
+    part at (read a n) e = rw e (simp length-drop (omega arith))
+    part at (refused n) e = rw e (omega arith)
+
+    on : (p : Parsed) → q ≡ answer-from p r (sample cs) → length (classes-from cs q) ≤ length (classes-from cs p)
+    on (Next at) e = part at (r (drop at (sample cs))) e
+    on (Refused at) e = rw e (omega arith)
+
+-- one token that is taken, where there is one, leaves fewer
+taken-less : {cs : List ℕ} {q : Parsed} (p : Parsed) → 0 < length (classes-from cs p) → Reads-as cs any-token p q
+    → length (classes-from cs q) < length (classes-from cs p)
+unfolding answer-from parse-answer classes-from any-token
+taken-less (Refused at) some h = absurd (omega arith)
+taken-less {cs} {q} (Next at) some h =
+    part (drop at (sample cs)) (drop-classes at (sample cs) ∙ ap (drop at) (classes-sample cs)) (h .told (sample cs) (classes-sample cs))
+  where
+    part : (us : List Token) → classes-of us ≡ drop at cs → q ≡ parse-answer at (any-token us) → length (classes-from cs q) < length (drop at cs)
+    part [] i f = absurd (omega (arith, ap length i))
+    part (t ∷ ts) i f = rw f (omega (arith, length-drop at cs, length-drop (at + 1) cs, ap length i))
+
 module _ {A : Type 0} {cs : List ℕ} where
   pub give-answers : (a : A) (p : Parsed) → Reads-as cs (give a) p p
   unfolding answer-from parse-answer give
@@ -146,6 +172,17 @@ unfolding next-is first-class
 lacks c [] e = refl
 lacks c (t ∷ ts) e = ne-eqb (t .class) c e
 
+-- there is a token where a class is seen or a test passes
+class-some : (c : ℕ) (cs : List ℕ) → ltb c 255 ≡ true → c ≡ first-class cs → 0 < length cs
+unfolding first-class
+class-some c [] l e = absurd (omega (arith, ltb-true c 255 l))
+class-some c (d ∷ ds) l e = omega arith
+
+passes-some : (test : ℕ → Bool) (cs : List ℕ) → first-passes test cs ≡ true → 0 < length cs
+unfolding first-passes
+passes-some test [] e = absurd (false≢true e)
+passes-some test (c ∷ cs) e = omega arith
+
 module _ {cs : List ℕ} {p : Parsed} {c d : ℕ} (n : d ≡ first-class (classes-from cs p)) where
   module _ (e : d ≡ c) (l : ltb c 255 ≡ true) where
     -- the token that was looked at is the expected one
@@ -156,6 +193,9 @@ module _ {cs : List ℕ} {p : Parsed} {c d : ℕ} (n : d ≡ first-class (classe
         same : (us : List Token) → next-is c us ≡ true → any-token us ≡ expect c give us
         same [] i = absurd (false≢true i)
         same (t ∷ ts) i = sym (expect-takes c give t ts (eqb-true (t .class) c i))
+
+    pub seen-less : {q : Parsed} → Reads-as cs any-token p q → length (classes-from cs q) < length (classes-from cs p)
+    seen-less h = taken-less p (class-some c (classes-from cs p) l (sym e ∙ n)) h
 
     pub if-next-answers : {A : Type 0} {r : Reader A} (s : Reader A) {q : Parsed} → Reads-as cs r p q → Reads-as cs (if-next c r s) p q
     if-next-answers {r = r} s h = instead p (λ us i. sym (if-next-first c r s us (comes c us l (sym e ∙ n ∙ sym (ap first-class i))))) h
@@ -168,13 +208,23 @@ module _ {cs : List ℕ} {p : Parsed} {c d : ℕ} (n : d ≡ first-class (classe
   pub if-not-answers : {A : Type 0} (r : Reader A) {s : Reader A} {q : Parsed} → (d ≡ c → ⊥) → Reads-as cs s p q → Reads-as cs (if-next c r s) p q
   if-not-answers r {s} e h = instead p (λ us i. sym (if-next-second c r s us (lacks c us (λ f. e (n ∙ sym (ap first-class i) ∙ f))))) h
 
--- a loop after some turns: who answers the rest answers the loop
+  -- another class is seen than the expected one
+  pub unfit-answers : {A : Type 0} (k : Token → Reader A) {q : Parsed} → (d ≡ c → ⊥) → q ≡ refused-at p → Reads-as cs (expect c k) p q
+  unfolding halt next-is expect
+  unfit-answers k e h = instead p (λ us i. same us (lacks c us (λ f. e (n ∙ sym (ap first-class i) ∙ f)))) (halt-answers p h)
+    where
+      same : (us : List Token) → next-is c us ≡ false → halt us ≡ expect c k us
+      same [] i = refl
+      same (t ∷ ts) i = sym (expect-refuses c k t ts i)
+
+-- a loop after some turns: who answers the rest answers the loop; and, given a tree, there are no more tokens left than before them
 pub record Going {A : Type 0} (cs : List ℕ) (test : ℕ → Bool) (step : A → Token → Reader A) (p q : Parsed) : Type 0 where
   pub finish : (r : Parsed) → ((a : A) → Reads-as cs (loop test step a 0) q r) → (a : A) → Reads-as cs (loop test step a 0) p r
+  pub no-more : A → length (classes-from cs q) ≤ length (classes-from cs p)
 
 module _ {A : Type 0} {cs : List ℕ} {test : ℕ → Bool} {step : A → Token → Reader A} {p : Parsed} where
   pub begins : Going cs test step p p
-  begins = record { finish = λ r f. f }
+  begins = record { finish = λ r f. f; no-more = λ a. omega arith }
 
   module _ {q : Parsed} (g : Going cs test step p q) {b : Bool} (n : b ≡ first-passes test (classes-from cs q)) where
     pub stops : b ≡ false → (a : A) → Reads-as cs (loop test step a 0) p q
@@ -190,6 +240,7 @@ module _ {A : Type 0} {cs : List ℕ} {test : ℕ → Bool} {step : A → Token 
     goes-on e h s = record {
       finish = λ r f. g .finish r λ a. instead q (λ us i. same a us (ap (first-passes test) i ∙ sym n ∙ e))
           (and-then-answers h some-token λ t. and-then-answers (s a t) a f);
+      no-more = λ a. omega (arith, g .no-more a, tokens-left h, tokens-left (s a some-token));
     }
       where
         same : (a : A) (us : List Token) → first-passes test (classes-of us) ≡ true
@@ -219,32 +270,16 @@ module _ {A : Type 0} {cs : List ℕ} {p q : Parsed} where
   unfolding many is-class
   many-answers c item f = f []
 
--- a reading leaves no more tokens than it found, and a turn of a loop fewer
-tokens-left : {A : Type 0} {cs : List ℕ} {r : Reader A} {p q : Parsed} → Reads-as cs r p q → length (classes-from cs q) ≤ length (classes-from cs p)
-unfolding answer-from parse-answer classes-from
-tokens-left {A} {cs} {r} {p} {q} h = on p (h .told (sample cs) (classes-sample cs))
-  where
-    part : (at : ℕ) (x : Parse A) → q ≡ parse-answer at x → length (classes-from cs q) ≤ length (drop at cs)
-    part at (read a n) e = rw e (simp length-drop (omega arith))
-    part at (refused n) e = rw e (omega arith)
+-- where a chain's loop takes a token, no more are left than the chain found
+pub chain-left : {A B : Type 0} {cs : List ℕ} {test : ℕ → Bool} {step : A → Token → Reader A} {r : Reader B} {p q u v : Parsed} → A
+    → Reads-as cs r p q → Going cs test step q u → Reads-as cs any-token u v → length (classes-from cs v) ≤ length (classes-from cs p)
+chain-left one h g s = omega (arith, tokens-left h, g .no-more one, tokens-left s)
 
-    on : (p : Parsed) → q ≡ answer-from p r (sample cs) → length (classes-from cs q) ≤ length (classes-from cs p)
-    on (Next at) e = part at (r (drop at (sample cs))) e
-    on (Refused at) e = rw e (omega arith)
-
+-- a turn of a loop leaves fewer tokens
 pub turn-less : {A : Type 0} {cs : List ℕ} {r : Reader A} {u v : Parsed} (test : ℕ → Bool) (q : Parsed) {b : Bool}
     → b ≡ first-passes test (classes-from cs q) → b ≡ true → Reads-as cs any-token q u → Reads-as cs r u v
     → length (classes-from cs v) < length (classes-from cs q)
-unfolding answer-from parse-answer classes-from first-passes any-token
-turn-less test (Refused at) n e h s = absurd (false≢true (sym n ∙ e))
-turn-less {cs = cs} {u = u} {v = v} test (Next at) n e h s =
-    part (drop at (sample cs)) (drop-classes at (sample cs) ∙ ap (drop at) (classes-sample cs)) (h .told (sample cs) (classes-sample cs))
-  where
-    part : (us : List Token) → classes-of us ≡ drop at cs → u ≡ parse-answer at (any-token us) → length (classes-from cs v) < length (drop at cs)
-    part [] i f = absurd (false≢true (ap (first-passes test) i ∙ sym n ∙ e))
-    part (t ∷ ts) i f =
-        let less : length (classes-from cs u) < length (drop at cs) = rw f (omega (arith, length-drop at cs, length-drop (at + 1) cs, ap length i)) in
-        omega (arith, tokens-left s)
+turn-less {cs = cs} test q n e h s = omega (arith, taken-less q (passes-some test (classes-from cs q) (sym n ∙ e)) h, tokens-left s)
 
 -- what the functions that look at one token answer: after a refusal, and at an index
 is-refused : (P : Parsed → Type 0) (p : Parsed) → OneOf (1 ∷ []) (tagOf the-type p) → ((at : ℕ) → P (Refused at)) → P p

@@ -136,44 +136,21 @@ spelled bs c = record { spelling = bs; class = c }
 unfoldable pub reserved : List Fixed
 unfolding ascii
 reserved =
-    spelled (ascii "interface") INTERFACE ∷
-    spelled (ascii "attribute") ATTRIBUTE ∷
-    spelled (ascii "event") EVENT ∷
-    spelled (ascii "action") ACTION ∷
-    spelled (ascii "entity") ENTITY ∷
-    spelled (ascii "rules") RULES ∷
-    spelled (ascii "when") WHEN ∷
-    spelled (ascii "from") FROM ∷
-    spelled (ascii "with") WITH ∷
-    spelled (ascii "value") VALUE ∷
-    spelled (ascii "changed") CHANGED ∷
-    spelled (ascii "trigger") TRIGGER ∷
-    spelled (ascii "on") ON ∷
-    spelled (ascii "end") END ∷
-    spelled (ascii "and") AND ∷
-    spelled (ascii "or") OR ∷
-    spelled (ascii "true") TRUE ∷
-    spelled (ascii "false") FALSE ∷
-    spelled (ascii "whole") WHOLE ∷
-    spelled (ascii "bool") BOOL ∷
-    spelled (ascii "real") REAL ∷ []
+    spelled (ascii "interface") INTERFACE ∷ spelled (ascii "attribute") ATTRIBUTE ∷ spelled (ascii "event") EVENT ∷
+    spelled (ascii "action") ACTION ∷ spelled (ascii "entity") ENTITY ∷ spelled (ascii "rules") RULES ∷
+    spelled (ascii "when") WHEN ∷ spelled (ascii "from") FROM ∷ spelled (ascii "with") WITH ∷
+    spelled (ascii "value") VALUE ∷ spelled (ascii "changed") CHANGED ∷ spelled (ascii "trigger") TRIGGER ∷
+    spelled (ascii "on") ON ∷ spelled (ascii "end") END ∷ spelled (ascii "and") AND ∷
+    spelled (ascii "or") OR ∷ spelled (ascii "true") TRUE ∷ spelled (ascii "false") FALSE ∷
+    spelled (ascii "whole") WHOLE ∷ spelled (ascii "bool") BOOL ∷ spelled (ascii "real") REAL ∷ []
 
 -- "a mark: one of `{ } ( ) : = , . + - * /`"
 unfoldable pub marks : List Fixed
 unfolding ascii
 marks =
-    spelled (ascii "{") BRACE-OPEN ∷
-    spelled (ascii "}") BRACE-CLOSE ∷
-    spelled (ascii "(") ROUND-OPEN ∷
-    spelled (ascii ")") ROUND-CLOSE ∷
-    spelled (ascii ":") COLON ∷
-    spelled (ascii "=") EQUALS ∷
-    spelled (ascii ",") COMMA ∷
-    spelled (ascii ".") DOT ∷
-    spelled (ascii "+") PLUS ∷
-    spelled (ascii "-") MINUS ∷
-    spelled (ascii "*") TIMES ∷
-    spelled (ascii "/") DIVIDE ∷ []
+    spelled (ascii "{") BRACE-OPEN ∷ spelled (ascii "}") BRACE-CLOSE ∷ spelled (ascii "(") ROUND-OPEN ∷ spelled (ascii ")") ROUND-CLOSE ∷
+    spelled (ascii ":") COLON ∷ spelled (ascii "=") EQUALS ∷ spelled (ascii ",") COMMA ∷ spelled (ascii ".") DOT ∷
+    spelled (ascii "+") PLUS ∷ spelled (ascii "-") MINUS ∷ spelled (ascii "*") TIMES ∷ spelled (ascii "/") DIVIDE ∷ []
 
 unfoldable pub class-in : List Fixed → List ℕ → Option ℕ
 unfolding same-bytes

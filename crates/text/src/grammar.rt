@@ -337,7 +337,11 @@ fn opener(classes: &[u8], from: Parsed, inside: u32) -> Parsed
         let open = any_token(classes, from);
         return token(classes, expression(classes, open, inside), ROUND_CLOSE);
     }
-    factor(classes, token(classes, from, MINUS), inside)
+    // A factor is read only after a token is taken: that the tokens left fall is why the cycle ends.
+    if class != MINUS {
+        return refused(from);
+    }
+    factor(classes, any_token(classes, from), inside)
 }
 
 // Factors under `*` and `/`.

@@ -1,6 +1,7 @@
 -- `atom`, `condition` and `conjunction` meet their contracts.
--- The measures: each call leaves fewer openers to come, or as many and has a lower rank.
+-- The measures: each call has fewer tokens left, or as many and a lower rank.
 use Prim.Native.Nat.{ℕ, _<_, _+_, _*_}
+use mathlib.Core.Path.{refl}
 use lib.ListN.{length}
 use borrow.Author.Needs.{needs}
 use borrow.Fn.Kinds.{In}
@@ -10,7 +11,7 @@ use Rattle.text.specs.ParseAnswers.{classes-from, is-class}
 use Rattle.text.specs.Readers.{joined}
 use Rattle.text.specs.Tokens.{AND, OR}
 use Rattle.text.proofs.CodeGrammarLaws.{some-condition, atom-halts, atom-lacks, atom-opens}
-use Rattle.text.proofs.CodeReaderLaws.{Going, begins, chain-answers, joined-answers, stops, goes-on, turn-less}
+use Rattle.text.proofs.CodeReaderLaws.{seen-less, Going, begins, chain-answers, joined-answers, stops, goes-on, chain-left, turn-less}
 use Rattle.text.proofs.grammar.atom.Reads as atom
 use Rattle.text.proofs.grammar.atom.Kinds as atom-kinds
 use Rattle.text.proofs.grammar.+atom+condition+conjunction.Lts-atom as atom-lts
@@ -29,13 +30,13 @@ use Rattle.text.proofs.grammar.+atom+condition+conjunction.{statement}
 use Rattle.text.proofs.grammar.+atom+condition+conjunction.Tie.{close}
 
 abbrev μ-atom : Measures 1 atom-kinds.ps ℕ
-μ-atom κs a = a .1 .1 .0 * 3
+μ-atom κs a = length (classes-from (a .0 .now) (a .1 .0)) * 3
 
 abbrev μ-condition : Measures 1 condition-kinds.ps ℕ
-μ-condition κs a = a .1 .1 .0 * 3 + 2
+μ-condition κs a = length (classes-from (a .0 .now) (a .1 .0)) * 3 + 2
 
 abbrev μ-conjunction : Measures 1 conjunction-kinds.ps ℕ
-μ-conjunction κs a = a .1 .1 .0 * 3 + 1
+μ-conjunction κs a = length (classes-from (a .0 .now) (a .1 .0)) * 3 + 1
 
 abbrev atom-at : ℕ → In 1 atom-kinds.ps
 atom-at t = and 1 atom-kinds.ps (is 1 atom-kinds.ps μ-atom t) atom.Pre
@@ -95,7 +96,9 @@ atom-sub-condition : (t : ℕ) → atom-lts.Need-sub-condition (atom-claims t) (
 atom-sub-condition t c = search needs
 
 atom-condition-requires : (t : ℕ) → atom-lts.Need-condition-requires (atom-claims t) (atom-at t) atom.Post
-atom-condition-requires t c κs = search needs
+atom-condition-requires t c κs =
+    let taken = seen-less (c .before .before .next-class .ensures) (c .before .if2 .left) refl (c .any-token .ensures) in
+    search needs
 
 atom-token-requires : (t : ℕ) → atom-lts.Need-token-requires (atom-claims t) (atom-at t) atom.Post
 atom-token-requires t c κs = search needs
@@ -132,7 +135,10 @@ condition-any-token-requires t c κs = search needs
 
 condition-conjunction-requires-2 : (t : ℕ) → condition-lts.Need-conjunction-requires-2
     (condition-claims t) (condition-at t) condition.Post condition-Inv-loop condition-μ-loop
-condition-conjunction-requires-2 t c κs = search needs
+condition-conjunction-requires-2 t c κs =
+    let left = chain-left some-condition (c .before .before .before .before .conjunction .ensures) (c .before .before .before .loop .inv)
+    (c .any-token .ensures) in
+    search needs
 
 condition-loop-less : (t : ℕ) → condition-lts.Need-loop-less (condition-claims t) (condition-at t) condition.Post condition-Inv-loop condition-μ-loop
 condition-loop-less t c =
@@ -178,7 +184,10 @@ conjunction-any-token-requires t c κs = search needs
 
 conjunction-atom-requires-2 : (t : ℕ) → conjunction-lts.Need-atom-requires-2
     (conjunction-claims t) (conjunction-at t) conjunction.Post conjunction-Inv-loop conjunction-μ-loop
-conjunction-atom-requires-2 t c κs = search needs
+conjunction-atom-requires-2 t c κs =
+    let left = chain-left some-condition (c .before .before .before .before .atom .ensures) (c .before .before .before .loop .inv)
+    (c .any-token .ensures) in
+    search needs
 
 conjunction-loop-less : (t : ℕ) → conjunction-lts.Need-loop-less
     (conjunction-claims t) (conjunction-at t) conjunction.Post conjunction-Inv-loop conjunction-μ-loop

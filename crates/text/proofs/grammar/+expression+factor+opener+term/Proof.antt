@@ -1,5 +1,5 @@
 -- `expression`, `factor`, `opener` and `term` meet their contracts.
--- The measures: each call leaves fewer openers to come, or as many and has a lower rank.
+-- The measures: each call has fewer tokens left, or as many and a lower rank.
 use Prim.Native.Nat.{ℕ, _<_, _+_, _*_}
 use mathlib.Core.Path.{refl}
 use lib.ListN.{length}
@@ -16,14 +16,19 @@ use Rattle.text.proofs.CodeReaderLaws.{
   and-give-answers,
   expect-answers,
   give-answers,
+  seen-answers,
+  seen-less,
   chosen-answers,
   if-not-answers,
+  unfit-answers,
   Going,
   begins,
   chain-answers,
   joined-answers,
   stops,
   goes-on,
+  tokens-left,
+  chain-left,
   turn-less,
 }
 use Rattle.text.proofs.grammar.expression.Reads as expression
@@ -49,16 +54,16 @@ use Rattle.text.proofs.grammar.+expression+factor+opener+term.{statemen
 use Rattle.text.proofs.grammar.+expression+factor+opener+term.Tie.{close}
 
 abbrev μ-expression : Measures 1 expression-kinds.ps ℕ
-μ-expression κs a = a .1 .1 .0 * 4 + 2
+μ-expression κs a = length (classes-from (a .0 .now) (a .1 .0)) * 4 + 3
 
 abbrev μ-factor : Measures 1 factor-kinds.ps ℕ
-μ-factor κs a = a .1 .1 .0 * 4
+μ-factor κs a = length (classes-from (a .0 .now) (a .1 .0)) * 4 + 1
 
 abbrev μ-opener : Measures 1 opener-kinds.ps ℕ
-μ-opener κs a = a .1 .1 .0 * 4 + 3
+μ-opener κs a = length (classes-from (a .0 .now) (a .1 .0)) * 4
 
 abbrev μ-term : Measures 1 term-kinds.ps ℕ
-μ-term κs a = a .1 .1 .0 * 4 + 1
+μ-term κs a = length (classes-from (a .0 .now) (a .1 .0)) * 4 + 2
 
 abbrev expression-at : ℕ → In 1 expression-kinds.ps
 expression-at t =
@@ -120,7 +125,10 @@ expression-any-token-requires t c κs = search needs
 
 expression-term-requires-2 : (t : ℕ) → expression-lts.Need-term-requires-2
     (expression-claims t) (expression-at t) expression.Post expression-Inv-loop expression-μ-loop
-expression-term-requires-2 t c κs = search needs
+expression-term-requires-2 t c κs =
+    let left = chain-left some-expression (c .before .before .before .before .term .ensures) (c .before .before .before .loop .inv)
+    (c .any-token .ensures) in
+    search needs
 
 expression-loop-less : (t : ℕ) → expression-lts.Need-loop-less
     (expression-claims t) (expression-at t) expression.Post expression-Inv-loop expression-μ-loop
@@ -206,6 +214,8 @@ opener-claims t = (
   token-reads.Learnt,
   expression-below t,
   expression.Post,
+  refused-reads.Asked,
+  refused-reads.Learnt,
   factor-below t,
   factor.Post,
 )
@@ -220,7 +230,10 @@ opener-token-requires : (t : ℕ) → opener-lts.Need-token-requires (opener-cla
 opener-token-requires t c κs = search needs
 
 opener-expression-requires : (t : ℕ) → opener-lts.Need-expression-requires (opener-claims t) (opener-at t) opener.Post
-opener-expression-requires t c κs = search needs
+opener-expression-requires t c κs =
+    let taken = seen-less (c .before .before .before .next-class .ensures) (c .before .before .if1 .taken) refl (c .before .any-token .ensures) in
+    let opened = tokens-left (c .token .ensures) in
+    search needs
 
 opener-token-requires-2 : (t : ℕ) → opener-lts.Need-token-requires-2 (opener-claims t) (opener-at t) opener.Post
 opener-token-requires-2 t c κs = search needs
@@ -239,7 +252,9 @@ opener-any-token-requires-2 : (t : ℕ) → opener-lts.Need-any-token-requires-2
 opener-any-token-requires-2 t c κs = search needs
 
 opener-expression-requires-2 : (t : ℕ) → opener-lts.Need-expression-requires-2 (opener-claims t) (opener-at t) opener.Post
-opener-expression-requires-2 t c κs = search needs
+opener-expression-requires-2 t c κs =
+    let taken = seen-less (c .before .before .before .next-class .ensures) (c .before .if2 .taken) refl (c .any-token2 .ensures) in
+    search needs
 
 opener-token-requires-3 : (t : ℕ) → opener-lts.Need-token-requires-3 (opener-claims t) (opener-at t) opener.Post
 opener-token-requires-3 t c κs = search needs
@@ -254,19 +269,32 @@ opener-returns-2 t c =
     expect-answers ROUND-CLOSE (c .token3 .ensures) λ t.
     give-answers _ _)
 
-opener-token-requires-4 : (t : ℕ) → opener-lts.Need-token-requires-4 (opener-claims t) (opener-at t) opener.Post
-opener-token-requires-4 t c κs = search needs
-
-opener-factor-requires : (t : ℕ) → opener-lts.Need-factor-requires (opener-claims t) (opener-at t) opener.Post
-opener-factor-requires t c κs = search needs
+opener-refused-requires : (t : ℕ) → opener-lts.Need-refused-requires (opener-claims t) (opener-at t) opener.Post
+opener-refused-requires t c κs = search needs
 
 opener-returns-3 : (t : ℕ) → opener-lts.Need-returns-3 (opener-claims t) (opener-at t) opener.Post
 unfolding opener-reader
 opener-returns-3 t c =
     let n = c .before .before .before .before .next-class .ensures in
     if-not-answers n _ (c .before .before .before .if1 .left)
-    (if-not-answers n _ (c .before .before .if2 .left)
-    (expect-answers MINUS (c .before .token4 .ensures) λ m. and-give-answers (c .factor .ensures) _))
+    (if-not-answers n _ (c .before .before .if2 .left) (unfit-answers n _ (c .before .if3 .taken) (c .refused .ensures)))
+
+opener-any-token-requires-3 : (t : ℕ) → opener-lts.Need-any-token-requires-3 (opener-claims t) (opener-at t) opener.Post
+opener-any-token-requires-3 t c κs = search needs
+
+opener-factor-requires : (t : ℕ) → opener-lts.Need-factor-requires (opener-claims t) (opener-at t) opener.Post
+opener-factor-requires t c κs =
+    let taken = seen-less (c .before .before .before .before .next-class .ensures) (c .before .if3 .left) refl (c .any-token3 .ensures) in
+    search needs
+
+opener-returns-4 : (t : ℕ) → opener-lts.Need-returns-4 (opener-claims t) (opener-at t) opener.Post
+unfolding opener-reader
+opener-returns-4 t c =
+    let n = c .before .before .before .before .before .next-class .ensures in
+    if-not-answers n _ (c .before .before .before .before .if1 .left)
+    (if-not-answers n _ (c .before .before .before .if2 .left)
+    (expect-answers MINUS (seen-answers n (c .before .before .if3 .left) refl (c .before .any-token3 .ensures)) λ m.
+    and-give-answers (c .factor .ensures) _))
 
 abbrev term-claims : ℕ → term-lts.Claims
 term-claims t = (factor-below t, factor.Post, next-is-either-reads.Asked, next-is-either-reads.Learnt, any-token-reads.Asked, any-token-reads.Learnt)
@@ -290,7 +318,10 @@ term-any-token-requires : (t : ℕ) → term-lts.Need-any-token-requires (term-c
 term-any-token-requires t c κs = search needs
 
 term-factor-requires-2 : (t : ℕ) → term-lts.Need-factor-requires-2 (term-claims t) (term-at t) term.Post term-Inv-loop term-μ-loop
-term-factor-requires-2 t c κs = search needs
+term-factor-requires-2 t c κs =
+    let left = chain-left some-expression (c .before .before .before .before .factor .ensures) (c .before .before .before .loop .inv)
+    (c .any-token .ensures) in
+    search needs
 
 term-loop-less : (t : ℕ) → term-lts.Need-loop-less (term-claims t) (term-at t) term.Post term-Inv-loop term-μ-loop
 term-loop-less t c =
@@ -350,9 +381,11 @@ pub +expression+factor+opener+term-spec : {M : Type 1} → statement M
     (opener-expression-requires-2 t)
     (opener-token-requires-3 t)
     (opener-returns-2 t)
-    (opener-token-requires-4 t)
+    (opener-refused-requires t)
+    (opener-returns-3 t)
+    (opener-any-token-requires-3 t)
     (opener-factor-requires t)
-    (opener-returns-3 t))
+    (opener-returns-4 t))
     λ t. term-lts.spec (term-claims t)
     (term-at t)
     term.Post
