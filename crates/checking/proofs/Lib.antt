@@ -6,3 +6,4 @@ pub mod CheckedExpressions
 pub mod CheckedFile
 pub mod FaultLaws
 pub mod DirectoryLaws
+pub mod ReadingVerdict

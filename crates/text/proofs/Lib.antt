@@ -20,3 +20,4 @@ pub mod LexLaws
 pub mod TokenFacts
 pub mod CodeReaderLaws
 pub mod CodeGrammarLaws
+pub mod SyntaxLaws

@@ -8,3 +8,4 @@ pub mod Parse
 pub mod ParseAnswers
 pub mod Language
 pub mod Viable
+pub mod Syntaxes

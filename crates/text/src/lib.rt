@@ -2,6 +2,7 @@
 pub mod bytes; // which bytes tokens and gaps are made of
 pub mod classes; // the numbers of the tokens' classes
 pub mod grammar; // which token classes make a file
+pub mod reading; // a text into columns of tokens that are a file
 pub mod tokens; // what begins at an offset, and all tokens as columns
 
 pub use bytes::is_between;
@@ -13,6 +14,9 @@ pub use bytes::is_name_byte;
 pub use bytes::mark_class;
 pub use grammar::Parsing;
 pub use grammar::parse;
+pub use reading::Syntax;
+pub use reading::read;
+pub use reading::text_read;
 pub use tokens::lex;
 pub use tokens::name_class;
 pub use tokens::token_at;

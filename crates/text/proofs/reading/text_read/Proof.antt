@@ -1,0 +1,38 @@
+-- `text_read` meets its contract: the answer of `read`, which fits one number.
+use Rattle.text.proofs.SyntaxLaws.{answer-fits, numbered}
+use borrow.Author.Needs.{needs}
+use Rattle.text.proofs.reading.text_read.Statement.{statement}
+use Rattle.text.proofs.reading.text_read.Tie as tie
+
+read-requires : tie.Need-read-requires
+read-requires c κs = search needs
+
+number-requires : tie.Need-number-requires
+number-requires c κs = answer-fits _ _ _ _ (c .before .before .before .before .before .before .before .before .read .ensures .says)
+
+same-length : tie.Need-same-length
+same-length c = c .before .before .before .before .before .before .before .before .before .read .ensures .classes-kept
+
+same-length-2 : tie.Need-same-length-2
+same-length-2 c = c .before .before .before .before .before .before .before .before .before .read .ensures .offsets-kept
+
+same-length-3 : tie.Need-same-length-3
+same-length-3 c = c .before .before .before .before .before .before .before .before .before .read .ensures .lengths-kept
+
+same-length-4 : tie.Need-same-length-4
+same-length-4 c = c .before .before .before .before .before .before .before .before .before .read .ensures .values-kept
+
+returns : tie.Need-returns
+returns c = numbered (c .before .before .before .before .before .before .before .before .before .read .ensures) (c .number .ensures)
+
+pub text-read-spec : {M : Type 1} → statement M
+text-read-spec =
+    tie.close
+    (tie.spec
+    read-requires
+    number-requires
+    same-length
+    same-length-2
+    same-length-3
+    same-length-4
+    returns)
