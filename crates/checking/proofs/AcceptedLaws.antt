@@ -74,13 +74,13 @@ accepted-parsed text f h = by-length (leb (length text) MOST-BYTES) h
 
 -- ---- counts
 
-within : {A : Type 0} (most : ℕ) (place : A → ℕ) (xs : List A) → beyond most (map place xs) ≡ [] → length xs ≤ most
+pub within : {A : Type 0} (most : ℕ) (place : A → ℕ) (xs : List A) → beyond most (map place xs) ≡ [] → length xs ≤ most
 unfolding beyond
 within most place xs h =
     let l = drop-empty most (map place xs) (mapped-empty (fault 14) (drop most (map place xs)) h) in
     rw length-map at l
 
-counted : (f : File) → count-faults f ≡ []
+pub counted : (f : File) → count-faults f ≡ []
     → (beyond 16 (map (λ (i : Interface). i .at) (f .interfaces)) ≡ []) × (flatMap interface-counts (f .interfaces) ≡ [])
     × (beyond 32 (map (λ (e : Entity). e .at) (f .entities)) ≡ []) × (beyond 64 (map (λ (r : Rule). r .at) (f .rules)) ≡ [])
     × (flatMap rule-counts (f .rules) ≡ [])

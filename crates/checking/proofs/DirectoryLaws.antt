@@ -16,6 +16,7 @@ use Rattle.text.proofs.ListLaws.{none-some}
 use Rattle.checking.specs.Scope.{Found, here-or-later, look-up}
 use Rattle.checking.specs.Directory.{
   name-in,
+  Columns-of,
   Named,
   Bench,
   sort-class,
@@ -158,12 +159,34 @@ module _ {text offsets lengths d : List ℕ} {base count most i : ℕ} where
         same = λ few. sym (first-later (is-named text offsets lengths d base i) most k count m (tested ∙ t)) ∙ p .same few;
       }
 
+-- ---- tokens that stand in columns
+
+module _ {text classes offsets lengths : List ℕ} {ts : List Token} (columns : Columns-of text classes offsets lengths ts) where
+  pub column-bytes : {p : ℕ} {n : Name} → Named ts p n → name-in text offsets lengths p ≡ n .bytes
+  unfolding name-of
+  column-bytes {p} m = sym (columns .bytes p (m .token) (m .stands)) ∙ ap (λ (n : Name). n .bytes) (m .is)
+
+  pub column-offset : {p : ℕ} {n : Name} → Named ts p n → getD offsets p 0 ≡ n .at
+  unfolding name-of
+  column-offset {p} m = sym (columns .offset p (m .token) (m .stands)) ∙ ap (λ (n : Name). n .at) (m .is)
+
+  -- the first of the directory's items is the first item of the list
+  module _ {A : Type 0} (name : A → Name) (xs : List A) (d : List ℕ) (base most i : ℕ)
+      (rows : (k : ℕ) (x : A) → getElem? xs k ≡ some x → Named ts (getD d (base + k) 0 + 1) (name x)) where
+    pub first-among : {count r : ℕ} → First-named text offsets lengths d base count most i r → count ≡ length xs → length xs ≤ most
+        → r ≡ number-or most (look-up name (name-in text offsets lengths i) xs)
+    unfolding is-named
+    first-among {count} f e few =
+        f .first (omega arith)
+        ∙ ap (first-number (is-named text offsets lengths d base i) most 0) e
+        ∙ number-found name (name-in text offsets lengths i) (is-named text offsets lengths d base i) most xs
+        (λ j x s. ap (same-bytes (name-in text offsets lengths i)) (column-bytes (rows j x s)))
+
 -- ---- a file that stands in the columns and the directory
 
 module _ {text classes offsets lengths d : List ℕ} (w : Bench text classes offsets lengths d) where
   pub named-bytes : {p : ℕ} {n : Name} → Named (w .tokens) p n → name-in text offsets lengths p ≡ n .bytes
-  unfolding name-of
-  named-bytes {p} m = sym (w .columns .bytes p (m .token) (m .stands)) ∙ ap (λ (n : Name). n .bytes) (m .is)
+  named-bytes m = column-bytes (w .columns) m
 
   pub class-stands : (p : ℕ) {c : ℕ} → (t : Token) × (getElem? (w .tokens) p ≡ some t) × (t .class ≡ c) → getD classes p 0 ≡ c
   class-stands p (t, s, e) = sym (w .columns .class p t s) ∙ e
@@ -173,12 +196,7 @@ module _ {text classes offsets lengths d : List ℕ} (w : Bench text classes off
       (rows : (k : ℕ) (x : A) → getElem? xs k ≡ some x → Named (w .tokens) (getD d (base + k) 0 + 1) (name x)) where
     pub first-named : {count r : ℕ} → First-named text offsets lengths d base count most i r → count ≡ length xs → length xs ≤ most
         → r ≡ number-or most (look-up name (name-in text offsets lengths i) xs)
-    unfolding is-named
-    first-named {count} f e few =
-        f .first (omega arith)
-        ∙ ap (first-number (is-named text offsets lengths d base i) most 0) e
-        ∙ number-found name (name-in text offsets lengths i) (is-named text offsets lengths d base i) most xs
-        (λ j x s. ap (same-bytes (name-in text offsets lengths i)) (named-bytes (rows j x s)))
+    first-named f e few = first-among (w .columns) name xs d base most i rows f e few
 
 module _ {text offsets lengths d : List ℕ} where
   pub interface-numbered : {i count r : ℕ} → count ≡ getD d 0 0 → First-named text offsets lengths d 3 count 16 i r

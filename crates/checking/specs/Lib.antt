@@ -7,3 +7,10 @@ pub mod Verdict
 pub mod Directory
 pub mod FoundFaults
 pub mod DirectoryReads
+pub mod CountScan
+pub mod CountChecked
+pub mod ClassSearch
+pub mod TokenPlaces
+pub mod DirectoryItems
+pub mod Sequences
+pub mod DeclarationWalk

@@ -31,3 +31,9 @@ pub fn unless(ok: bool, code: u8, at: u32) -> Found
     }
     Found::Fault { code, at }
 }
+
+// What a part of the file has: of its names, and of its kinds.
+pub struct Faulted {
+    pub names: Found,
+    pub kinds: Found,
+}

@@ -1,14 +1,25 @@
 // Which bench files are accepted.
+pub mod counts; // the counts of a file's items
+pub mod directory; // where a file's items begin
+pub mod entities; // the entities of a file
 pub mod faults; // what a walk of the check finds
+pub mod interfaces; // the interfaces of a file
 pub mod table; // what the columns and the directory say
 
 ghost use mathlib.Core.Path.{_≡_};
 ghost use Prim.Native.Nat.{_+_, _*_, _<_};
+pub use counts::count_fault;
+pub use directory::build;
+pub use entities::entity_faults;
+pub use entities::link_entities;
+pub use faults::Faulted;
 pub use faults::Found;
 pub use faults::earlier;
 pub use faults::unless;
+pub use interfaces::interface_faults;
 pub use table::class_at;
 pub use table::entity_number;
+pub use table::first_of;
 pub use table::interface_number;
 pub use table::member_kind;
 pub use table::member_number;

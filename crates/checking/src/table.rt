@@ -4,6 +4,7 @@ ghost use Prim.Native.Nat.{_<_, _≤_};
 ghost use lib.ListN.{length, getD, getElem?};
 ghost use Rattle.values.specs.Bytes.{same-bytes};
 ghost use Rattle.checking.specs.Directory.{name-in, sort-class, kind-class, interface-number, entity-number, member-number};
+ghost use Rattle.checking.specs.ClassSearch.{First-of};
 ghost use Rattle.checking.specs.DirectoryReads.{First-named, Number-of, Member-row, Member-class, few-members};
 
 // A row of the directory, or of the offsets.
@@ -24,6 +25,20 @@ pub fn class_at(classes: &[u8], i: usize) -> u8
         return 0;
     }
     classes[i]
+}
+
+// The first token of a class from number `from` on; the count of tokens if there is none.
+pub fn first_of(classes: &[u8], class: u8, from: usize) -> usize
+    ensures { λ r. ⌜ First-of (now (classes .entry)) class from r ⌝ }
+{
+    let mut i = from;
+    while i < classes.len() {
+        if classes[i] == class {
+            return i;
+        }
+        i += 1;
+    }
+    i
 }
 
 // The bytes of token number i: those that the text has of them.
@@ -55,7 +70,7 @@ pub fn same_name(text: &[u8], offsets: &[u16], lengths: &[u8], i: usize, j: usiz
 }
 
 // The first of the directory's items, so many rows from `base` on, whose name is that of token number i; `most` if there is none.
-fn first_named(
+pub fn first_named(
     text: &[u8],
     offsets: &[u16],
     lengths: &[u8],
@@ -121,7 +136,7 @@ pub fn member_number(
 }
 
 // The row of member number m of interface number `face`, or 0.
-fn member_at(d: &[u16], face: usize, m: usize) -> usize
+pub fn member_at(d: &[u16], face: usize, m: usize) -> usize
     ensures { λ r. ⌜ Member-row (now (d .entry)) face m r ⌝ }
 {
     if row(d, 0) <= face {

@@ -21,3 +21,7 @@ pub mod TokenFacts
 pub mod CodeReaderLaws
 pub mod CodeGrammarLaws
 pub mod SyntaxLaws
+pub mod SpotLaws
+pub mod DeclarationMarks
+pub mod RuleMarks
+pub mod FlatLaws

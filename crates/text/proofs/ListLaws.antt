@@ -3,7 +3,7 @@ use Prim.Native.Nat.{ℕ, zero, suc, _≤_}
 use native.Mathlib.Omega.{arith}
 use mathlib.Core.Path.{_≡_, refl, sym, ap, _∙_, subst}
 use mathlib.Core.Logic.{_⊎_, inl, inr}
-use mathlib.Core.List.{List, [], _∷_, _++_, map, flatMap, cons≢nil}
+use mathlib.Core.List.{List, [], _∷_, _++_, map, flatMap, cons≢nil, append-assoc, map-append}
 use mathlib.Core.List.{
   List·Memᴰ,
   List·Memᴰ·head,
@@ -120,3 +120,46 @@ module _ {A : Type 0} where
   number-member [] n h = absurd (none-some h)
   number-member (y ∷ ys) zero h = List·Memᴰ·head (sym (some-injective h))
   number-member (y ∷ ys) (suc n) h = List·Memᴰ·tail (number-member ys n h)
+
+module _ {A B : Type 0} where
+  pub flatMap-append : (f : A → List B) (xs ys : List A) → flatMap f (xs ++ ys) ≡ flatMap f xs ++ flatMap f ys
+  unfolding flatMap
+  flatMap-append f [] ys = refl
+  flatMap-append f (x ∷ xs) ys = ap (λ l. f x ++ l) (flatMap-append f xs ys) ∙ sym (append-assoc (f x) (flatMap f xs) (flatMap f ys))
+
+  pub flatMap-single : (f : A → B) (xs : List A) → flatMap (λ x. f x ∷ []) xs ≡ map f xs
+  unfolding flatMap
+  flatMap-single f [] = refl
+  flatMap-single f (x ∷ xs) = ap (λ l. f x ∷ l) (flatMap-single f xs)
+
+  pub flatMap-none : (xs : List A) → flatMap {B = B} (λ x. []) xs ≡ []
+  unfolding flatMap
+  flatMap-none [] = refl
+  flatMap-none (x ∷ xs) = flatMap-none xs
+
+module _ {A B C : Type 0} where
+  pub flatMap-map-none : (f : B → List C) (g : A → B) → ((x : A) → f (g x) ≡ []) → (xs : List A) → flatMap f (map g xs) ≡ []
+  unfolding flatMap
+  flatMap-map-none f g e [] = refl
+  flatMap-map-none f g e (x ∷ xs) = rw (e x) (flatMap-map-none f g e xs)
+
+  pub flatMap-map : (f : B → List C) (g : A → B) (xs : List A) → flatMap f (map g xs) ≡ flatMap (λ x. f (g x)) xs
+  unfolding flatMap
+  flatMap-map f g [] = refl
+  flatMap-map f g (x ∷ xs) = ap (λ l. f (g x) ++ l) (flatMap-map f g xs)
+
+  pub map-flatMap : (f : B → C) (g : A → List B) (xs : List A) → map f (flatMap g xs) ≡ flatMap (λ x. map f (g x)) xs
+  unfolding flatMap
+  map-flatMap f g [] = refl
+  map-flatMap f g (x ∷ xs) = map-append f (g x) (flatMap g xs) ∙ ap (λ l. map f (g x) ++ l) (map-flatMap f g xs)
+
+  pub flatMap-flatMap : (f : B → List C) (g : A → List B) (h : A → List C) → ((x : A) → flatMap f (g x) ≡ h x)
+      → (xs : List A) → flatMap f (flatMap g xs) ≡ flatMap h xs
+  unfolding flatMap
+  flatMap-flatMap f g h e [] = refl
+  flatMap-flatMap f g h e (x ∷ xs) = flatMap-append f (g x) (flatMap g xs) ∙ rw (e x, flatMap-flatMap f g h e xs)
+
+pub flatMap-self : {A : Type 0} (xs : List A) → flatMap (λ x. x ∷ []) xs ≡ xs
+unfolding flatMap
+flatMap-self [] = refl
+flatMap-self (x ∷ xs) = ap (λ l. x ∷ l) (flatMap-self xs)

@@ -29,10 +29,10 @@ use Rattle.text.specs.Readers.{
 }
 use Rattle.text.proofs.ListLaws.{All, all-none, all-cons, all-append, all-drop}
 
-read-tree : {A : Type 0} {a b : A} {m n : ℕ} → read a m ≡ read b n → a ≡ b
+pub read-tree : {A : Type 0} {a b : A} {m n : ℕ} → read a m ≡ read b n → a ≡ b
 read-tree h = cc
 
-refused-read : {A : Type 0} {a : A} {m n : ℕ} → refused m ≡ read a n → ⊥
+pub refused-read : {A : Type 0} {a : A} {m n : ℕ} → refused m ≡ read a n → ⊥
 refused-read h = let z : _≡_ {A = ℕ} 0 1 = cc in omega arith
 
 shift-read : {A : Type 0} (n : ℕ) (p : Parse A) {a : A} {m : ℕ} → shift n p ≡ read a m → (k : ℕ) × (p ≡ read a k)

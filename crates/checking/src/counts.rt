@@ -1,0 +1,132 @@
+// The counts: the earliest first word of an item beyond one, by a scan of the columns. In a grammatical file the class of a token alone
+// says which item it begins, once it is known whether `rules` has come.
+ghost use mathlib.Core.Path.{_≡_};
+ghost use Prim.Native.Nat.{_-_};
+ghost use lib.ListN.{length};
+ghost use Rattle.checking.specs.Faults.{earliest};
+ghost use Rattle.checking.specs.FoundFaults.{found-as};
+ghost use Rattle.checking.specs.CountScan.{past, declared-scan, ruled-scan};
+ghost use Rattle.checking.specs.CountChecked.{Count-checked};
+use crate::faults::Found;
+use crate::faults::earlier;
+use crate::table::class_at;
+use crate::table::first_of;
+use crate::table::row;
+use text::classes::ACTION;
+use text::classes::ATTRIBUTE;
+use text::classes::COLON;
+use text::classes::ENTITY;
+use text::classes::EVENT;
+use text::classes::INTERFACE;
+use text::classes::RULES;
+use text::classes::WHEN;
+
+fn one_less(n: usize) -> usize
+    ensures { λ r. ⌜ r ≡ n - 1 ⌝ }
+{
+    if n == 0 {
+        return 0;
+    }
+    n - 1
+}
+
+// A fault at token number i if no more items may come.
+fn over(offsets: &[u16], left: usize, i: usize) -> Found
+    ensures { λ r. ⌜ found-as r ≡ earliest (past (now (offsets .entry)) left i) ⌝ }
+{
+    if left > 0 {
+        return Found::Nothing;
+    }
+    Found::Fault {
+        code: 14,
+        at: row(offsets, i) as u32,
+    }
+}
+
+// Interfaces, their members, and entities: of the tokens before number `end`.
+fn declaration_fault(classes: &[u8], offsets: &[u16], end: usize) -> Found
+    ensures { λ r. ⌜ found-as r ≡ earliest (declared-scan (now (classes .entry)) (now (offsets .entry)) end 0 16 12 32) ⌝ }
+{
+    let mut interfaces: usize = 16;
+    let mut members: usize = 12;
+    let mut entities: usize = 32;
+    let mut found = Found::Nothing;
+    let mut i: usize = 0;
+    while i < end {
+        let class = class_at(classes, i);
+        let here = i;
+        i += 1;
+        if class == INTERFACE {
+            found = earlier(found, over(offsets, interfaces, here));
+            interfaces = one_less(interfaces);
+            members = 12;
+            continue;
+        }
+        if class < ATTRIBUTE {
+            continue;
+        }
+        if class <= ACTION {
+            found = earlier(found, over(offsets, members, here));
+            members = one_less(members);
+            continue;
+        }
+        if class == ENTITY {
+            found = earlier(found, over(offsets, entities, here));
+            entities = one_less(entities);
+        }
+    }
+    found
+}
+
+// Rules, and in each its variables, clauses and calls: of the tokens from number `from` on.
+fn rule_fault(classes: &[u8], offsets: &[u16], from: usize) -> Found
+    ensures { λ r. ⌜
+        found-as r
+        ≡ earliest (ruled-scan (now (classes .entry)) (now (offsets .entry)) (length (now (classes .entry)) - from) from 64 3 8 8) ⌝ }
+{
+    let mut rules: usize = 64;
+    let mut variables: usize = 3;
+    let mut clauses: usize = 8;
+    let mut calls: usize = 8;
+    let mut found = Found::Nothing;
+    let mut i = from;
+    while i < classes.len() {
+        let class = class_at(classes, i);
+        let here = i;
+        i += 1;
+        if class == WHEN {
+            found = earlier(found, over(offsets, rules, here));
+            rules = one_less(rules);
+            variables = 3;
+            clauses = 8;
+            calls = 8;
+            continue;
+        }
+        if class == COLON {
+            found = earlier(found, over(offsets, variables, one_less(here)));
+            variables = one_less(variables);
+            continue;
+        }
+        if class == EVENT {
+            found = earlier(found, over(offsets, clauses, here));
+            clauses = one_less(clauses);
+            continue;
+        }
+        if class == ACTION {
+            found = earlier(found, over(offsets, calls, here));
+            calls = one_less(calls);
+        }
+    }
+    found
+}
+
+// The earliest item of a grammatical file beyond a count.
+pub fn count_fault(classes: &[u8], offsets: &[u16]) -> Found
+    ensures { λ r. ⌜ Count-checked (now (classes .entry)) (now (offsets .entry)) r ⌝ }
+{
+    let rules = first_of(classes, RULES, 0);
+    earlier(
+        declaration_fault(classes, offsets, rules),
+        rule_fault(classes, offsets, rules),
+    )
+}
