@@ -18,3 +18,8 @@ pub mod SoundLine
 pub mod SoundFresh
 pub mod SoundCycle
 pub mod AcceptedSound
+pub mod EvaluationLaws
+pub mod ExpressionValues
+pub mod ConditionValues
+pub mod AvoidLaws
+pub mod CallWrites

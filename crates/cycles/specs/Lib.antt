@@ -2,6 +2,7 @@ pub mod Outcome
 pub mod Store
 pub mod Spots
 pub mod Evaluate
+pub mod Evaluation
 pub mod Reference
 pub mod Bindings
 pub mod Cycle

@@ -25,3 +25,6 @@ pub mod SpotLaws
 pub mod DeclarationMarks
 pub mod RuleMarks
 pub mod FlatLaws
+pub mod WalkLaws
+pub mod ExpressionWalks
+pub mod ConditionWalks

@@ -6,6 +6,7 @@ pub mod Readers
 pub mod Grammar
 pub mod Parse
 pub mod ParseAnswers
+pub mod Walks
 pub mod Language
 pub mod Viable
 pub mod Syntaxes

@@ -4,6 +4,7 @@ pub mod classes; // the numbers of the tokens' classes
 pub mod grammar; // which token classes make a file
 pub mod reading; // a text into columns of tokens that are a file
 pub mod tokens; // what begins at an offset, and all tokens as columns
+pub mod walks; // one step over a column
 
 pub use bytes::is_between;
 pub use bytes::is_blank;

@@ -1,0 +1,98 @@
+-- `leaf` meets its contract.
+use borrow.Author.Needs.{needs}
+use Rattle.text.proofs.ExpressionWalks.{leaf-end}
+use Rattle.cycles.proofs.ExpressionValues.{leaf-cell, leaf-is-true, leaf-is-false, leaf-is-whole, leaf-is-real, leaf-is-other}
+use Rattle.cycles.proofs.expressions.leaf.Statement.{statement}
+use Rattle.cycles.proofs.expressions.leaf.Tie as tie
+
+returns : tie.Need-returns
+returns c = leaf-end (c .if1 .taken)
+
+class-at-requires : tie.Need-class-at-requires
+class-at-requires c κs = search needs
+
+skip-requires : tie.Need-skip-requires
+skip-requires c κs = search needs
+
+skip-requires-2 : tie.Need-skip-requires-2
+skip-requires-2 c κs = search needs
+
+class-at-requires-2 : tie.Need-class-at-requires-2
+class-at-requires-2 c κs = search needs
+
+bound-requires : tie.Need-bound-requires
+bound-requires c κs = search needs
+
+class-at-requires-3 : tie.Need-class-at-requires-3
+class-at-requires-3 c κs = search needs
+
+read-cell-requires : tie.Need-read-cell-requires
+read-cell-requires c κs = search needs
+
+skip-requires-3 : tie.Need-skip-requires-3
+skip-requires-3 c κs = search needs
+
+returns-2 : tie.Need-returns-2
+returns-2 c =
+    leaf-cell (c .before .before .before .before .before .before .before .before .class-at .ensures)
+    (c .before .before .before .before .before .before .before .before .before .if1 .left)
+    (c .before .before .before .before .before .before .if2 .taken) (c .before .before .before .before .before .before .before .skip .ensures)
+    (c .before .before .before .before .before .skip2 .ensures) (c .skip3 .ensures) (c .before .before .before .before .class-at2 .ensures)
+    (c .before .before .before .bound .ensures) (c .before .before .class-at3 .ensures) (c .before .read-cell .ensures)
+
+returns-3 : tie.Need-returns-3
+returns-3 c = leaf-is-true (c .before .before .before .class-at .ensures) (c .if3 .taken) (c .before .before .skip .ensures)
+
+returns-4 : tie.Need-returns-4
+returns-4 c = leaf-is-false (c .before .before .before .before .class-at .ensures) (c .if4 .taken) (c .before .before .before .skip .ensures)
+
+number-requires : tie.Need-number-requires
+number-requires c κs = search needs
+
+whole-literal-requires : tie.Need-whole-literal-requires
+whole-literal-requires c κs = search needs
+
+returns-5 : tie.Need-returns-5
+returns-5 c =
+    leaf-is-whole (c .before .before .before .before .before .before .before .class-at .ensures) (c .before .before .if5 .taken)
+    (c .before .before .before .before .before .before .skip .ensures) (c .before .number .ensures) (c .whole-literal .ensures)
+
+number-requires-2 : tie.Need-number-requires-2
+number-requires-2 c κs = search needs
+
+real-literal-requires : tie.Need-real-literal-requires
+real-literal-requires c κs = search needs
+
+returns-6 : tie.Need-returns-6
+returns-6 c =
+    leaf-is-real (c .before .before .before .before .before .before .before .before .class-at .ensures) (c .before .before .if6 .taken)
+    (c .before .before .before .before .before .before .before .skip .ensures) (c .before .number2 .ensures) (c .real-literal .ensures)
+
+returns-7 : tie.Need-returns-7
+returns-7 c =
+    leaf-is-other (c .before .before .before .before .before .before .class-at .ensures) (c .before .before .before .before .if2 .left)
+    (c .before .before .before .if3 .left) (c .before .before .if4 .left) (c .before .if5 .left) (c .if6 .left)
+
+pub leaf-spec : {M : Type 1} → statement M
+leaf-spec =
+    tie.close
+    (tie.spec
+    returns
+    class-at-requires
+    skip-requires
+    skip-requires-2
+    class-at-requires-2
+    bound-requires
+    class-at-requires-3
+    read-cell-requires
+    skip-requires-3
+    returns-2
+    returns-3
+    returns-4
+    number-requires
+    whole-literal-requires
+    returns-5
+    number-requires-2
+    real-literal-requires
+    returns-6
+    returns-7)

@@ -1,0 +1,149 @@
+// The writes of a rule at one binding: of each of its calls, if its condition holds.
+ghost use Prim.Native.Nat.{_≤_};
+ghost use lib.ListN.{length};
+ghost use Rattle.text.specs.Tokens.{COMMA};
+ghost use Rattle.text.specs.Readers.{many};
+ghost use Rattle.text.specs.Grammar.{call-reader, call-after};
+ghost use Rattle.cycles.specs.Evaluation.{Call-walk, Calls-walk, Rule-puts};
+use crate::conditions::both;
+use crate::conditions::condition;
+use crate::conditions::filter;
+use crate::conditions::target_end;
+use crate::evaluate::Binding;
+use crate::evaluate::bound;
+use crate::evaluate::is_present;
+use crate::evaluate::put;
+use crate::expressions::expression;
+use checking::class_at;
+use text::classes::COMMA;
+use text::walks::skip;
+
+// The openers that may enclose one another.
+const OPENERS: u32 = 16;
+
+// One call: what it writes goes into the area, of 384 cells. The number of the token after it.
+fn call(
+    classes: &[u8],
+    values: &[u32],
+    refs: &[u8],
+    b: Binding,
+    flags: &[u8],
+    cells: &[u8],
+    at: usize,
+    area: &mut [u8],
+) -> usize
+    requires { ⌜ 3456 ≤ length (now area) ⌝ }
+    ensures { λ r. ⌜
+        Call-walk (now (classes .entry)) (now (values .entry)) (now (refs .entry)) b (now (flags .entry)) (now (cells .entry)) (now (area .entry))
+        call-reader at (now (area .exit)) r ⌝ }
+{
+    let size = classes.len();
+    let name = skip(at, size);
+    let opener = skip(name, size);
+    let x = expression(
+        classes,
+        values,
+        refs,
+        b,
+        flags,
+        cells,
+        skip(opener, size),
+        OPENERS,
+    );
+    let v = x.value;
+    let on = skip(x.next, size);
+    let owner = skip(on, size);
+    let e = bound(b, class_at(refs, owner));
+    let f = filter(
+        classes,
+        values,
+        refs,
+        b,
+        flags,
+        cells,
+        e,
+        target_end(classes, owner),
+        OPENERS,
+    );
+    let made = both(is_present(flags, e), both(f.holds, values::is_set(v)));
+    put(area, made, e, class_at(refs, name), v);
+    f.next
+}
+
+// Further calls, each after a `,`.
+fn further_calls(
+    classes: &[u8],
+    values: &[u32],
+    refs: &[u8],
+    b: Binding,
+    flags: &[u8],
+    cells: &[u8],
+    at: usize,
+    area: &mut [u8],
+) -> usize
+    requires { ⌜ 3456 ≤ length (now area) ⌝ }
+    ensures { λ r. ⌜
+        Calls-walk (now (classes .entry)) (now (values .entry)) (now (refs .entry)) b (now (flags .entry)) (now (cells .entry)) (now (area .entry))
+        (many COMMA call-after) at (now (area .exit)) r ⌝ }
+{
+    let mut i = at;
+    while class_at(classes, i) == COMMA {
+        i = call(
+            classes,
+            values,
+            refs,
+            b,
+            flags,
+            cells,
+            skip(i, classes.len()),
+            area,
+        );
+    }
+    i
+}
+
+// The rule whose tokens after `when` begin at number `at`.
+pub fn rule_at(
+    classes: &[u8],
+    values: &[u32],
+    refs: &[u8],
+    b: Binding,
+    flags: &[u8],
+    cells: &[u8],
+    previous_flags: &[u8],
+    previous_cells: &[u8],
+    at: usize,
+    area: &mut [u8],
+)
+    requires { ⌜ 3456 ≤ length (now area) ⌝ }
+    ensures { λ _. ⌜
+        Rule-puts (now (classes .entry)) (now (values .entry)) (now (refs .entry)) b (now (flags .entry)) (now (cells .entry))
+        (now («previous_flags» .entry)) (now («previous_cells» .entry)) at (now (area .entry)) (now (area .exit)) ⌝ }
+{
+    let c = condition(
+        classes,
+        values,
+        refs,
+        b,
+        flags,
+        cells,
+        previous_flags,
+        previous_cells,
+        at,
+        OPENERS,
+    );
+    if !c.holds {
+        return;
+    }
+    let next = call(
+        classes,
+        values,
+        refs,
+        b,
+        flags,
+        cells,
+        skip(c.next, classes.len()),
+        area,
+    );
+    further_calls(classes, values, refs, b, flags, cells, next, area);
+}

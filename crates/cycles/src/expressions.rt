@@ -1,0 +1,284 @@
+// The value of an expression in one store, by a walk over its tokens.
+ghost use mathlib.Core.Path.{_≡_};
+ghost use lib.IntN.{pos};
+ghost use lib.Ieee.{binary64, ofInt};
+ghost use lib.ListN.{getD};
+ghost use Rattle.values.specs.Value.{fitted, settled};
+ghost use Rattle.text.specs.Readers.{halt};
+ghost use Rattle.text.specs.Grammar.{operator-of, is-factor-operator, is-term-operator};
+ghost use Rattle.text.specs.Grammar.{member-reader, simple-or, factor-reader, term-reader, expression-reader};
+ghost use Rattle.cycles.specs.Evaluation.{Expression-walk};
+use crate::evaluate::Binding;
+use crate::evaluate::bound;
+use crate::evaluate::read_cell;
+use checking::class_at;
+use text::classes::DIVIDE;
+use text::classes::FALSE;
+use text::classes::MINUS;
+use text::classes::NAME;
+use text::classes::PLUS;
+use text::classes::REAL;
+use text::classes::REAL_NUMBER;
+use text::classes::ROUND_OPEN;
+use text::classes::TIMES;
+use text::classes::TRUE;
+use text::classes::WHOLE_NUMBER;
+use text::walks::skip;
+use values::Operator;
+use values::Value;
+
+// A value, and the number of the token after what it was read from.
+pub struct Valued {
+    pub value: Value,
+    pub next: usize,
+}
+
+fn number(values: &[u32], i: usize) -> u32
+    ensures { λ r. ⌜ r ≡ getD (now (values .entry)) i 0 ⌝ }
+{
+    if values.len() <= i {
+        return 0;
+    }
+    values[i]
+}
+
+fn whole_literal(n: u32) -> Value
+    ensures { λ r. ⌜ r ≡ fitted (pos n) ⌝ }
+{
+    values::fit(n as i64)
+}
+
+fn real_literal(n: u32) -> Value
+    ensures { λ r. ⌜ r ≡ settled (ofInt binary64 (pos n)) ⌝ }
+{
+    values::settle(n as f64)
+}
+
+fn operator_of(class: u8) -> Operator
+    ensures { λ r. ⌜ r ≡ operator-of class ⌝ }
+{
+    if class == PLUS {
+        return Operator::Plus;
+    }
+    if class == MINUS {
+        return Operator::Minus;
+    }
+    if class == TIMES {
+        return Operator::Times;
+    }
+    Operator::Divide
+}
+
+fn is_factor_operator(class: u8) -> bool
+    ensures { λ r. ⌜ r ≡ is-factor-operator class ⌝ }
+{
+    if class == TIMES {
+        return true;
+    }
+    class == DIVIDE
+}
+
+fn is_term_operator(class: u8) -> bool
+    ensures { λ r. ⌜ r ≡ is-term-operator class ⌝ }
+{
+    if class == PLUS {
+        return true;
+    }
+    class == MINUS
+}
+
+// What begins with no opener.
+fn leaf(
+    classes: &[u8],
+    values: &[u32],
+    refs: &[u8],
+    b: Binding,
+    flags: &[u8],
+    cells: &[u8],
+    at: usize,
+) -> Valued
+    ensures { λ r. ⌜
+        Expression-walk (now (classes .entry)) (now (values .entry)) (now (refs .entry)) b (now (flags .entry)) (now (cells .entry)) (simple-or halt)
+        at (r .value) (r .next) ⌝ }
+{
+    let size = classes.len();
+    if size <= at {
+        return Valued {
+            value: Value::Unset,
+            next: at,
+        };
+    }
+    let class = class_at(classes, at);
+    let next = skip(at, size);
+    if class == NAME {
+        let name = skip(next, size);
+        let e = bound(b, class_at(refs, at));
+        return Valued {
+            value: read_cell(flags, cells, e, class_at(refs, name)),
+            next: skip(name, size),
+        };
+    }
+    if class == TRUE {
+        return Valued {
+            value: Value::Truth(true),
+            next,
+        };
+    }
+    if class == FALSE {
+        return Valued {
+            value: Value::Truth(false),
+            next,
+        };
+    }
+    if class == WHOLE_NUMBER {
+        return Valued {
+            value: whole_literal(number(values, at)),
+            next,
+        };
+    }
+    if class == REAL_NUMBER {
+        return Valued {
+            value: real_literal(number(values, at)),
+            next,
+        };
+    }
+    Valued {
+        value: Value::Unset,
+        next: at,
+    }
+}
+
+// `depth` openers may still come.
+fn factor(
+    classes: &[u8],
+    values: &[u32],
+    refs: &[u8],
+    b: Binding,
+    flags: &[u8],
+    cells: &[u8],
+    at: usize,
+    depth: u32,
+) -> Valued
+    ensures { λ r. ⌜
+        Expression-walk (now (classes .entry)) (now (values .entry)) (now (refs .entry)) b (now (flags .entry)) (now (cells .entry))
+        (factor-reader depth) at (r .value) (r .next) ⌝ }
+{
+    if depth == 0 {
+        return leaf(classes, values, refs, b, flags, cells, at);
+    }
+    let size = classes.len();
+    let class = class_at(classes, at);
+    let inside = skip(at, size);
+    if class == REAL {
+        let x = expression(
+            classes,
+            values,
+            refs,
+            b,
+            flags,
+            cells,
+            skip(inside, size),
+            depth - 1,
+        );
+        let v = x.value;
+        return Valued {
+            value: values::as_real(v),
+            next: skip(x.next, size),
+        };
+    }
+    if class == ROUND_OPEN {
+        let x = expression(classes, values, refs, b, flags, cells, inside, depth - 1);
+        let v = x.value;
+        return Valued {
+            value: v,
+            next: skip(x.next, size),
+        };
+    }
+    if class == MINUS {
+        let x = factor(classes, values, refs, b, flags, cells, inside, depth - 1);
+        let v = x.value;
+        return Valued {
+            value: values::negate(v),
+            next: x.next,
+        };
+    }
+    leaf(classes, values, refs, b, flags, cells, at)
+}
+
+fn term(
+    classes: &[u8],
+    values: &[u32],
+    refs: &[u8],
+    b: Binding,
+    flags: &[u8],
+    cells: &[u8],
+    at: usize,
+    depth: u32,
+) -> Valued
+    ensures { λ r. ⌜
+        Expression-walk (now (classes .entry)) (now (values .entry)) (now (refs .entry)) b (now (flags .entry)) (now (cells .entry))
+        (term-reader depth) at (r .value) (r .next) ⌝ }
+{
+    let first = factor(classes, values, refs, b, flags, cells, at, depth);
+    let mut left = first.value;
+    let mut i = first.next;
+    while is_factor_operator(class_at(classes, i)) {
+        let op = operator_of(class_at(classes, i));
+        let other = factor(
+            classes,
+            values,
+            refs,
+            b,
+            flags,
+            cells,
+            skip(i, classes.len()),
+            depth,
+        );
+        let right = other.value;
+        left = values::operate(op, left, right);
+        i = other.next;
+    }
+    Valued {
+        value: left,
+        next: i,
+    }
+}
+
+pub fn expression(
+    classes: &[u8],
+    values: &[u32],
+    refs: &[u8],
+    b: Binding,
+    flags: &[u8],
+    cells: &[u8],
+    at: usize,
+    depth: u32,
+) -> Valued
+    ensures { λ r. ⌜
+        Expression-walk (now (classes .entry)) (now (values .entry)) (now (refs .entry)) b (now (flags .entry)) (now (cells .entry))
+        (expression-reader depth) at (r .value) (r .next) ⌝ }
+{
+    let first = term(classes, values, refs, b, flags, cells, at, depth);
+    let mut left = first.value;
+    let mut i = first.next;
+    while is_term_operator(class_at(classes, i)) {
+        let op = operator_of(class_at(classes, i));
+        let other = term(
+            classes,
+            values,
+            refs,
+            b,
+            flags,
+            cells,
+            skip(i, classes.len()),
+            depth,
+        );
+        let right = other.value;
+        left = values::operate(op, left, right);
+        i = other.next;
+    }
+    Valued {
+        value: left,
+        next: i,
+    }
+}
