@@ -20,7 +20,7 @@ use Rattle.checking.specs.DeclarationWalk.{literal-class, literal-end, B
 use Rattle.checking.proofs.SequenceLaws.{many-sequence}
 
 -- what is read by a choice is read by one of the two
-by-next : {A X : Type 0} (c : ℕ) (r s : Reader A) (us : List Token) {a : A} {n : ℕ} → if-next c r s us ≡ read a n → (r us ≡ read a n → X)
+pub by-next : {A X : Type 0} (c : ℕ) (r s : Reader A) (us : List Token) {a : A} {n : ℕ} → if-next c r s us ≡ read a n → (r us ≡ read a n → X)
     → (s us ≡ read a n → X) → X
 unfolding if-next pick
 by-next {A} {X} c r s us {a} {n} e f g = go (next-is c us) e

@@ -27,3 +27,10 @@ pub mod AssignmentLaws
 pub mod BodyLaws
 pub mod UnsetLaws
 pub mod EntityLaws
+pub mod KindCodes
+pub mod CheckedParts
+pub mod RuleNames
+pub mod RuleVariables
+pub mod MeaningLaws
+pub mod RuleWalks
+pub mod CalledLaws

@@ -14,3 +14,6 @@ pub mod TokenPlaces
 pub mod DirectoryItems
 pub mod Sequences
 pub mod DeclarationWalk
+pub mod RuleWalk
+pub mod RuleParts
+pub mod Called

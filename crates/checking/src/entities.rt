@@ -73,7 +73,7 @@ fn literal_kind(class: u8) -> u8
 }
 
 // The last token of the assignment that begins at token number q.
-fn assignment_end(classes: &[u8], q: usize) -> usize
+pub fn assignment_end(classes: &[u8], q: usize) -> usize
     ensures { λ r. ⌜ Assignment-end (now (classes .entry)) q r ⌝ }
 {
     let size = classes.len();

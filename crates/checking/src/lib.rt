@@ -1,13 +1,21 @@
 // Which bench files are accepted.
+pub mod called; // what a file declares, by the bytes of its name
+pub mod conditions; // names and kinds of conditions and calls
 pub mod counts; // the counts of a file's items
 pub mod directory; // where a file's items begin
 pub mod entities; // the entities of a file
+pub mod expressions; // names and kinds of expressions
 pub mod faults; // what a walk of the check finds
 pub mod interfaces; // the interfaces of a file
+pub mod meanings; // what the names in a rule mean
+pub mod rules; // names and kinds of rules
 pub mod table; // what the columns and the directory say
 
 ghost use mathlib.Core.Path.{_≡_};
 ghost use Prim.Native.Nat.{_+_, _*_, _<_};
+pub use called::entity_called;
+pub use called::interface_called;
+pub use called::member_called;
 pub use counts::count_fault;
 pub use directory::build;
 pub use entities::entity_faults;
@@ -17,6 +25,7 @@ pub use faults::Found;
 pub use faults::earlier;
 pub use faults::unless;
 pub use interfaces::interface_faults;
+pub use rules::rule_faults;
 pub use table::class_at;
 pub use table::entity_number;
 pub use table::first_of;

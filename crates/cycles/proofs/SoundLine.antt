@@ -66,7 +66,7 @@ module _ {A : Type 0} where
   refused-accepted h = let z : _≡_ {A = ℕ} 0 1 = cc in omega arith
 
 module _ {A B : Type 0} where
-  or-refused-of : (c : ℕ) (o : Option A) (next : A → Answer B) {b : B} → or-refused c o next ≡ accepted b → (a : A) × (o ≡ some a) × (next a ≡ accepted b)
+  pub or-refused-of : (c : ℕ) (o : Option A) (next : A → Answer B) {b : B} → or-refused c o next ≡ accepted b → (a : A) × (o ≡ some a) × (next a ≡ accepted b)
   unfolding or-refused
   or-refused-of c none next h = absurd (refused-accepted h)
   or-refused-of c (some a) next h = (a, refl, h)
@@ -122,14 +122,14 @@ module _ (f : File) where
           let (i, s) = spot-stands f (e .number) m g in
           event-sound (e .item) p (ap (getElem? (f .entities)) i ∙ entity-found f n q) s h
 
-  column-sound : (ps : List (List ℕ)) {c : Column} → column f ps ≡ some c → Sound-column f c
+  pub column-sound : (ps : List (List ℕ)) {c : Column} → column f ps ≡ some c → Sound-column f c
   unfolding column
   column-sound [] h = absurd (none-some h)
   column-sound (n ∷ []) h = presence-sound n (entity-named f n) refl h
   column-sound (n ∷ m ∷ []) h = entity-column-sound n m (entity-named f n) refl h
   column-sound (n ∷ m ∷ y ∷ ys) h = absurd (none-some h)
 
-  columns-sound : (xs : List (List ℕ)) {cs : List Column} → columns f xs ≡ some cs → All (Sound-column f) cs
+  pub columns-sound : (xs : List (List ℕ)) {cs : List Column} → columns f xs ≡ some cs → All (Sound-column f) cs
   unfolding columns
   columns-sound [] h = subst (All (Sound-column f)) (some-injective h) (all-none (Sound-column f))
   columns-sound (x ∷ xs) {cs} h = by-column (column f (split 46 x)) (columns f xs) (λ c. column-sound (split 46 x)) (λ ds. columns-sound xs) h
@@ -145,7 +145,7 @@ module _ (f : File) where
       by-column (some c) none k j h = absurd (none-some h)
       by-column (some c) (some ds) k j h = by-test (is-column-among c ds) c ds (k c refl) (j ds refl) h
 
-  header-sound : (bs : List ℕ) {cs : List Column} → header f bs ≡ some cs → All (Sound-column f) cs
+  pub header-sound : (bs : List ℕ) {cs : List Column} → header f bs ≡ some cs → All (Sound-column f) cs
   unfolding header
   header-sound bs {cs} h = by-length (leb (length bs) 32768) h
     where
@@ -178,7 +178,7 @@ module _ (f : File) where
       by-event none e h = absurd (none-some e)
       by-event (some q) e h = rw (some-injective e) at (event-field-storable (q .what .kind) x v h)
 
-  inputs-sound : (cs : List Column) (xs : List (List ℕ)) {is : List Input} → All (Sound-column f) cs → inputs-in cs xs ≡ some is → All (Sound-input f) is
+  pub inputs-sound : (cs : List Column) (xs : List (List ℕ)) {is : List Input} → All (Sound-column f) cs → inputs-in cs xs ≡ some is → All (Sound-input f) is
   unfolding inputs-in
   inputs-sound [] xs h g = subst (All (Sound-input f)) (some-injective g) (all-none (Sound-input f))
   inputs-sound (c ∷ cs) [] h g = subst (All (Sound-input f)) (some-injective g) (all-none (Sound-input f))
@@ -240,11 +240,11 @@ module _ (f : File) where
           let (x, q) = h i (List·Memᴰ·head refl) .in-column .of-entity in
           absurd (none-some (sym g ∙ ap (getElem? (f .entities)) (sym (k tt)) ∙ q))
 
-  all-inputs-sound : (is : List Input) → All (Sound-input f) is → Sound-inputs f (inputs-of is)
+  pub all-inputs-sound : (is : List Input) → All (Sound-input f) is → Sound-inputs f (inputs-of is)
   unfolding inputs-of
   all-inputs-sound is h = record { of-kind = given-sound is h; no-entity = no-presence is h }
 
-  reading-sound : (names values : List ℕ) (r : Reading) → reading f names values ≡ accepted r → All (Sound-input f) (r .inputs)
+  pub reading-sound : (names values : List ℕ) (r : Reading) → reading f names values ≡ accepted r → All (Sound-input f) (r .inputs)
   unfolding reading
   reading-sound names values r h =
       let (cs, p, i) = or-refused-of 22 (header f names) _ h in

@@ -14,3 +14,11 @@ pub mod Row
 pub mod StateImage
 pub mod ClosedSet
 pub mod SoundState
+pub mod CellTokens
+pub mod StateMemory
+pub mod RowMemory
+pub mod FreshMemory
+pub mod FieldReads
+pub mod HeaderReads
+pub mod LineReads
+pub mod Judging

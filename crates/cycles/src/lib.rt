@@ -3,6 +3,14 @@ pub mod calls; // the writes of a rule at one binding
 pub mod conditions; // whether a condition holds
 pub mod evaluate; // references and cells
 pub mod expressions; // the value of an expression
+mod fields; // the fields of a line
+pub mod fresh; // the fresh state
+mod header; // the columns of a line
+pub mod image; // the state image
+pub mod judge; // what a state says to a line
+pub mod lines; // a header and a record by themselves
+mod record; // the values of a line
+pub mod rows; // rows of fired actions, and their header
 
 ghost use mathlib.Core.Path.{_≡_};
 ghost use Rattle.cycles.specs.StateImage.{STATE};
@@ -12,6 +20,16 @@ pub use conditions::condition;
 pub use evaluate::Binding;
 pub use expressions::Valued;
 pub use expressions::expression;
+pub use fresh::put_fresh;
+pub use image::Plane;
+pub use image::cell_token;
+pub use image::is_sort;
+pub use image::is_state;
+pub use image::number;
+pub use image::put_number;
+pub use image::put_state;
+pub use rows::put_row;
+pub use rows::put_row_header;
 
 // The size of a state image.
 pub fn state_size() -> usize

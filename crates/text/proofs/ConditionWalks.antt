@@ -77,7 +77,9 @@ module _ {C R : Type 0} {classes : List ℕ} {rows : C → Rows classes} {yields
         next-yes (rows c) (yields c) COLON _ _ (class-inside classes _ e (omega arith)) e
         (expect-means (rows c) (yields c) COLON _ t λ h₂ e₂.
         expect-means (rows c) (yields c) NAME _ u λ h₃ e₃.
-        give-means (rows c) (yields c) _ (λ k. y c (stands l (omega arith) h₁ e₁ s (omega arith) k) (stands l (omega arith) h₂ e₂ t (omega arith) k) (stands l (omega arith) h₃ e₃ u (omega arith) k)) refl);
+        give-means (rows c) (yields c) _
+        (λ k. y c (stands l (omega arith) h₁ e₁ s (omega arith) k) (stands l (omega arith) h₂ e₂ t (omega arith) k)
+        (stands l (omega arith) h₃ e₃ u (omega arith) k)) refl);
   }
 
 -- ---- filters and tests
@@ -90,7 +92,8 @@ module _ {C R : Type 0} {classes : List ℕ} {rows : C → Rows classes} {yields
     means = λ c l. next-no (rows c) (yields c) WITH _ _ n (give-means (rows c) (yields c) _ (λ k. y c) refl);
   }
 
-  pub filter-some : {Q : Type 0} {inner : C → Expression → Q → Type 0} → getD classes at 0 ≡ WITH → {i j m next : ℕ} {x : Q} → Steps (length classes) at i → Steps (length classes) i j
+  pub filter-some : {Q : Type 0} {inner : C → Expression → Q → Type 0} → getD classes at 0 ≡ WITH → {i j m next : ℕ} {x : Q}
+      → Steps (length classes) at i → Steps (length classes) i j
       → Steps (length classes) j m → Walks rows inner (expression-reader left) m x next
       → ((c : C) (a : Expression) → Stands (rows c) at WITH → Stands (rows c) i NAME → Stands (rows c) j EQUALS → inner c a x
       → yields c (some (record { attribute = name-of (nth-token (rows c .tokens) i); equals-at = nth-token (rows c .tokens) j .at; expression = a })) v)
@@ -104,7 +107,9 @@ module _ {C R : Type 0} {classes : List ℕ} {rows : C → Rows classes} {yields
         expect-means (rows c) (yields c) NAME _ t λ h₂ e₂.
         expect-means (rows c) (yields c) EQUALS _ u λ h₃ e₃.
         then-means (rows c) (yields c) (expression-reader left) _ (h .means c (omega (arith, s .onward, t .onward, u .onward))) λ a q.
-        give-means (rows c) (yields c) _ (λ k. y c a (stands l (omega arith) h₁ e₁ s (omega arith) k) (stands l (omega arith) h₂ e₂ t (omega arith) k) (stands l (omega arith) h₃ e₃ u (h .onward) k) (q k)) refl);
+        give-means (rows c) (yields c) _
+        (λ k. y c a (stands l (omega arith) h₁ e₁ s (omega arith) k) (stands l (omega arith) h₂ e₂ t (omega arith) k)
+        (stands l (omega arith) h₃ e₃ u (h .onward) k) (q k)) refl);
   }
 
 module _ {C R : Type 0} {classes : List ℕ} {rows : C → Rows classes} {yields : C → Test → R → Type 0} {at : ℕ} {v : R} (left : ℕ) where
@@ -140,8 +145,15 @@ module _ {C P Q S R : Type 0} {classes : List ℕ} {rows : C → Rows classes} {
   pub clause-walk : {i j p n m o next : ℕ} {x : P} {y : Q} {z : S} → Steps (length classes) at i → Steps (length classes) i j → Steps (length classes) j p
       → Walks rows place target-reader p x n → Walks rows filtered (filter-reader left) n y m → Steps (length classes) m o
       → Walks rows tested (test-reader left) o z next
-      → ((c : C) (t : Target) (f : Option Filter) (e : Test) → Stands (rows c) at EVENT → Stands (rows c) i NAME → Stands (rows c) j FROM → place c t x → filtered c f y → tested c e z
-      → yields c (clause (record { at = nth-token (rows c .tokens) at .at; event = name-of (nth-token (rows c .tokens) i); target = t; filter = f; test = e })) v)
+      → ((c : C) (t : Target) (f : Option Filter) (e : Test) → Stands (rows c) at EVENT → Stands (rows c) i NAME → Stands (rows c) j FROM
+      → place c t x → filtered c f y → tested c e z
+      → yields c (clause (record {
+        at = nth-token (rows c .tokens) at .at;
+        event = name-of (nth-token (rows c .tokens) i);
+        target = t;
+        filter = f;
+        test = e;
+      })) v)
       → Walks rows yields (clause-reader left) at v next
   unfolding clause-reader
   clause-walk s t u h g w k y = record {
@@ -153,8 +165,11 @@ module _ {C P Q S R : Type 0} {classes : List ℕ} {rows : C → Rows classes} {
         then-means (rows c) (yields c) target-reader _ (h .means c (omega (arith, s .onward, t .onward, u .onward))) λ a q.
         then-means (rows c) (yields c) (filter-reader left) _ (g .means c (omega (arith, s .onward, t .onward, u .onward, h .onward))) λ f r.
         expect-means (rows c) (yields c) VALUE _ w λ h₄ e₄.
-        then-means (rows c) (yields c) (test-reader left) _ (k .means c (omega (arith, s .onward, t .onward, u .onward, h .onward, g .onward, w .onward))) λ d z.
-        give-means (rows c) (yields c) _ (λ b. y c a f d (stands l (omega arith) h₁ e₁ s (omega arith) b) (stands l (omega arith) h₂ e₂ t (omega arith) b) (stands l (omega arith) h₃ e₃ u (omega arith) b)
+        then-means (rows c) (yields c) (test-reader left) _
+        (k .means c (omega (arith, s .onward, t .onward, u .onward, h .onward, g .onward, w .onward))) λ d z.
+        give-means (rows c) (yields c) _
+        (λ b. y c a f d (stands l (omega arith) h₁ e₁ s (omega arith) b) (stands l (omega arith) h₂ e₂ t (omega arith) b)
+        (stands l (omega arith) h₃ e₃ u (omega arith) b)
         (q (omega (arith, g .onward, w .onward, k .onward))) (r (omega (arith, w .onward, k .onward))) (z b)) refl;
   }
 
@@ -216,7 +231,8 @@ module _ {C P Q S R : Type 0} {classes : List ℕ} {rows : C → Rows classes} {
   pub call-walk : {i j p n m o q next : ℕ} {x : P} {y : Q} {z : S} → Steps (length classes) at i → Steps (length classes) i j → Steps (length classes) j p
       → Walks rows inner (expression-reader OPENERS) p x n → Steps (length classes) n m → Steps (length classes) m o → Walks rows place target-reader o y q
       → Walks rows filtered (filter-reader OPENERS) q z next
-      → ((c : C) (a : Expression) (t : Target) (f : Option Filter) → Stands (rows c) at ACTION → Stands (rows c) i NAME → Stands (rows c) j ROUND-OPEN → inner c a x → place c t y → filtered c f z
+      → ((c : C) (a : Expression) (t : Target) (f : Option Filter) → Stands (rows c) at ACTION → Stands (rows c) i NAME → Stands (rows c) j ROUND-OPEN
+      → inner c a x → place c t y → filtered c f z
       → yields c (record {
         at = nth-token (rows c .tokens) at .at;
         action = name-of (nth-token (rows c .tokens) i);
@@ -241,7 +257,8 @@ module _ {C P Q S R : Type 0} {classes : List ℕ} {rows : C → Rows classes} {
         then-means (rows c) (yields c) (filter-reader OPENERS) _
         (k .means c (omega (arith, s .onward, t .onward, u .onward, h .onward, w .onward, b .onward, g .onward))) λ f z.
         give-means (rows c) (yields c) _
-        (λ e. y c a d f (stands l (omega arith) h₁ e₁ s (omega arith) e) (stands l (omega arith) h₂ e₂ t (omega arith) e) (stands l (omega arith) h₃ e₃ u (omega arith) e)
+        (λ e. y c a d f (stands l (omega arith) h₁ e₁ s (omega arith) e) (stands l (omega arith) h₂ e₂ t (omega arith) e)
+        (stands l (omega arith) h₃ e₃ u (omega arith) e)
         (q (omega (arith, w .onward, b .onward, g .onward, k .onward))) (r (omega (arith, k .onward))) (z e)) refl;
   }
 
@@ -263,5 +280,6 @@ module _ {C P Q S R : Type 0} {classes : List ℕ} {rows : C → Rows classes} {
         then-means (rows c) (yields c) (many COMMA call-after) _ (k .means c (omega (arith, h .onward, s .onward, g .onward))) λ bs z.
         expect-means (rows c) (yields c) END _ u λ h₂ e₂.
         give-means (rows c) (yields c) _
-        (λ e. y c a b bs (q (omega (arith, s .onward, g .onward, k .onward, u .onward))) (r (omega (arith, k .onward, u .onward))) (z (omega (arith, u .onward)))) refl;
+        (λ e. y c a b bs (q (omega (arith, s .onward, g .onward, k .onward, u .onward))) (r (omega (arith, k .onward, u .onward)))
+        (z (omega (arith, u .onward)))) refl;
   }

@@ -42,6 +42,10 @@ test-inside test classes i z e = go (eqb (getD classes i 0) 0) refl
     go true q = absurd (true≢false (sym e ∙ ap test (eqb-true (getD classes i 0) 0 q) ∙ z))
     go false q = let n = eqb-false (getD classes i 0) 0 q in class-inside classes i refl (omega arith)
 
+-- a test of the class that was read
+pub test-read : (test : ℕ → Bool) {class c : ℕ} {r b : Bool} → class ≡ c → r ≡ test class → r ≡ b → test c ≡ b
+test-read test e f g = ap test (sym e) ∙ sym f ∙ g
+
 -- a turn of a loop leaves fewer tokens
 pub turn-less : (test : ℕ → Bool) (classes : List ℕ) {i j n m : ℕ} → test 0 ≡ false → test (getD classes i 0) ≡ true → Steps (length classes) i j → j ≤ n
     → m ≡ n → length classes - m < length classes - i
@@ -234,13 +238,18 @@ module _ {C A R : Type 0} {classes : List ℕ} (rows : C → Rows classes) (yiel
               → Means-at (rows c) (yields c) (loop test step a 0) i v i
           on c a y true q =
               let h = ltb-true i (length classes) q in
-              rw (row-token (rows c) i h, loop-stops test step a (nth-token (rows c .tokens) i) (drop (i + 1) (rows c .tokens)) (ap test (row-class (rows c) i h) ∙ e))
+              rw (
+                row-token (rows c) i h,
+                loop-stops test step a (nth-token (rows c .tokens) i) (drop (i + 1) (rows c .tokens))
+                    (ap test (row-class (rows c) i h) ∙ e),
+              )
               (meant y (sym (add-zero i)))
           on c a y false q = rw (rows-end (rows c) i (ltb-false i (length classes) q), loop-ends test step a) (meant y (sym (add-zero i)))
 
       -- the next token passes the test, and the step after it reads on
       pub walk-turns : {j : ℕ} {u : R} {n : ℕ} → i < length classes → test (getD classes i 0) ≡ true → Steps (length classes) i j → j ≤ n
-          → ((c : C) → rows c .low ≤ i → (a : A) → (i ≤ rows c .high → yields c a v) → Means-at (rows c) (yields c) (step a (nth-token (rows c .tokens) i)) j u n)
+          → ((c : C) → rows c .low ≤ i → (a : A) → (i ≤ rows c .high → yields c a v)
+          → Means-at (rows c) (yields c) (step a (nth-token (rows c .tokens) i)) j u n)
           → Looping rows yields whole test step at u n
       walk-turns {j} {u} {n} h e s o f = record {
         onward = omega (arith, g .onward, s .onward);
@@ -252,8 +261,11 @@ module _ {C A R : Type 0} {classes : List ℕ} (rows : C → Rows classes) (yiel
               → Means-at (rows c) (yields c) (step a (nth-token (rows c .tokens) i)) j u n
               → Means-at (rows c) (yields c) (loop test step a 0) i x next
           on c a x next k m =
-              let t = nth-token (rows c .tokens) i in
-              rw (row-token (rows c) i h, loop-turns test step a (nth-token (rows c .tokens) i) (drop (i + 1) (rows c .tokens)) (ap test (row-class (rows c) i h) ∙ e))
+              rw (
+                row-token (rows c) i h,
+                loop-turns test step a (nth-token (rows c .tokens) i) (drop (i + 1) (rows c .tokens))
+                    (ap test (row-class (rows c) i h) ∙ e),
+              )
               (means-shift i 1 (rw (s .steps h) at (then-means (rows c) (yields c) (step a (nth-token (rows c .tokens) i)) (λ b. loop test step b 0) m k)))
 
   module _ (test : ℕ → Bool) (join : Token → A → A → A) (item : Reader A) where
@@ -274,7 +286,8 @@ module _ {C A R : Type 0} {classes : List ℕ} (rows : C → Rows classes) (yiel
     chain-turns {v = v} {i = i} {j = j} {x = x} {u = u} {n = n} g z e s h f =
         walk-turns test (joined item join) g (test-inside test classes i z e) e s (h .onward) λ c l a y.
         then-means (rows c) (yields c) item (λ b. give (join (nth-token (rows c .tokens) i) a b)) (h .means c (omega (arith, s .onward))) λ b q.
-        give-means (rows c) (yields c) (join (nth-token (rows c .tokens) i) a b) (λ k. f c a b (stands l (omega arith) (test-inside test classes i z e) refl s (h .onward) k) (y (omega (arith, s .onward, h .onward))) (q k)) refl
+        give-means (rows c) (yields c) (join (nth-token (rows c .tokens) i) a b)
+        (λ k. f c a b (stands l (omega arith) (test-inside test classes i z e) refl s (h .onward) k) (y (omega (arith, s .onward, h .onward))) (q k)) refl
 
 module _ {C A Q R : Type 0} {classes : List ℕ} (rows : C → Rows classes) (first : C → A → Q → Type 0) (yields : C → List A → R → Type 0)
     (k : ℕ) (item : Token → Reader A) where
@@ -293,7 +306,8 @@ module _ {C A Q R : Type 0} {classes : List ℕ} (rows : C → Rows classes) (fi
   many-turns {v = v} {i = i} {j = j} {x = x} {u = u} {n = n} g p e s o h f =
       walk-turns rows yields (λ d. eqb d k) (added item) g (class-inside classes i e p) (eq-eqb (getD classes i 0) k e) s o λ c l xs y.
       then-means (rows c) (yields c) (item (nth-token (rows c .tokens) i)) (λ a. give (xs ++ a ∷ [])) (h c l) λ a q.
-      give-means (rows c) (yields c) (xs ++ a ∷ []) (λ z. f c xs a (stands l (omega arith) (class-inside classes i e p) e s o z) (y (omega (arith, s .onward))) (q z)) refl
+      give-means (rows c) (yields c) (xs ++ a ∷ [])
+      (λ z. f c xs a (stands l (omega arith) (class-inside classes i e p) e s o z) (y (omega (arith, s .onward))) (q z)) refl
 
   pub many-stops : {whole : Reader (List A)} {at : ℕ} {v : R} {i : ℕ} → Looping rows yields whole (λ d. eqb d k) (added item) at v i
       → (getD classes i 0 ≡ k → ⊥) → Walks rows yields whole at v i

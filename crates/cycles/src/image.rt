@@ -1,0 +1,286 @@
+// The state image: memory that stands for a state of a bench.
+ghost use mathlib.Core.Path.{_≡_};
+ghost use mathlib.Core.List.{_++_};
+ghost use Prim.Native.Nat.{_+_, _*_, _≤_};
+ghost use lib.ListN.{length, getD, take, drop};
+ghost use Rattle.values.specs.Bytes.{word-at, low-first, overwritten};
+ghost use Rattle.cycles.specs.StateImage.{STATE, image-size, flags-below, is-unset-cell, is-blank-cell, is-set-cell, is-value-cell};
+ghost use Rattle.cycles.specs.CellTokens.{Cell-token, Sort-test};
+ghost use Rattle.cycles.specs.StateMemory.{Kind-test, Cell-test, Cells-test, State-test, Put, gathered};
+
+// No token's number.
+pub const NO_TOKEN: usize = 65536;
+
+// The planes of cells: now, one cycle before, and the last readings.
+pub enum Plane {
+    Now,
+    Previous,
+    Inputs,
+}
+
+// The first token of the member whose cell has number i; NO_TOKEN where the bench has no such member.
+pub fn cell_token(d: &[u16], i: usize) -> usize
+    ensures { λ r. ⌜ Cell-token (now (d .entry)) i r ⌝ }
+{
+    let e = i / 12;
+    let m = i % 12;
+    if checking::row(d, 1) <= e {
+        return NO_TOKEN;
+    }
+    let face = checking::row(d, 323 + e);
+    if checking::row(d, 0) <= face {
+        return NO_TOKEN;
+    }
+    if checking::row(d, 19 + face) <= m {
+        return NO_TOKEN;
+    }
+    checking::row(d, 35 + face * 12 + m)
+}
+
+// Whether the member whose first token has number `at` has the sort that the class says.
+pub fn is_sort(classes: &[u8], at: usize, class: u8) -> bool
+    ensures { λ r. ⌜ Sort-test (now (classes .entry)) at class r ⌝ }
+{
+    if NO_TOKEN <= at {
+        return false;
+    }
+    checking::class_at(classes, at) == class
+}
+
+// ---- tests of a tag and a payload
+
+fn is_unset_cell(t: u8, w: u64) -> bool
+    ensures { λ r. ⌜ r ≡ is-unset-cell t w ⌝ }
+{
+    if t == 0 {
+        return w == 0;
+    }
+    false
+}
+
+fn is_blank_cell(t: u8, w: u64) -> bool
+    ensures { λ r. ⌜ r ≡ is-blank-cell t w ⌝ }
+{
+    if t == 4 {
+        return w == 0;
+    }
+    false
+}
+
+// A set value's, of the kind that the class says.
+fn is_set_cell(kind: u8, t: u8, w: u64) -> bool
+    ensures { λ r. ⌜ Kind-test is-set-cell kind t w r ⌝ }
+{
+    if kind == text::classes::WHOLE {
+        if t == 1 {
+            return w < 4294967296;
+        }
+        return false;
+    }
+    if kind == text::classes::BOOL {
+        if t == 2 {
+            return w < 2;
+        }
+        return false;
+    }
+    if t == 3 {
+        return values::finite_bits(w);
+    }
+    false
+}
+
+fn is_value_cell(kind: u8, t: u8, w: u64) -> bool
+    ensures { λ r. ⌜ Kind-test is-value-cell kind t w r ⌝ }
+{
+    if is_unset_cell(t, w) {
+        return true;
+    }
+    is_set_cell(kind, t, w)
+}
+
+// What a plane's cell may hold, by the first token of its member.
+fn fits(plane: Plane, classes: &[u8], at: usize, t: u8, w: u64) -> bool
+    ensures { λ r. ⌜ Cell-test plane (now (classes .entry)) at t w r ⌝ }
+{
+    if NO_TOKEN <= at {
+        match plane {
+            Plane::Now => return is_unset_cell(t, w),
+            Plane::Previous => return is_unset_cell(t, w),
+            Plane::Inputs => return is_blank_cell(t, w),
+        }
+    }
+    let sort = checking::class_at(classes, at);
+    let kind = checking::class_at(classes, at + 3);
+    match plane {
+        Plane::Now => {
+            if sort == text::classes::ATTRIBUTE {
+                return is_set_cell(kind, t, w);
+            }
+            is_value_cell(kind, t, w)
+        }
+        Plane::Previous => is_value_cell(kind, t, w),
+        Plane::Inputs => {
+            if is_blank_cell(t, w) {
+                return true;
+            }
+            if sort == text::classes::EVENT {
+                return is_value_cell(kind, t, w);
+            }
+            false
+        }
+    }
+}
+
+// ---- tests of the parts
+
+fn flags_below(flags: &[u8], n: usize, bound: u8) -> bool
+    requires { ⌜ n ≤ length (now flags) ⌝ }
+    ensures { λ r. ⌜ r ≡ flags-below bound n (now (flags .entry)) ⌝ }
+{
+    let mut e = 0;
+    while e < n {
+        if bound <= flags[e] {
+            return false;
+        }
+        e += 1;
+    }
+    true
+}
+
+fn cells_fit(plane: Plane, classes: &[u8], d: &[u16], cells: &[u8]) -> bool
+    requires { ⌜ 108 * getD (now d) 1 0 ≤ length (now cells) ⌝ }
+    ensures { λ r. ⌜ Cells-test plane (now (classes .entry)) (now (d .entry)) (now (cells .entry)) r ⌝ }
+{
+    let end = 12 * checking::row(d, 1);
+    let mut i = 0;
+    while i < end {
+        let at = i * 9;
+        let next = at + 1;
+        let w = values::word_at(cells, next);
+        if !fits(plane, classes, cell_token(d, i), cells[at], w) {
+            return false;
+        }
+        i += 1;
+    }
+    true
+}
+
+// Whether memory is a state of the bench.
+pub fn is_state(classes: &[u8], d: &[u16], state: &[u8]) -> bool
+    requires { ⌜ STATE ≤ length (now state) ⌝ }
+    ensures { λ r. ⌜ State-test (now (classes .entry)) (now (d .entry)) (now (state .entry)) r ⌝ }
+{
+    let n = checking::row(d, 1);
+    if 32 < n {
+        return false;
+    }
+    let previous_flags = 4 + n;
+    let read_flags = 4 + 2 * n;
+    let now_cells = 4 + 3 * n;
+    let previous_cells = 4 + 111 * n;
+    let input_cells = 4 + 219 * n;
+    if !flags_below(&state[4..], n, 2) {
+        return false;
+    }
+    if !flags_below(&state[previous_flags..], n, 2) {
+        return false;
+    }
+    if !flags_below(&state[read_flags..], n, 3) {
+        return false;
+    }
+    if !cells_fit(Plane::Now, classes, d, &state[now_cells..]) {
+        return false;
+    }
+    if !cells_fit(Plane::Previous, classes, d, &state[previous_cells..]) {
+        return false;
+    }
+    cells_fit(Plane::Inputs, classes, d, &state[input_cells..])
+}
+
+// ---- reading and writing
+
+// The last line's number.
+pub fn number(state: &[u8]) -> u32
+    requires { ⌜ 4 ≤ length (now state) ⌝ }
+    ensures { λ r. ⌜ r ≡ word-at 4 (now (state .entry)) 0 ⌝ }
+{
+    let w3 = values::slices::wide(state[3]);
+    let w2 = values::slices::wide(state[2]) + 256 * w3;
+    let w1 = values::slices::wide(state[1]) + 256 * w2;
+    (values::slices::wide(state[0]) + 256 * w1) as u32
+}
+
+pub fn put_number(state: &mut [u8], n: u32)
+    requires { ⌜ 4 ≤ length (now state) ⌝ }
+    ensures { λ _. ⌜ now (state .exit) ≡ overwritten (now (state .entry)) 0 (low-first 4 n) ⌝ }
+{
+    let n1 = n / 256;
+    let n2 = n1 / 256;
+    let n3 = n2 / 256;
+    state[0] = (n % 256) as u8;
+    state[1] = (n1 % 256) as u8;
+    state[2] = (n2 % 256) as u8;
+    state[3] = (n3 % 256) as u8;
+}
+
+// Puts the first bytes of an area, and answers the offset after them.
+fn put_front(state: &mut [u8], at: usize, area: &[u8], count: usize) -> usize
+    requires { ⌜ count ≤ length (now area) ⌝ }
+    requires { ⌜ at + count ≤ length (now state) ⌝ }
+    ensures { λ r. ⌜ (r ≡ at + count) × Put (take count (now (area .entry))) (now (state .entry)) at (now (state .exit)) r ⌝ }
+{
+    values::put_bytes(state, at, &area[0..count])
+}
+
+// The same of three areas, one after another.
+fn put_fronts(
+    state: &mut [u8],
+    at: usize,
+    first: &[u8],
+    second: &[u8],
+    third: &[u8],
+    count: usize,
+) -> usize
+    requires { ⌜ (count ≤ length (now first)) × (count ≤ length (now second)) × (count ≤ length (now third)) ⌝ }
+    requires { ⌜ at + 3 * count ≤ length (now state) ⌝ }
+    ensures { λ r. ⌜
+        (r ≡ at + 3 * count)
+        × Put (take count (now (first .entry)) ++ take count (now (second .entry)) ++ take count (now (third .entry)))
+        (now (state .entry)) at (now (state .exit)) r ⌝ }
+{
+    let a = put_front(state, at, first, count);
+    let b = put_front(state, a, second, count);
+    put_front(state, b, third, count)
+}
+
+// The image of a state, gathered from areas that hold its parts.
+pub fn put_state(
+    d: &[u16],
+    last: u32,
+    now_flags: &[u8],
+    now_cells: &[u8],
+    previous_flags: &[u8],
+    previous_cells: &[u8],
+    input_flags: &[u8],
+    input_cells: &[u8],
+    state: &mut [u8],
+)
+    requires { ⌜ (32 ≤ length (now «now_flags»)) × (3456 ≤ length (now «now_cells»)) ⌝ }
+    requires { ⌜ (32 ≤ length (now «previous_flags»)) × (3456 ≤ length (now «previous_cells»)) ⌝ }
+    requires { ⌜ (32 ≤ length (now «input_flags»)) × (3456 ≤ length (now «input_cells»)) ⌝ }
+    requires { ⌜ STATE ≤ length (now state) ⌝ }
+    ensures { λ _. ⌜ (getD (now (d .entry)) 1 0 ≤ 32
+        → now (state .exit)
+        ≡ gathered (getD (now (d .entry)) 1 0) last (now («now_flags» .entry)) (now («now_cells» .entry)) (now («previous_flags» .entry))
+        (now («previous_cells» .entry)) (now («input_flags» .entry)) (now («input_cells» .entry))
+        ++ drop (image-size (getD (now (d .entry)) 1 0)) (now (state .entry))) ⌝ }
+{
+    let n = checking::row(d, 1);
+    if 32 < n {
+        return;
+    }
+    let size = 108 * n;
+    put_number(state, last);
+    let flags = put_fronts(state, 4, now_flags, previous_flags, input_flags, n);
+    put_fronts(state, flags, now_cells, previous_cells, input_cells, size);
+}

@@ -1,0 +1,197 @@
+// A record: its number, and its values as inputs in lent memory.
+ghost use mathlib.Core.Path.{_≡_};
+ghost use mathlib.Core.List.{[], _∷_, _++_};
+ghost use mathlib.Core.Option.{none};
+ghost use Prim.Native.Nat.{ℕ, _+_, _*_, _≤_, _<_};
+ghost use lib.ListN.{length, getD, drop};
+ghost use Rattle.values.specs.declared.Kind.{Kind};
+ghost use Rattle.values.specs.Bytes.{overwritten};
+ghost use Rattle.checking.specs.Directory.{kind-class};
+ghost use Rattle.cycles.specs.Record.{record-of, as-truth};
+ghost use Rattle.cycles.specs.StateImage.{table, presence-flag, input-bytes};
+ghost use Rattle.cycles.specs.HeaderReads.{NO-COLUMN};
+ghost use Rattle.cycles.specs.LineReads.{number-if-record, is-well-formed, said, Input-put, Values-read};
+use crate::fields::field_start;
+use crate::fields::first_size;
+use crate::fields::has_byte;
+use checking::member_kind;
+use checking::row;
+use text::classes::BOOL;
+use text::classes::WHOLE;
+use values::Field;
+use values::Kind;
+use values::Number;
+use values::Value;
+use values::magnitude;
+use values::put_cell;
+use values::put_word;
+use values::read_event;
+use values::read_presence;
+
+// The number of a record with so many values; none if it is no such record.
+pub fn record_number(values: &[u8], count: usize) -> Number
+    ensures { λ r. ⌜ r ≡ number-if-record (record-of count (now (values .entry))) ⌝ }
+{
+    if 8192 < values.len() {
+        return Number::Not;
+    }
+    if has_byte(values, 10) {
+        return Number::Not;
+    }
+    let size = first_size(values, count);
+    if size == 0 {
+        return Number::Not;
+    }
+    magnitude(&values[0..size], 0)
+}
+
+// ---- one field
+
+fn well_formed(field: Field) -> bool
+    ensures { λ r. ⌜ r ≡ is-well-formed field ⌝ }
+{
+    match field {
+        Field::Blank => true,
+        Field::Given(_) => true,
+        Field::Malformed => false,
+    }
+}
+
+// The flag of what a field says of presence.
+fn presence_byte(field: Field) -> u8
+    ensures { λ r. ⌜ presence-flag (as-truth (said field)) ≡ r ∷ [] ⌝ }
+{
+    match field {
+        Field::Blank => 0,
+        Field::Given(v) => match v {
+            Value::Whole(_) => 0,
+            Value::Truth(b) => { if b { 2 } else { 1 } }
+            Value::Real(_) => 0,
+            Value::Unset => 0,
+        },
+        Field::Malformed => 0,
+    }
+}
+
+// Puts no reading into cell number i.
+fn put_blank(cells: &mut [u8], i: usize)
+    requires { ⌜ i * 9 + 9 ≤ length (now cells) ⌝ }
+    ensures { λ _. ⌜ now (cells .exit) ≡ overwritten (now (cells .entry)) (i * 9) (input-bytes none) ⌝ }
+{
+    let at = i * 9;
+    let next = at + 1;
+    cells[at] = 4;
+    put_word(cells, next, 0);
+}
+
+// Puts what a field says into cell number i.
+fn put_said(cells: &mut [u8], i: usize, field: Field)
+    requires { ⌜ i * 9 + 9 ≤ length (now cells) ⌝ }
+    ensures { λ _. ⌜ now (cells .exit) ≡ overwritten (now (cells .entry)) (i * 9) (input-bytes (said field)) ⌝ }
+{
+    match field {
+        Field::Blank => put_blank(cells, i),
+        Field::Given(v) => put_cell(cells, i, v),
+        Field::Malformed => put_blank(cells, i),
+    }
+}
+
+// The kind that a class says.
+fn kind_of(class: u8) -> Kind
+    ensures { λ r. ⌜ ((k : Kind) → class ≡ kind-class k → r ≡ k) ⌝ }
+{
+    if class == WHOLE {
+        return Kind::Wholes;
+    }
+    if class == BOOL {
+        return Kind::Bools;
+    }
+    Kind::Reals
+}
+
+// Puts a field, read in column number `column`, in its place; false if it is ill formed there.
+fn put_input(
+    classes: &[u8],
+    d: &[u16],
+    column: usize,
+    field: &[u8],
+    flags: &mut [u8],
+    cells: &mut [u8],
+) -> bool
+    requires { ⌜ column < NO-COLUMN ⌝ }
+    requires { ⌜ (32 ≤ length (now flags)) × (3456 ≤ length (now cells)) ⌝ }
+    ensures { λ r. ⌜
+        Input-put (now (classes .entry)) (now (d .entry)) column (now (field .entry)) (now (flags .entry)) (now (cells .entry)) (now (flags .exit))
+        (now (cells .exit)) r ⌝ }
+{
+    let e = column / 13;
+    let m = column % 13;
+    if m == 12 {
+        let presence = read_presence(field);
+        flags[e] = presence_byte(presence);
+        return well_formed(presence);
+    }
+    let face = row(d, 323 + e);
+    let event = read_event(field, kind_of(member_kind(classes, d, face, m)));
+    put_said(cells, e * 12 + m, event);
+    well_formed(event)
+}
+
+// ---- all of them
+
+// Puts the values of a record, from the last on, where memory has no input; false if one is ill formed.
+pub fn read_values(
+    classes: &[u8],
+    d: &[u16],
+    values: &[u8],
+    columns: &[u16],
+    count: usize,
+    flags: &mut [u8],
+    cells: &mut [u8],
+) -> bool
+    requires { ⌜ (count ≤ length (now columns)) × ((k : ℕ) → k < count → getD (now columns) k 0 < NO-COLUMN) ⌝ }
+    requires { ⌜ (32 ≤ length (now flags)) × (3456 ≤ length (now cells)) ⌝ }
+    ensures { λ r. ⌜
+        Values-read (now (classes .entry)) (now (d .entry)) (now (values .entry)) (now (columns .entry)) count (now (flags .entry)) (now (cells .entry))
+        (now (flags .exit)) (now (cells .exit)) r ⌝ }
+{
+    let mut end = values.len();
+    let mut k = 0;
+    while k < count {
+        let start = field_start(values, end, 32);
+        let column = columns[k] as usize;
+        if !put_input(classes, d, column, &values[start..end], flags, cells) {
+            return false;
+        }
+        if start == 0 {
+            return false;
+        }
+        end = start - 1;
+        k += 1;
+    }
+    true
+}
+
+// Puts no reading into the first n flags.
+pub fn clear_flags(flags: &mut [u8], n: usize)
+    requires { ⌜ n ≤ length (now flags) ⌝ }
+    ensures { λ _. ⌜ now (flags .exit) ≡ table (λ e. 0 ∷ []) 0 n ++ drop n (now (flags .entry)) ⌝ }
+{
+    let mut e = 0;
+    while e < n {
+        flags[e] = 0;
+        e += 1;
+    }
+}
+
+// Puts no reading into the first n cells.
+pub fn clear_cells(cells: &mut [u8], n: usize)
+    requires { ⌜ n * 9 ≤ length (now cells) ⌝ }
+    ensures { λ _. ⌜ now (cells .exit) ≡ table (λ i. input-bytes none) 0 n ++ drop (n * 9) (now (cells .entry)) ⌝ }
+{
+    let mut i = 0;
+    while i < n {
+        put_blank(cells, i);
+        i += 1;
+    }
+}
