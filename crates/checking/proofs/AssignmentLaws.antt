@@ -21,10 +21,9 @@ use Rattle.checking.specs.Scope.{Found as Numbered, here-or-later, look-
 use Rattle.checking.specs.NameFaults.{is-of-sort, member-faults}
 use Rattle.checking.specs.KindFaults.{same-kind, kinds-fit, kind-if-found, member-kind, assignment-kinds}
 use Rattle.checking.specs.Directory.{name-in, Columns-of, Named, Bench, sort-class, kind-class, number-or, member-number}
-use Rattle.checking.specs.DirectoryReads.{Member-class}
+use Rattle.checking.specs.DirectoryReads.{Few, Member-class}
 use Rattle.checking.specs.Sequences.{Sequence, over}
 use Rattle.checking.specs.DeclarationWalk.{
-  Few,
   literal-class,
   literal-end,
   Assignment-end,

@@ -8,6 +8,7 @@ use lib.Dec.{ltb}
 use lib.ListN.{length, getD, getElem?}
 use borrow.Author.Tests.{lt-ltb}
 use Rattle.text.specs.Syntax.{Interface, Entity, File}
+use Rattle.checking.specs.DirectoryReads.{Few}
 use Rattle.checking.specs.declared.faults.Found.{Found}
 use Rattle.checking.specs.declared.faults.Faulted.{Faulted}
 use Rattle.checking.specs.declared.entities.Assigned.{Assigned}
@@ -18,7 +19,6 @@ use Rattle.checking.specs.NameFaults.{again-faults, interface-faults, me
 use Rattle.checking.specs.KindFaults.{entity-kinds}
 use Rattle.checking.specs.Directory.{Bench, number-or, interface-number}
 use Rattle.checking.specs.DeclarationWalk.{
-  Few,
   Repeated-rows,
   Body,
   Assignments-found,

@@ -6,12 +6,13 @@ use mathlib.Core.List.{List, _++_, map, flatMap}
 use mathlib.Core.Option.{Option}
 use lib.ListN.{getD}
 use Rattle.text.specs.Syntax.{Member, Interface}
+use Rattle.checking.specs.DirectoryReads.{Few}
 use Rattle.checking.specs.declared.faults.Found.{Found}
 use Rattle.checking.specs.Faults.{Fault}
 use Rattle.checking.specs.FoundFaults.{found-as, merged}
 use Rattle.checking.specs.NameFaults.{again-faults, interface-names}
 use Rattle.checking.specs.Directory.{Bench}
-use Rattle.checking.specs.DeclarationWalk.{Few, Repeated-rows, Interfaces-found}
+use Rattle.checking.specs.DeclarationWalk.{Repeated-rows, Interfaces-found}
 use Rattle.checking.proofs.WalkedFaults.{left-second, Items-left, items-next, items-end}
 use Rattle.checking.proofs.RepeatedLaws.{repeated-items}
 

@@ -12,8 +12,8 @@ use borrow.Author.Tests.{eqb-true, eqb-false}
 use Rattle.text.specs.Tokens.{Token}
 use Rattle.text.specs.Syntax.{Member, Interface, Entity, File}
 use Rattle.checking.specs.Directory.{Columns-of, Named, entity-interface-row, Directory-of, interface-number}
-use Rattle.checking.specs.DirectoryReads.{First-named}
-use Rattle.checking.specs.DeclarationWalk.{Few, Entities-linked}
+use Rattle.checking.specs.DirectoryReads.{Few, First-named}
+use Rattle.checking.specs.DeclarationWalk.{Entities-linked}
 use Rattle.checking.specs.DirectoryItems.{Items-of}
 use Rattle.checking.proofs.DirectoryLaws.{number-below, column-bytes, first-among}
 use Rattle.checking.proofs.EntityTokens.{entity-stands}

@@ -49,8 +49,7 @@ use Rattle.checking.specs.Directory.{
   member-number,
   Bench,
 }
-use Rattle.checking.specs.DirectoryReads.{Number-of, few-members, Member-class}
-use Rattle.checking.specs.RuleWalk.{Few-items}
+use Rattle.checking.specs.DirectoryReads.{Few, Number-of, few-members, Member-class}
 use Rattle.checking.specs.RuleParts.{
   name-row,
   first-alike,
@@ -321,18 +320,18 @@ module _ {text classes offsets lengths d : List ℕ} {want : ℕ} (face i : ℕ)
     names = λ w few. (rw q at u) ∙ faults w few (getElem? (w .file .interfaces) face) refl;
   }
     where
-      missing-in : (w : Bench text classes offsets lengths d) → Few-items (w .file) → (x : Interface) → getElem? (w .file .interfaces) face ≡ some x
+      missing-in : (w : Bench text classes offsets lengths d) → Few (w .file) → (x : Interface) → getElem? (w .file .interfaces) face ≡ some x
           → member-named x (name-in text offsets lengths i) ≡ none
       missing-in w few x e =
           let k = g .is classes w (few .members face) ∙ ap (λ o. member-number o (name-in text offsets lengths i)) e in
           number-none (λ (y : Member). y .name) (name-in text offsets lengths i) (x .members) 12 (few .members face x e) (omega arith)
 
-      kind : (w : Bench text classes offsets lengths d) → Few-items (w .file) → (o : Option Interface) → getElem? (w .file .interfaces) face ≡ o
+      kind : (w : Bench text classes offsets lengths d) → Few (w .file) → (o : Option Interface) → getElem? (w .file .interfaces) face ≡ o
           → 0 ≡ kind-code (member-kind o (name-row text offsets lengths i))
       kind w few none e = refl
       kind w few (some x) e = rw (missing-in w few x e)
 
-      faults : (w : Bench text classes offsets lengths d) → Few-items (w .file) → (o : Option Interface) → getElem? (w .file .interfaces) face ≡ o
+      faults : (w : Bench text classes offsets lengths d) → Few (w .file) → (o : Option Interface) → getElem? (w .file .interfaces) face ≡ o
           → earliest (fault-unless (leb count face) 16 (getD offsets i 0)) ≡ earliest (member-faults (sort-wanted want) o (name-row text offsets lengths i))
       faults w few none e =
           let a = number-missing (w .file .interfaces) face e in
@@ -355,17 +354,17 @@ module _ {text classes offsets lengths d : List ℕ} {want : ℕ} (face i : ℕ)
     names = λ w few. (rw q at u) ∙ faults w few (getElem? (w .file .interfaces) face) refl;
   }
     where
-      none-there : (w : Bench text classes offsets lengths d) → Few-items (w .file) → getElem? (w .file .interfaces) face ≡ none → ⊥
+      none-there : (w : Bench text classes offsets lengths d) → Few (w .file) → getElem? (w .file .interfaces) face ≡ none → ⊥
       none-there w few e = let k = g .is classes w (few .members face) ∙ ap (λ o. member-number o (name-in text offsets lengths i)) e in omega arith
 
-      found-in : (w : Bench text classes offsets lengths d) → Few-items (w .file) → (j : Interface) → getElem? (w .file .interfaces) face ≡ some j
+      found-in : (w : Bench text classes offsets lengths d) → Few (w .file) → (j : Interface) → getElem? (w .file .interfaces) face ≡ some j
           → (f : Found Member) × (member-named j (name-in text offsets lengths i) ≡ some f) × (getElem? (j .members) m ≡ some (f .item))
       found-in w few j e =
           let k = g .is classes w (few .members face) ∙ ap (λ o. member-number o (name-in text offsets lengths i)) e in
           let (f, p, r) = number-some (λ (v : Member). v .name) (name-in text offsets lengths i) (j .members) 12 (few .members face j e) (rw k at h) in
           (f, p, ap (getElem? (j .members)) (k ∙ sym r) ∙ found-at (λ (v : Member). v .name) (name-in text offsets lengths i) (j .members) p)
 
-      kind-is : (w : Bench text classes offsets lengths d) → Few-items (w .file) → (o : Option Interface) → getElem? (w .file .interfaces) face ≡ o
+      kind-is : (w : Bench text classes offsets lengths d) → Few (w .file) → (o : Option Interface) → getElem? (w .file .interfaces) face ≡ o
           → kind ≡ kind-code (member-kind o (name-row text offsets lengths i))
       kind-is w few none e = absurd (none-there w few e)
       kind-is w few (some j) e = on (found-in w few j e)
@@ -374,7 +373,7 @@ module _ {text classes offsets lengths d : List ℕ} {want : ℕ} (face i : ℕ)
               → kind ≡ kind-code (kind-if-found (member-named j (name-in text offsets lengths i)))
           on (f, p, r) = rw p (z .is text offsets lengths w j (f .item) e r)
 
-      faults : (w : Bench text classes offsets lengths d) → Few-items (w .file) → (o : Option Interface) → getElem? (w .file .interfaces) face ≡ o
+      faults : (w : Bench text classes offsets lengths d) → Few (w .file) → (o : Option Interface) → getElem? (w .file .interfaces) face ≡ o
           → earliest (fault-unless fits 16 (getD offsets i 0)) ≡ earliest (member-faults (sort-wanted want) o (name-row text offsets lengths i))
       faults w few none e = absurd (none-there w few e)
       faults w few (some j) e = on (found-in w few j e)
@@ -409,7 +408,7 @@ pub declared-found : {text offsets lengths d : List ℕ} (n i : ℕ) {e k : ℕ}
 unfolding interface-faults
 declared-found {text} {offsets} {lengths} {d} n i g h {r = r} x u y v m = record { faults = λ classes w few. go classes w few }
   where
-    go : (classes : List ℕ) (w : Bench text classes offsets lengths d) → Few-items (w .file)
+    go : (classes : List ℕ) (w : Bench text classes offsets lengths d) → Few (w .file)
         → found-as r ≡ earliest (fault-unless (not (is-found (entity-named (w .file) (name-in text offsets lengths n)))) 15 (getD offsets n 0)
         ++ fault-unless (is-found (interface-named (w .file) (name-in text offsets lengths i))) 16 (getD offsets i 0))
     go classes w few =

@@ -31,6 +31,7 @@ use Rattle.text.specs.Walks.{no-token, nth-token, Steps, Walks}
 use Rattle.text.proofs.ListLaws.{flatMap-append}
 use Rattle.text.proofs.WalkLaws.{next-steps, getElem?-inside, walk-yields}
 use Rattle.text.proofs.ConditionWalks.{rule-walk}
+use Rattle.checking.specs.DirectoryReads.{Few}
 use Rattle.checking.specs.declared.faults.Found.{Found}
 use Rattle.checking.specs.declared.faults.Found.the-variants as variants
 use Rattle.checking.specs.declared.meanings.Meaning.{Meaning}
@@ -68,7 +69,7 @@ use Rattle.checking.specs.KindFaults.{
   rule-kinds,
 }
 use Rattle.checking.specs.Directory.{name-in, Begins, Bench}
-use Rattle.checking.specs.RuleWalk.{Few-items, Rule-faults}
+use Rattle.checking.specs.RuleWalk.{Rule-faults}
 use Rattle.checking.specs.RuleParts.{
   name-row,
   Repeated,
@@ -348,7 +349,7 @@ module _ {text classes offsets lengths d : List ℕ} {at : ℕ} where
     unfolding rule-yields flatMap
     rule-walked start = rule-walk start f t g h (next-steps (z .next)) λ c a b bs u v w. k .part _ _ _ _ u (j .part _ _ _ _ v w)
 
-    rule-part : (w : Bench text classes offsets lengths d) → Few-items (w .file) → (r : Rule) → Begins (w .tokens) at WHEN rule-after r
+    rule-part : (w : Bench text classes offsets lengths d) → Few (w .file) → (r : Rule) → Begins (w .tokens) at WHEN rule-after r
         → Part-of (flatMap (clause-names (scope-of (w .file) r)) (clauses (r .condition)) ++ flatMap (call-names (scope-of (w .file) r)) (r .calls))
         (flatMap (clause-kinds (scope-of (w .file) r)) (clauses (r .condition)) ++ flatMap (call-kinds (scope-of (w .file) r)) (r .calls)) q
     unfolding rule-yields
@@ -363,7 +364,7 @@ module _ {text classes offsets lengths d : List ℕ} {at : ℕ} where
     unfolding rule-names rule-kinds
     rule-found {again} {names} e n = record { names = names-are; kinds = λ w few r b. rule-part w few r b .kinds-found }
       where
-        names-are : (w : Bench text classes offsets lengths d) → Few-items (w .file) → (r : Rule) → Begins (w .tokens) at WHEN rule-after r
+        names-are : (w : Bench text classes offsets lengths d) → Few (w .file) → (r : Rule) → Begins (w .tokens) at WHEN rule-after r
             → found-as names ≡ earliest (rule-names (w .file) r)
         names-are w few r b =
             let c : Rule-world text classes offsets lengths d at = record { bench = w; few = few; rule = r; begins = b; high = 0 } in

@@ -35,14 +35,8 @@ use Rattle.checking.specs.Directory.{
   Directory-of,
   Bench,
 }
-use Rattle.checking.specs.DirectoryReads.{few-members}
+use Rattle.checking.specs.DirectoryReads.{Few}
 use Rattle.checking.specs.Sequences.{Sequence}
-
--- "Most: 16 interfaces, 12 members each, 32 entities"
-pub record Few (f : File) : Type 0 where
-  pub interfaces : length (f .interfaces) ≤ 16
-  pub members : (k : ℕ) → few-members k f
-  pub entities : length (f .entities) ≤ 32
 
 -- ---- interfaces
 

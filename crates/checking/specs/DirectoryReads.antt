@@ -34,6 +34,12 @@ pub record Number-of (text offsets lengths d : List ℕ) (most : ℕ) (within-co
 abbrev pub few-members : ℕ → File → Type 0
 few-members k f = (i : Interface) → getElem? (f .interfaces) k ≡ some i → length (i .members) ≤ 12
 
+-- "Most: 16 interfaces, 12 members each, 32 entities": no more items than the directory has rows for
+pub record Few (f : File) : Type 0 where
+  pub interfaces : length (f .interfaces) ≤ 16
+  pub members : (k : ℕ) → few-members k f
+  pub entities : length (f .entities) ≤ 32
+
 -- the row of member number m of interface number k, where the directory has it
 pub record Member-row (d : List ℕ) (k m r : ℕ) : Type 0 where
   pub within : r < 65536

@@ -30,6 +30,7 @@ use Rattle.values.specs.declared.Operator.{Operator}
 use Rattle.text.specs.Readers.{Reader}
 use Rattle.text.specs.Grammar.{rule-after}
 use Rattle.text.specs.Walks.{Rows, Walks}
+use Rattle.checking.specs.DirectoryReads.{Few}
 use Rattle.checking.specs.declared.faults.Found.{Found}
 use Rattle.checking.specs.declared.meanings.Meaning.{Meaning}
 use Rattle.checking.specs.declared.meanings.Cell.{Cell}
@@ -64,7 +65,6 @@ use Rattle.checking.specs.KindFaults.{
   call-kinds,
 }
 use Rattle.checking.specs.Directory.{name-in, Begins, sort-class, kind-class, Bench}
-use Rattle.checking.specs.RuleWalk.{Few-items}
 
 -- ---- names
 
@@ -110,7 +110,7 @@ pub record Repeated (text classes offsets lengths : List ℕ) (start : ℕ) (r :
 -- a bench, and a rule of it that begins with token number `start`; what stands before token number `high`
 pub record Rule-world (text classes offsets lengths d : List ℕ) (start : ℕ) : Type 0 where
   pub bench : Bench text classes offsets lengths d
-  pub few : Few-items (bench .file)
+  pub few : Few (bench .file)
   pub rule : Rule
   pub begins : Begins (bench .tokens) start WHEN rule-after rule
   pub high : ℕ
@@ -150,9 +150,9 @@ pub record Sort-fits (want sort : ℕ) (r : Bool) : Type 0 where
 
 -- the member of interface number `face` that token number i names: its kind, and a fault where there is none of a wanted sort
 pub record Cell-of (text classes offsets lengths d : List ℕ) (face want i : ℕ) (r : Cell) : Type 0 where
-  pub kind : (w : Bench text classes offsets lengths d) → Few-items (w .file)
+  pub kind : (w : Bench text classes offsets lengths d) → Few (w .file)
       → r .kind ≡ kind-code (member-kind (getElem? (w .file .interfaces) face) (name-row text offsets lengths i))
-  pub names : (w : Bench text classes offsets lengths d) → Few-items (w .file)
+  pub names : (w : Bench text classes offsets lengths d) → Few (w .file)
       → found-as (r .names) ≡ earliest (member-faults (sort-wanted want) (getElem? (w .file .interfaces) face) (name-row text offsets lengths i))
 
 -- ---- expressions
@@ -226,7 +226,7 @@ pub record Joined (p q r : Part) : Type 0 where
 
 -- "no variable bears an entity's name", and its interface is known: token number n declared with the interface at number i
 pub record Declared (text offsets lengths d : List ℕ) (n i : ℕ) (r : Found) : Type 0 where
-  pub faults : (classes : List ℕ) (w : Bench text classes offsets lengths d) → Few-items (w .file)
+  pub faults : (classes : List ℕ) (w : Bench text classes offsets lengths d) → Few (w .file)
       → found-as r ≡ earliest (fault-unless (not (is-found (entity-named (w .file) (name-in text offsets lengths n)))) 15 (getD offsets n 0)
       ++ interface-faults (w .file) (name-row text offsets lengths i))
 

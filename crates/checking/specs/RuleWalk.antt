@@ -12,17 +12,11 @@ use Rattle.checking.specs.FoundFaults.{found-as}
 use Rattle.checking.specs.NameFaults.{rule-names}
 use Rattle.checking.specs.KindFaults.{rule-kinds}
 use Rattle.checking.specs.Directory.{Begins, Bench}
-use Rattle.checking.specs.DirectoryReads.{few-members}
-
--- no more items than a directory has rows for
-pub record Few-items (f : File) : Type 0 where
-  pub interfaces : length (f .interfaces) ≤ 16
-  pub members : (k : ℕ) → few-members k f
-  pub entities : length (f .entities) ≤ 32
+use Rattle.checking.specs.DirectoryReads.{Few}
 
 -- of the rule that begins with token number `at`
 pub record Rule-faults (text classes offsets lengths d : List ℕ) (at : ℕ) (r : Faulted) : Type 0 where
-  pub names : (w : Bench text classes offsets lengths d) → Few-items (w .file) → (x : Rule) → Begins (w .tokens) at WHEN rule-after x
+  pub names : (w : Bench text classes offsets lengths d) → Few (w .file) → (x : Rule) → Begins (w .tokens) at WHEN rule-after x
       → found-as (r .names) ≡ earliest (rule-names (w .file) x)
-  pub kinds : (w : Bench text classes offsets lengths d) → Few-items (w .file) → (x : Rule) → Begins (w .tokens) at WHEN rule-after x
+  pub kinds : (w : Bench text classes offsets lengths d) → Few (w .file) → (x : Rule) → Begins (w .tokens) at WHEN rule-after x
       → found-as (r .kinds) ≡ earliest (rule-kinds (w .file) x)

@@ -8,9 +8,9 @@ use lib.Dec.{eqb}
 use mathlib.Core.Option.{Option, none, some}
 use lib.ListN.{length, getD, getElem?}
 use Rattle.text.specs.Syntax.{Sort, attribute, event, action, Member, Interface, Entity, File}
+use Rattle.checking.specs.DirectoryReads.{Few}
 use Rattle.checking.specs.Scope.{Found, look-up, item-of, interface-named, interface-of-entity, interface-of, nth-member, member-of, is-attribute, is-action}
 use Rattle.checking.specs.Directory.{sort-class, Bench, number-or, interface-number, member-count-row, member-row, entity-interface-row}
-use Rattle.checking.specs.DeclarationWalk.{Few}
 use Rattle.checking.proofs.DirectoryLaws.{number-beyond, number-inside, named-bytes, class-stands}
 use Rattle.checking.proofs.LookUpLaws.{found-at}
 use Rattle.checking.proofs.WithinCounts.{Within-counts}

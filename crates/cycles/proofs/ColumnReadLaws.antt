@@ -14,7 +14,7 @@ use Rattle.text.specs.Syntax.{Sort, attribute, event, action, Member, Interface
 use Rattle.text.proofs.ListLaws.{some-injective, none-some}
 use Rattle.checking.specs.Scope.{Found, look-up, item-of, entity-named, member-named, interface-of-entity, interface-of}
 use Rattle.checking.specs.Directory.{Bench, sort-class, entity-number, member-number}
-use Rattle.checking.specs.DirectoryReads.{Number-of, Member-class, few-members}
+use Rattle.checking.specs.DirectoryReads.{Few, Number-of, Member-class, few-members}
 use Rattle.checking.proofs.WithinCounts.{Within-counts}
 use Rattle.checking.proofs.LookUpLaws.{found-at, entity-found}
 use Rattle.checking.proofs.DirectoryLaws.{number-below}
@@ -23,7 +23,7 @@ use Rattle.cycles.specs.Spots.{spot-at, spot-among, spot-of}
 use Rattle.cycles.specs.Fields.{split}
 use Rattle.cycles.specs.Header.{Column, event-column, column-of-entity, column}
 use Rattle.cycles.specs.FieldReads.{Field-start}
-use Rattle.cycles.specs.HeaderReads.{Few, column-number, number-if-column, Column-read}
+use Rattle.cycles.specs.HeaderReads.{column-number, number-if-column, Column-read}
 use Rattle.cycles.proofs.CellNumbers.{no-member-no-cell}
 use Rattle.cycles.proofs.SpotLaws.{found-spot, entity-spot}
 use Rattle.cycles.proofs.SoundLine.{Sound-column}

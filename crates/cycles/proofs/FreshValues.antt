@@ -17,10 +17,11 @@ use Rattle.text.specs.Readers.{read, Reader, give, and-then}
 use Rattle.text.specs.Grammar.{name-of, literal-reader, assignment-after}
 use Rattle.text.proofs.TreeLaws.{read-tree}
 use Rattle.text.proofs.SpotLaws.{Starts, expect-starts, and-then-parts}
+use Rattle.checking.specs.DirectoryReads.{Few}
 use Rattle.checking.specs.Scope.{Found, here-or-later, look-up, member-of, is-attribute}
 use Rattle.checking.specs.Directory.{name-in, Columns-of, Begins, Bench}
 use Rattle.checking.specs.Sequences.{Sequence}
-use Rattle.checking.specs.DeclarationWalk.{Few, Assignment-end, Body-of}
+use Rattle.checking.specs.DeclarationWalk.{Assignment-end, Body-of}
 use Rattle.checking.proofs.DirectoryLaws.{number-below, column-bytes}
 use Rattle.checking.proofs.SequenceLaws.{First, sequence-order, sequence-first, sequence-ends}
 use Rattle.checking.proofs.EntityTokens.{assignment-stands, entity-stands}

@@ -10,11 +10,12 @@ use lib.ListN.{length, set, take, drop}
 use borrow.Author.Tests.{le-leb, lt-leb}
 use Rattle.values.specs.Bytes.{same-bytes}
 use Rattle.text.specs.Syntax.{File}
+use Rattle.checking.specs.DirectoryReads.{Few}
 use Rattle.checking.specs.Directory.{Bench}
 use Rattle.cycles.specs.Fields.{split, fields}
 use Rattle.cycles.specs.Header.{Column, column, is-column-among, column-before, columns, columns-after-n, header}
 use Rattle.cycles.specs.FieldReads.{Field-start}
-use Rattle.cycles.specs.HeaderReads.{Few, column-number, number-if-column, Column-read, backwards, is-number-among, Header-read}
+use Rattle.cycles.specs.HeaderReads.{column-number, number-if-column, Column-read, backwards, is-number-among, Header-read}
 use Rattle.cycles.proofs.SoundLine.{column-sound, columns-sound}
 use Rattle.cycles.proofs.FieldLaws.{split-end, Last-of, split-last}
 use Rattle.cycles.proofs.ColumnLaws.{among-numbers, Apart-below, apart-few, backwards-length, backwards-set, apart-at}

@@ -18,13 +18,13 @@ use Rattle.text.specs.Syntax.{Interface, File}
 use Rattle.text.proofs.ListLaws.{none-some}
 use Rattle.checking.specs.Scope.{interface-of, nth-member, member-of}
 use Rattle.checking.specs.Directory.{Bench, kind-class}
-use Rattle.checking.specs.DirectoryReads.{Member-class}
+use Rattle.checking.specs.DirectoryReads.{Few, Member-class}
 use Rattle.checking.proofs.CalledLaws.{row-interface}
 use Rattle.cycles.specs.Spots.{Spot}
 use Rattle.cycles.specs.Header.{Column, is-presence, is-member-number}
 use Rattle.cycles.specs.Record.{Input, field-in, as-truth, presence-in, given-in, inputs-of}
 use Rattle.cycles.specs.StateImage.{table, presence-flag, input-bytes}
-use Rattle.cycles.specs.HeaderReads.{Few, member-or-presence, column-number}
+use Rattle.cycles.specs.HeaderReads.{member-or-presence, column-number}
 use Rattle.cycles.specs.LineReads.{is-well-formed, said, presence-table, input-table, presence-put, event-put, Column-stands, Input-put}
 use Rattle.cycles.proofs.CellNumbers.{cell-entity, cell-member, cell-below, no-member-no-cell}
 use Rattle.cycles.proofs.CellFits.{length-input-bytes}

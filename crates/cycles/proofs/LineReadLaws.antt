@@ -9,6 +9,7 @@ use lib.ListN.{length, getD, drop, length-map}
 use Rattle.values.specs.declared.Number.{Number}
 use Rattle.values.specs.declared.Number.the-variants.{Is, Not}
 use Rattle.text.specs.Syntax.{File}
+use Rattle.checking.specs.DirectoryReads.{Few}
 use Rattle.checking.specs.Directory.{Bench}
 use Rattle.cycles.specs.declared.lines.Reading.{Reading as Reads}
 use Rattle.cycles.specs.declared.lines.Reading.the-variants.{Refused, Got}
@@ -16,7 +17,7 @@ use Rattle.cycles.specs.Header.{Column, header}
 use Rattle.cycles.specs.Record.{Numbered, record-of, Input, inputs-in, inputs-of, presence-in, given-in}
 use Rattle.cycles.specs.Line.{accepted, or-refused, reading}
 use Rattle.cycles.specs.StateImage.{table, input-bytes}
-use Rattle.cycles.specs.HeaderReads.{Few, column-number, backwards, Header-is, Header-read}
+use Rattle.cycles.specs.HeaderReads.{column-number, backwards, Header-is, Header-read}
 use Rattle.cycles.specs.LineReads.{number-if-record, Column-stands, Inputs-are, Values-read, Answers, Line-read}
 use Rattle.cycles.proofs.SoundLine.{Sound-column, header-sound}
 use Rattle.cycles.proofs.ColumnLaws.{backwards-length}

@@ -22,10 +22,10 @@ use Rattle.text.specs.Tokens.{Token, tokens, tokens-of}
 use Rattle.text.specs.Syntax.{Member, Entity, File}
 use Rattle.text.proofs.SpotLaws.{stands-drop}
 use Rattle.text.proofs.TokenFacts.{token-in-text}
+use Rattle.checking.specs.DirectoryReads.{Few}
 use Rattle.checking.specs.Scope.{member-of, is-action}
 use Rattle.checking.specs.Verdict.{name-if-found}
 use Rattle.checking.specs.Directory.{name-in, Columns-of, kind-class, Bench}
-use Rattle.checking.specs.DeclarationWalk.{Few}
 use Rattle.checking.proofs.DirectoryLaws.{number-below, number-inside, named-bytes}
 use Rattle.cycles.specs.Store.{State}
 use Rattle.cycles.specs.Spots.{Spot}

@@ -12,9 +12,9 @@ use Rattle.values.specs.declared.Kind.{Kind}
 use Rattle.values.specs.declared.Kind.the-variants.{Wholes, Bools, Reals}
 use Rattle.values.specs.Bytes.{word-at}
 use Rattle.text.specs.Syntax.{Sort, attribute, event, action, Member, File}
+use Rattle.checking.specs.DirectoryReads.{Few}
 use Rattle.checking.specs.Scope.{member-of}
 use Rattle.checking.specs.Directory.{sort-class, kind-class, Bench}
-use Rattle.checking.specs.DeclarationWalk.{Few}
 use Rattle.cycles.specs.declared.image.Plane.{Plane}
 use Rattle.cycles.specs.declared.image.Plane.the-variants.{Now, Previous, Inputs}
 use Rattle.cycles.specs.StateImage.{

@@ -16,6 +16,7 @@ use Rattle.values.specs.declared.Field.the-variants.{Blank, Given, Malformed}
 use Rattle.values.specs.Bytes.{same-bytes}
 use Rattle.text.specs.Syntax.{File}
 use Rattle.text.proofs.ListLaws.{some-injective, none-some, All, all-none, all-cons}
+use Rattle.checking.specs.DirectoryReads.{Few}
 use Rattle.checking.specs.Scope.{is-found}
 use Rattle.checking.proofs.DirectoryLaws.{number-below}
 use Rattle.cycles.specs.Store.{Store, Inputs}
@@ -36,7 +37,7 @@ use Rattle.cycles.specs.Header.{
 use Rattle.cycles.specs.Record.{record-of, Input, field-in, input-before, inputs-in, given-in, inputs-of, takes-input}
 use Rattle.cycles.specs.Line.{accepted, Reading, reading}
 use Rattle.cycles.specs.StateImage.{each}
-use Rattle.cycles.specs.HeaderReads.{Few, member-or-presence, column-number, is-number-among}
+use Rattle.cycles.specs.HeaderReads.{member-or-presence, column-number, is-number-among}
 use Rattle.cycles.proofs.WalkLaws.{every-passes}
 use Rattle.cycles.proofs.CellNumbers.{cell-entity, cell-member, cell-below}
 use Rattle.cycles.proofs.TableLaws.{each-holds, each-at}

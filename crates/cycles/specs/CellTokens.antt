@@ -7,9 +7,9 @@ use mathlib.Core.Bool.{Bool}
 use lib.Dec.{eqb}
 use lib.ListN.{getD}
 use Rattle.text.specs.Syntax.{Sort, Member}
+use Rattle.checking.specs.DirectoryReads.{Few}
 use Rattle.checking.specs.Scope.{member-of}
 use Rattle.checking.specs.Directory.{name-in, sort-class, kind-class, Bench}
-use Rattle.checking.specs.DeclarationWalk.{Few}
 use Rattle.cycles.specs.Cycle.{is-sort}
 
 -- no token's number, for a cell of no member

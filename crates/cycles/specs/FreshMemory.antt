@@ -12,9 +12,10 @@ use Rattle.text.specs.Tokens.{Token}
 use Rattle.text.specs.Syntax.{Literal, literal-value, Entity, File}
 use Rattle.text.specs.Readers.{read}
 use Rattle.text.specs.Grammar.{number-reader, literal-reader}
+use Rattle.checking.specs.DirectoryReads.{Few}
 use Rattle.checking.specs.Scope.{look-up, member-of}
 use Rattle.checking.specs.Directory.{name-in, Columns-of, Bench}
-use Rattle.checking.specs.DeclarationWalk.{Few, Body-of}
+use Rattle.checking.specs.DeclarationWalk.{Body-of}
 use Rattle.cycles.specs.Cycle.{assigned, initial-value, fresh}
 use Rattle.cycles.specs.StateImage.{table, with-state}
 use Rattle.cycles.specs.StateMemory.{Put}

@@ -9,15 +9,9 @@ use lib.Dec.{eqb}
 use lib.ListN.{length, getD}
 use Rattle.text.specs.Syntax.{File}
 use Rattle.checking.specs.Directory.{Bench}
-use Rattle.checking.specs.DirectoryReads.{few-members}
+use Rattle.checking.specs.DirectoryReads.{Few}
 use Rattle.cycles.specs.Spots.{Spot}
 use Rattle.cycles.specs.Header.{Column, header}
-
--- "Most: 16 interfaces, 12 members each, 32 entities"
-pub record Few (f : File) : Type 0 where
-  pub interfaces : length (f .interfaces) ≤ 16
-  pub members : (k : ℕ) → few-members k f
-  pub entities : length (f .entities) ≤ 32
 
 -- ---- columns
 

@@ -7,6 +7,7 @@ use lib.Dec.{eqb}
 use lib.ListN.{length, getD, take}
 use Rattle.values.specs.Bytes.{same-bytes}
 use Rattle.text.specs.Syntax.{File}
+use Rattle.checking.specs.DirectoryReads.{Few}
 use Rattle.cycles.specs.declared.judge.Judgement.{Judgement}
 use Rattle.cycles.specs.declared.judge.Judgement.the-variants.{Refused, New, Resent}
 use Rattle.cycles.specs.Store.{State, Line}
@@ -14,7 +15,6 @@ use Rattle.cycles.specs.Record.{inputs-of}
 use Rattle.cycles.specs.Line.{Answer, refused, accepted, Reading, reading, line-in}
 use Rattle.cycles.specs.StateImage.{table, flag}
 use Rattle.cycles.specs.SoundState.{Sound-inputs}
-use Rattle.cycles.specs.HeaderReads.{Few}
 use Rattle.cycles.specs.LineReads.{presence-table, input-table}
 
 -- the last number again is a retransmission

@@ -13,6 +13,7 @@ use Rattle.values.specs.declared.Field.{Field}
 use Rattle.values.specs.declared.Field.the-variants.{Blank, Given, Malformed}
 use Rattle.values.specs.Bytes.{overwritten}
 use Rattle.text.specs.Syntax.{Entity, File}
+use Rattle.checking.specs.DirectoryReads.{Few}
 use Rattle.checking.specs.Scope.{member-of}
 use Rattle.checking.specs.Directory.{Bench}
 use Rattle.cycles.specs.declared.lines.Reading.{Reading as Reads}
@@ -24,7 +25,7 @@ use Rattle.cycles.specs.Header.{Column}
 use Rattle.cycles.specs.Record.{Numbered, field-in, as-truth, Input, inputs-in, inputs-of}
 use Rattle.cycles.specs.Line.{Answer, refused, accepted, Reading, reading}
 use Rattle.cycles.specs.StateImage.{table, presence-flag, input-bytes}
-use Rattle.cycles.specs.HeaderReads.{Few, column-number, backwards}
+use Rattle.cycles.specs.HeaderReads.{column-number, backwards}
 
 unfoldable pub number-if-record : Option Numbered → Number
 number-if-record none = Not

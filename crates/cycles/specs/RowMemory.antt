@@ -8,10 +8,10 @@ use lib.ListN.{length, getElem?, drop}
 use Rattle.values.specs.Cells.{cell-at}
 use Rattle.values.specs.Forms.{printed}
 use Rattle.text.specs.Syntax.{Member, File}
+use Rattle.checking.specs.DirectoryReads.{Few}
 use Rattle.checking.specs.Scope.{member-of, is-action}
 use Rattle.checking.specs.Verdict.{name-if-found}
 use Rattle.checking.specs.Directory.{name-in, Bench}
-use Rattle.checking.specs.DeclarationWalk.{Few}
 use Rattle.cycles.specs.Store.{State}
 use Rattle.cycles.specs.Spots.{Spot}
 use Rattle.cycles.specs.Row.{row, row-header}

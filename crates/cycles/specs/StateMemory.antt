@@ -8,8 +8,8 @@ use lib.ListN.{length, take}
 use Rattle.values.specs.declared.Kind.{Kind}
 use Rattle.values.specs.Bytes.{low-first, overwritten}
 use Rattle.text.specs.Syntax.{Member}
+use Rattle.checking.specs.DirectoryReads.{Few}
 use Rattle.checking.specs.Directory.{kind-class, Bench}
-use Rattle.checking.specs.DeclarationWalk.{Few}
 use Rattle.cycles.specs.declared.image.Plane.{Plane}
 use Rattle.cycles.specs.declared.image.Plane.the-variants.{Now, Previous, Inputs}
 use Rattle.cycles.specs.StateImage.{now-fits, previous-fits, input-fits-in, cells-fit, is-state}
