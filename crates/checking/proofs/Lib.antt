@@ -34,3 +34,11 @@ pub mod RuleVariables
 pub mod MeaningLaws
 pub mod RuleWalks
 pub mod CalledLaws
+pub mod RulesLaws
+pub mod JudgedLaws
+pub mod CheckLaws
+pub mod EntityNameLaws
+pub mod ReferenceLaws
+pub mod ResolvedNames
+pub mod ScopeLaws
+pub mod ResolutionLaws

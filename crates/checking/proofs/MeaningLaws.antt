@@ -151,7 +151,7 @@ module _ {text classes offsets lengths d : List ℕ} where
       ap₂ (λ bytes at. record { bytes = bytes; at = at }) b o
 
   module _ {start : ℕ} (c : Rule-world text classes offsets lengths d start) where
-    world-inside : Between 0 (length classes - 2) (names-from classes start)
+    pub world-inside : Between 0 (length classes - 2) (names-from classes start)
     world-inside = variables-inside (world-rows c) (c .begins .token) start (c .rule) (c .begins .used) (c .begins .reads)
 
     pub world-variables : variables (c .rule) ≡ map (variable-row text offsets lengths) (names-from classes start)
@@ -206,14 +206,14 @@ module _ {text classes offsets lengths d : List ℕ} {start : ℕ} (i : ℕ) {e 
     unfolding entity-number entity-named
     entity-number-is = g .is classes (c .bench) (c .few .entities)
 
-    entity-here : e < 32 → (f : Found Entity) × (entity-named (c .bench .file) (name-in text offsets lengths i) ≡ some f) × (f .number ≡ e)
+    pub entity-here : e < 32 → (f : Found Entity) × (entity-named (c .bench .file) (name-in text offsets lengths i) ≡ some f) × (f .number ≡ e)
     unfolding entity-named
     entity-here h =
         let (f, p, q) = number-some (λ (x : Entity). x .name) (name-in text offsets lengths i) (c .bench .file .entities) 32 (c .few .entities)
         (rw entity-number-is at h) in
         (f, p, q ∙ sym entity-number-is)
 
-    entity-missing : 32 ≤ e → entity-named (c .bench .file) (name-in text offsets lengths i) ≡ none
+    pub entity-missing : 32 ≤ e → entity-named (c .bench .file) (name-in text offsets lengths i) ≡ none
     unfolding entity-named
     entity-missing h =
         number-none (λ (x : Entity). x .name) (name-in text offsets lengths i) (c .bench .file .entities) 32 (c .few .entities) (rw entity-number-is at h)

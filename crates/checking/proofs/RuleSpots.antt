@@ -5,7 +5,7 @@ use mathlib.Core.Bool.{true}
 use mathlib.Core.List.{List, [], _∷_, _++_, map, flatMap, append-nil}
 use mathlib.Core.Option.{Option, none, some}
 use lib.ListN.{take, drop}
-use Rattle.text.specs.Tokens.{Token, EVENT, ACTION, COLON}
+use Rattle.text.specs.Tokens.{Token, EVENT, ACTION, WHEN, COLON}
 use Rattle.text.specs.Syntax.{Name, Target, Clause, Condition, clause, both, either, Call, Rule}
 use Rattle.text.specs.Readers.{read}
 use Rattle.text.specs.Grammar.{rule-after}
@@ -14,6 +14,7 @@ use Rattle.text.proofs.ListLaws.{flatMap-append, flatMap-map, flatMap-flatMap, 
 use Rattle.text.proofs.SpotLaws.{Spots, spots-select, offsets-of, spots-offsets}
 use Rattle.text.proofs.DeclarationMarks.{First-at}
 use Rattle.text.proofs.RuleMarks.{
+  Rule-at,
   Variable-at,
   Ruled,
   rule-mark,
@@ -29,7 +30,7 @@ use Rattle.text.proofs.RuleMarks.{
   is-ruling,
   rule-after-marks,
 }
-use Rattle.text.proofs.FlatLaws.{same-offset, clause-in, call-in, ruled-class, ruled-class-at, unchosen, chosen-one, not-wanted}
+use Rattle.text.proofs.FlatLaws.{same-offset, rule-in, rule-within, clause-in, call-in, ruled-class, ruled-class-at, unchosen, chosen-one, not-wanted}
 use Rattle.checking.specs.Scope.{Variable, clauses, declared-as, variables}
 
 unfoldable pub variable-in : Ruled → List Variable
@@ -127,6 +128,17 @@ module _ (ts : List Token) (t : Token) (p : ℕ) (r : Rule) (n : ℕ) (e : rule-
       here q (variable-mark m i) a = unchosen (ruled-class-at (variable-mark m i) a) refl
       here q (clause-mark c) a = unchosen (ruled-class-at (clause-mark c) a) refl
       here q (call-mark c) a = chosen-one (ruled-class-at (call-mark c) a) refl a
+
+  -- no rule begins within one
+  pub rule-no-rules : Spots ts (is WHEN) (Rule-at ts) p (p + n) []
+  unfolding rule-in ruled-class
+  rule-no-rules = chosen WHEN _ rule-in _ refl (rule-within r) here
+    where
+      here : (q : ℕ) (x : Ruled) → Ruled-at ts q x → Spots ts (is WHEN) (Rule-at ts) q (suc q) (rule-in x)
+      here q (rule-mark y) a = chosen-one (ruled-class-at (rule-mark y) a) refl a
+      here q (variable-mark m i) a = unchosen (ruled-class-at (variable-mark m i) a) refl
+      here q (clause-mark c) a = unchosen (ruled-class-at (clause-mark c) a) refl
+      here q (call-mark c) a = unchosen (ruled-class-at (call-mark c) a) refl
 
   -- their offsets
   pub clause-offsets : offsets-of (is EVENT) (take n (drop p ts)) ≡ map (λ c. c .at) (clauses (r .condition))

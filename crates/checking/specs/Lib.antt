@@ -17,3 +17,8 @@ pub mod DeclarationWalk
 pub mod RuleWalk
 pub mod RuleParts
 pub mod Called
+pub mod CheckedBench
+pub mod FileWalk
+pub mod CheckSteps
+pub mod Resolution
+pub mod Resolving

@@ -1,5 +1,6 @@
 // Which bench files are accepted.
 pub mod called; // what a file declares, by the bytes of its name
+pub mod check; // the check of a text
 pub mod conditions; // names and kinds of conditions and calls
 pub mod counts; // the counts of a file's items
 pub mod directory; // where a file's items begin
@@ -8,6 +9,8 @@ pub mod expressions; // names and kinds of expressions
 pub mod faults; // what a walk of the check finds
 pub mod interfaces; // the interfaces of a file
 pub mod meanings; // what the names in a rule mean
+pub mod names; // an entity's name by its number
+pub mod resolver; // what the names of rules refer to, as numbers
 pub mod rules; // names and kinds of rules
 pub mod table; // what the columns and the directory say
 
@@ -16,6 +19,7 @@ ghost use Prim.Native.Nat.{_+_, _*_, _<_};
 pub use called::entity_called;
 pub use called::interface_called;
 pub use called::member_called;
+pub use check::Checked;
 pub use counts::count_fault;
 pub use directory::build;
 pub use entities::entity_faults;
@@ -25,6 +29,8 @@ pub use faults::Found;
 pub use faults::earlier;
 pub use faults::unless;
 pub use interfaces::interface_faults;
+pub use names::entity_name;
+pub use resolver::resolve;
 pub use rules::rule_faults;
 pub use table::class_at;
 pub use table::entity_number;

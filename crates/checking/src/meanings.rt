@@ -56,7 +56,7 @@ pub fn offset(offsets: &[u16], i: usize) -> u32
 }
 
 // Does a token before one of this class declare a variable named as token number i? That token is number n.
-fn declares(text: &[u8], offsets: &[u16], lengths: &[u8], class: u8, n: usize, i: usize) -> bool
+pub fn declares(text: &[u8], offsets: &[u16], lengths: &[u8], class: u8, n: usize, i: usize) -> bool
     ensures { λ r. ⌜
         r ≡ (eqb class COLON && same-bytes (name-in (now (text .entry)) (now (offsets .entry)) (now (lengths .entry)) i)
         (name-in (now (text .entry)) (now (offsets .entry)) (now (lengths .entry)) n)) ⌝ }

@@ -30,7 +30,8 @@ use Rattle.cycles.specs.Bindings.{number-if, candidates, bindings, rule-
 use Rattle.cycles.specs.Cycle.{seen, after-writes, cycle, follow}
 use Rattle.cycles.specs.ClosedSet.{Among, here, there, is-of, can-be, Reads-inside, Closed}
 use Rattle.cycles.proofs.AmongLaws.{All-in, all-in-cons, one-passes-or-none, numbered-at, all-in-flatMap, flatMap-same}
-use Rattle.cycles.proofs.BindingLaws.{Binds, bindings-bind, meant-can-be, can-be-inside, Spot-in, spots-in}
+use Rattle.cycles.specs.AllRules.{Binds}
+use Rattle.cycles.proofs.BindingLaws.{bindings-bind, meant-can-be, can-be-inside, Spot-in, spots-in}
 use Rattle.cycles.proofs.FollowLaws.{follow-resent, follow-new}
 use Rattle.cycles.proofs.Agreement.{Stores-agree, States-agree, Lines-agree, binding-writes-agree}
 

@@ -14,11 +14,8 @@ use Rattle.cycles.specs.Store.{Store}
 use Rattle.cycles.specs.Spots.{Spot, spot-at, spot-among, meant-by, meant, spot-if-meant, spots, numbered}
 use Rattle.cycles.specs.Bindings.{number-if, candidates, bindings}
 use Rattle.cycles.specs.ClosedSet.{Among, is-of, can-mean, can-be, names-in-rule, Reads-inside}
+use Rattle.cycles.specs.AllRules.{Binds}
 use Rattle.cycles.proofs.AmongLaws.{All-in, all-in-cons, all-in-map, all-in-flatMap, numbered-at, look-up-at, at-among}
-
--- a binding that gives each variable an entity of its interface
-abbrev pub Binds : File → List Variable → List ℕ → Type 0
-Binds f vs b = (k : ℕ) (v : Variable) (e : ℕ) → getElem? vs k ≡ some v → getElem? b k ≡ some e → T (is-of f (v .interface .bytes) e)
 
 number-if-all : (b : Bool) (n : ℕ) (P : ℕ → Type 0) → (T b → P n) → All-in (number-if b n) P
 unfolding number-if

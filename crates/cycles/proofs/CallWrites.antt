@@ -1,12 +1,12 @@
 -- The writes of calls and of a rule, by a walk over their tokens: one law for each place where the walk returns, and three for its loop.
-use Prim.Native.Nat.{ℕ, _+_, _<_, _≤_}
+use Prim.Native.Nat.{ℕ, _+_, _/_, _%_, _<_, _≤_}
 use mathlib.Core.Path.{_≡_, refl, sym, ap, ap₂, _∙_}
 use mathlib.Core.List.{List, [], _∷_, _++_, flatMap, append-nil, append-assoc}
 use mathlib.Core.Bool.{Bool, true, false, _&&_}
 use mathlib.Core.Logic.{inr}
 use mathlib.Core.Option.{Option}
 use native.Mathlib.Omega.{arith}
-use lib.Dec.{eqb}
+use lib.Dec.{ltb, eqb}
 use lib.ListN.{length, getD, drop}
 use borrow.Author.Tests.{eqb-true, eqb-false}
 use Rattle.values.specs.declared.Value.{Value}
@@ -93,7 +93,7 @@ module _ {classes values refs : List ℕ} {b : Binding} {flags cells : List ℕ}
   made-is : (c : In-store classes values refs b flags cells) (k : Call) {e m : ℕ} {v : Value} {d f g h made : Bool}
       → Locates (c .rule .count) (c .rule .spots (k .target .name .bytes) (k .action .bytes)) e m
       → v ≡ value (c .rule .spots) (c .store) (k .parameter) → f ≡ filter-holds (c .rule .spots) (c .store) (k .target) (k .filter)
-      → d ≡ eqb (getD flags e 0) 1 → g ≡ is-set v → h ≡ (f && g) → made ≡ (d && h) → Put area made e m v after
+      → d ≡ (ltb m 12 && eqb (getD flags e 0) 1) → g ≡ is-set v → h ≡ (f && g) → made ≡ (d && h) → Put area made e m v after
       → after ≡ puts area (call-writes (c .rule .spots) (c .store) k)
   unfolding call-writes
   made-is c k l ev ef ed eg eh em put =
@@ -105,9 +105,9 @@ module _ {classes values refs : List ℕ} {b : Binding} {flags cells : List ℕ}
   pub call-is : {at name opener i j on owner k next r e m : ℕ} {v : Value} {d f g h made : Bool}
       → Steps (length classes) at name → Steps (length classes) name opener → Steps (length classes) opener i
       → Expression-walk classes values refs b flags cells (expression-reader OPENERS) i v j → Steps (length classes) j on
-      → Steps (length classes) on owner → r ≡ getD refs owner 0 → e ≡ bound b r → Target-walk classes owner k
+      → Steps (length classes) on owner → r ≡ getD refs owner 0 % 256 → e ≡ bound b r → Target-walk classes owner k
       → Filter-walk classes values refs b flags cells e (filter-reader OPENERS) k f next
-      → d ≡ eqb (getD flags e 0) 1 → g ≡ is-set v → h ≡ (f && g) → made ≡ (d && h) → m ≡ getD refs name 0 → Put area made e m v after
+      → d ≡ (ltb m 12 && eqb (getD flags e 0) 1) → g ≡ is-set v → h ≡ (f && g) → made ≡ (d && h) → m ≡ getD refs name 0 / 256 → Put area made e m v after
       → Call-walk classes values refs b flags cells area call-reader at after next
   unfolding call-reader call-writes name-of
   call-is {at} {name} {opener} {i} {j} {on} {owner} {k} {next} {r} {e} {m} {v} {made = made} s₁ s₂ s₃ x s₄ s₅ er ee t f ed eg eh em eref put = record {

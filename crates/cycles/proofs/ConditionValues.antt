@@ -1,11 +1,11 @@
 -- Whether a condition holds, by a walk over its tokens: one law for each place where the walk returns, and two for its loops.
-use Prim.Native.Nat.{ℕ, _-_, _<_}
+use Prim.Native.Nat.{ℕ, _-_, _/_, _%_, _<_}
 use mathlib.Core.Path.{_≡_, refl, sym, ap, ap₂, _∙_}
 use mathlib.Core.List.{List}
 use mathlib.Core.Bool.{Bool, true, false, not, _&&_, _||_}
 use mathlib.Core.Logic.{inl}
 use native.Mathlib.Omega.{arith}
-use lib.Dec.{eqb}
+use lib.Dec.{ltb, eqb}
 use lib.ListN.{length, getD}
 use borrow.Author.Tests.{ne-eqb}
 use Rattle.values.specs.declared.Value.{Value}
@@ -101,7 +101,7 @@ module _ {classes values refs : List ℕ} {b : Binding} {flags cells : List ℕ}
   filter-is-none n = filter-none left (λ q. n (is ∙ q)) (λ c. record { filters = λ t o. refl })
 
   pub filter-is-some : class ≡ WITH → {name j inside m next : ℕ} {u x : Value} {v : Bool} → Steps (length classes) at name → Steps (length classes) name j
-      → Steps (length classes) j inside → m ≡ getD refs name 0 → Cell-read flags cells e m u
+      → Steps (length classes) j inside → m ≡ getD refs name 0 / 256 → Cell-read flags cells e m u
       → Expression-walk classes values refs b flags cells (expression-reader left) inside x next → v ≡ equal u x
       → Filter-walk classes values refs b flags cells e (filter-reader left) at v next
   unfolding filter-holds name-of
@@ -150,10 +150,10 @@ module _ {classes values refs : List ℕ} {b : Binding} {flags cells previous-fl
 
   module _ {at : ℕ} (left : ℕ) where
     pub clause-is : {name from owner i j o next r e m : ℕ} {f t g d v : Bool} → Steps (length classes) at name → Steps (length classes) name from
-        → Steps (length classes) from owner → Target-walk classes owner i → r ≡ getD refs owner 0 → e ≡ bound b r → m ≡ getD refs name 0
+        → Steps (length classes) from owner → Target-walk classes owner i → r ≡ getD refs owner 0 % 256 → e ≡ bound b r → m ≡ getD refs name 0 / 256
         → Filter-walk classes values refs b previous-flags previous-cells e (filter-reader left) i f j → Steps (length classes) j o
         → Test-walk classes values refs b flags cells previous-flags previous-cells e m (test-reader left) o t next
-        → d ≡ eqb (getD flags e 0) 1 → g ≡ (f && t) → v ≡ (d && g)
+        → d ≡ (ltb m 12 && eqb (getD flags e 0) 1) → g ≡ (f && t) → v ≡ (d && g)
         → Condition-walk classes values refs b flags cells previous-flags previous-cells (clause-reader left) at v next
     unfolding holds name-of
     clause-is {name} {from} {owner} {i} {e = e} {m = m} s₁ s₂ s₃ h er ee em k s₄ l ed eg ev =

@@ -1,12 +1,12 @@
 -- References, cells and writes in memory: what the evaluator's small functions give, and what a world's facts say of given tokens.
-use Prim.Native.Nat.{ℕ, _+_, _-_, _*_, _<_, _≤_}
+use Prim.Native.Nat.{ℕ, _+_, _-_, _*_, _/_, _%_, _<_, _≤_}
 use mathlib.Core.Path.{_≡_, refl, sym, ap, _∙_}
 use mathlib.Core.List.{List, [], _∷_, _++_}
-use mathlib.Core.Bool.{Bool, true, false}
-use mathlib.Core.Option.{Option}
+use mathlib.Core.Bool.{Bool, true, false, _&&_}
+use mathlib.Core.Option.{Option, none}
 use mathlib.Core.Logic.{_⊎_}
 use native.Mathlib.Omega.{arith}
-use lib.Dec.{eqb}
+use lib.Dec.{ltb, eqb}
 use lib.ListN.{length, getD}
 use borrow.Author.Tests.{lt-ltb, le-ltb, eq-eqb, ne-eqb}
 use Rattle.values.specs.declared.Value.{Value}
@@ -20,7 +20,7 @@ use Rattle.cycles.specs.Store.{Store}
 use Rattle.cycles.specs.Spots.{Spot}
 use Rattle.cycles.specs.Evaluate.{value-at, is-present-at, Write, written-if}
 use Rattle.cycles.specs.StateImage.{decode-store}
-use Rattle.cycles.specs.Evaluation.{bound, Locates, Refers, Targeted, bare, declares, Resolved, Stored, Cell-read, puts, Put}
+use Rattle.cycles.specs.Evaluation.{bound, Locates, located, missing, Refers, Targeted, bare, declares, Resolved, Stored, Cell-read, puts, Put}
 
 -- ---- references
 
@@ -43,27 +43,49 @@ module _ (b : Binding) (r : ℕ) where
 
 -- ---- cells
 
-module _ {count : ℕ} {flags cells : List ℕ} {s : Store} (h : Stored count flags cells s) {p : Option Spot} {e m : ℕ} (l : Locates count p e m) where
-  pub present-located : eqb (getD flags e 0) 1 ≡ is-present-at s p
+-- whether entity e is present, asked of member m
+module _ (m : ℕ) (p : Bool) where
+  pub no-member : 12 ≤ m → false ≡ (ltb m 12 && p)
+  no-member h = rw (le-ltb m 12 h)
+
+  pub a-member : m < 12 → {r : Bool} → r ≡ p → r ≡ (ltb m 12 && p)
+  a-member h q = rw (lt-ltb m 12 h) q
+
+module _ {count : ℕ} {flags cells : List ℕ} {s : Store} (h : Stored count flags cells s) {p : Option Spot} {e m : ℕ} where
+  pub present-located : Locates count p e m → (ltb m 12 && eqb (getD flags e 0) 1) ≡ is-present-at s p
   unfolding is-present-at
-  present-located = rw (l .found) (sym (h .present e (l .entity-below)))
+  present-located (located what q k l) = rw (q, lt-ltb m 12 l) (sym (h .present e k))
+  present-located (missing q k) = rw (q, le-ltb m 12 k)
 
-  absent-read : eqb (getD flags e 0) 1 ≡ false → Unset ≡ value-at s p
+  absent-read : Locates count p e m → (ltb m 12 && eqb (getD flags e 0) 1) ≡ false → Unset ≡ value-at s p
   unfolding value-at
-  absent-read a = rw (l .found, h .present e (l .entity-below), a)
+  absent-read (located what q k l) a =
+      let z : eqb (getD flags e 0) 1 ≡ false = rw (lt-ltb m 12 l) at a in
+      rw (q, h .present e k, z)
+  absent-read (missing q k) a = rw q
 
-  present-read : eqb (getD flags e 0) 1 ≡ true → {v : Value} → v ≡ cell-at cells (e * 12 + m) → v ≡ value-at s p
+  short-read : Locates count p e m → length cells < (e * 12 + m) * 9 + 9 → Unset ≡ value-at s p
   unfolding value-at
-  present-read a q = rw (l .found, h .present e (l .entity-below), a) (q ∙ sym (h .cell e m (l .entity-below) (l .member-below)))
+  short-read (located what q k l) a = absurd (omega (arith, h .room))
+  short-read (missing q k) a = rw q
+
+  present-read : Locates count p e m → (ltb m 12 && eqb (getD flags e 0) 1) ≡ true → {v : Value} → v ≡ cell-at cells (e * 12 + m) → v ≡ value-at s p
+  unfolding value-at
+  present-read (located what q k l) a r =
+      let z : eqb (getD flags e 0) 1 ≡ true = rw (lt-ltb m 12 l) at a in
+      rw (q, h .present e k, z) (r ∙ sym (h .cell e m k l))
+  present-read (missing q k) a r =
+      let y : false ≡ true = rw (le-ltb m 12 k) at a in
+      let z : _≡_ {A = ℕ} 0 1 = cc in absurd (omega arith)
 
 module _ {flags cells : List ℕ} {e m : ℕ} where
-  pub read-absent : eqb (getD flags e 0) 1 ≡ false → Cell-read flags cells e m Unset
+  pub read-absent : (ltb m 12 && eqb (getD flags e 0) 1) ≡ false → Cell-read flags cells e m Unset
   read-absent a = record { reads = λ count s p h l. absent-read h l a }
 
-  pub read-short : length cells < (e * 12 + m) * 9 + 9 → {v : Value} → Cell-read flags cells e m v
-  read-short k = record { reads = λ count s p h l. absurd (omega (arith, h .room, l .entity-below, l .member-below)) }
+  pub read-short : length cells < (e * 12 + m) * 9 + 9 → Cell-read flags cells e m Unset
+  read-short k = record { reads = λ count s p h l. short-read h l k }
 
-  pub read-present : eqb (getD flags e 0) 1 ≡ true → {v : Value} → v ≡ cell-at cells (e * 12 + m) → Cell-read flags cells e m v
+  pub read-present : (ltb m 12 && eqb (getD flags e 0) 1) ≡ true → {v : Value} → v ≡ cell-at cells (e * 12 + m) → Cell-read flags cells e m v
   read-present a q = record { reads = λ count s p h l. present-read h l a q }
 
 -- what a state image's part is read as stands there
@@ -82,17 +104,38 @@ unfolding puts
 puts-append area [] ys = refl
 puts-append area (w ∷ ws) ys = puts-append (with-cell area (w .entity * 12 + w .member) (w .value)) ws ys
 
+-- nothing is written where nothing was found
+none-written : (area : List ℕ) (made : Bool) (v : Value) → area ≡ puts area (written-if made none v)
+unfolding puts written-if
+none-written area true v = refl
+none-written area false v = refl
+
 module _ {area : List ℕ} {e m : ℕ} {v : Value} where
   pub put-nothing : {made : Bool} → made ≡ false → Put area made e m v area
   unfolding puts written-if
   put-nothing q = record { written = λ count p k l. rw q }
 
-  pub put-beyond : {made : Bool} → 384 ≤ e * 12 + m → Put area made e m v area
-  put-beyond h = record { written = λ count p k l. absurd (omega (arith, l .entity-below, l .member-below)) }
+  pub put-missing : {made : Bool} → 12 ≤ m → Put area made e m v area
+  put-missing {made} h = record { written = λ count p k l. go l }
+    where
+      go : {count : ℕ} {p : Option Spot} → Locates count p e m → area ≡ puts area (written-if made p v)
+      go (located what q k l) = absurd (omega arith)
+      go (missing q k) = rw q (none-written area made v)
 
-  pub put-made : {made : Bool} {after : List ℕ} → made ≡ true → after ≡ with-cell area (e * 12 + m) v → Put area made e m v after
+  pub put-beyond : {made : Bool} → 384 ≤ e * 12 + m → Put area made e m v area
+  put-beyond {made} h = record { written = λ count p k l. go k l }
+    where
+      go : {count : ℕ} {p : Option Spot} → count ≤ 32 → Locates count p e m → area ≡ puts area (written-if made p v)
+      go few (located what q k l) = absurd (omega arith)
+      go few (missing q k) = rw q (none-written area made v)
+
+  pub put-made : {made : Bool} {after : List ℕ} → made ≡ true → m < 12 → after ≡ with-cell area (e * 12 + m) v → Put area made e m v after
   unfolding puts written-if
-  put-made q a = record { written = λ count p k l. rw (q, l .found) a }
+  put-made {made} {after} em h a = record { written = λ count p k l. go l }
+    where
+      go : {count : ℕ} {p : Option Spot} → Locates count p e m → after ≡ puts area (written-if made p v)
+      go (located what q k l) = rw (em, q) a
+      go (missing q k) = absurd (omega arith)
 
 -- ---- the tokens of a world
 
@@ -130,9 +173,9 @@ module _ {classes values refs : List ℕ} {b : Binding} (x : Resolved classes va
 
   -- the attribute named after a target, whose name is token number n and whose entity is e
   pub filtered-at : {k n i e : ℕ} {name : List ℕ} → Stands (x .rows) k FROM ⊎ Stands (x .rows) k ON → n ≡ k + 1 → Targeted (x .rows) n i
-      → name ≡ nth-token (x .rows .tokens) n .bytes → e ≡ bound b (getD refs n 0)
+      → name ≡ nth-token (x .rows .tokens) n .bytes → e ≡ bound b (getD refs n 0 % 256)
       → Stands (x .rows) i WITH → Stands (x .rows) (i + 1) NAME
-      → Locates (x .count) (x .spots name (nth-token (x .rows .tokens) (i + 1) .bytes)) e (getD refs (i + 1) 0)
+      → Locates (x .count) (x .spots name (nth-token (x .rows .tokens) (i + 1) .bytes)) e (getD refs (i + 1) 0 / 256)
   filtered-at {k} {n} {i} w a h ename ee p q = rw (ename, ee, a) (x .filtered k i w (rw a at h) p q)
 
 pub target-named : {classes : List ℕ} {w : Rows classes} {n i : ℕ} → Targeted w n i → Stands w n NAME

@@ -1,5 +1,5 @@
 -- The value of an expression by a walk over its tokens: one law for each place where the walk returns, and two for its loops.
-use Prim.Native.Nat.{ℕ, _-_, _<_}
+use Prim.Native.Nat.{ℕ, _-_, _/_, _%_, _<_}
 use mathlib.Core.Path.{_≡_, refl, sym, ap, _∙_}
 use mathlib.Core.List.{List}
 use mathlib.Core.Bool.{Bool, true, false}
@@ -78,11 +78,11 @@ module _ (c : ℕ) where
 module _ {classes values refs : List ℕ} {b : Binding} {flags cells : List ℕ} {at class : ℕ} (is : class ≡ getD classes at 0) where
   pub leaf-cell : at < length classes → class ≡ NAME → {dot name next r e m : ℕ} {v : Value}
       → Steps (length classes) at dot → Steps (length classes) dot name → Steps (length classes) name next
-      → r ≡ getD refs at 0 → e ≡ bound b r → m ≡ getD refs name 0 → Cell-read flags cells e m v
+      → r ≡ getD refs at 0 % 256 → e ≡ bound b r → m ≡ getD refs name 0 / 256 → Cell-read flags cells e m v
       → Expression-walk classes values refs b flags cells (simple-or halt) at v next
   unfolding value name-of
   leaf-cell h q {dot} {name} {next} {r} {e} {m} {v} s t u er ee em k =
-      let f : Cell-read flags cells (bound b (getD refs at 0)) (getD refs name 0) v = rw (ee ∙ ap (bound b) er, em) at k in
+      let f : Cell-read flags cells (bound b (getD refs at 0 % 256)) (getD refs name 0 / 256) v = rw (ee ∙ ap (bound b) er, em) at k in
       leaf-member h (sym is ∙ q) (member-walk s t u λ c p₁ p₂ p₃.
       f .reads (c .rule .count) (c .store) (c .rule .spots (nth-token (c .rule .rows .tokens) at .bytes) (nth-token (c .rule .rows .tokens) name .bytes))
       (c .stored) (dotted-at (c .rule) s t p₁ p₂ p₃))

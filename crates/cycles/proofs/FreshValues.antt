@@ -28,7 +28,8 @@ use Rattle.checking.proofs.EntityTokens.{assignment-stands, entity-stands}
 use Rattle.checking.proofs.AssignmentLaws.{next-assignment}
 use Rattle.cycles.specs.Cycle.{is-sort, assigned, initial-value}
 use Rattle.cycles.specs.CellTokens.{Cell-token, Sort-test}
-use Rattle.cycles.specs.FreshMemory.{Values-of, Literal-at, Assigned-value, fresh-value, Fresh-cell}
+use Rattle.checking.specs.CheckedBench.{Values-of}
+use Rattle.cycles.specs.FreshMemory.{Literal-at, Assigned-value, fresh-value, Fresh-cell}
 use Rattle.cycles.proofs.CellTokenLaws.{attribute-class, member-told, entity-told}
 
 -- ---- an assignment's literal

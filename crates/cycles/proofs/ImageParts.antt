@@ -160,7 +160,7 @@ length-encode n s =
 
 -- ---- what is read back
 
-read-flag : (b : Bool) → eqb (cond b 1 0) 1 ≡ b
+pub read-flag : (b : Bool) → eqb (cond b 1 0) 1 ≡ b
 read-flag true = refl
 read-flag false = refl
 

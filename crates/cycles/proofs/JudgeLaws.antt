@@ -83,7 +83,7 @@ present-flags false (some true) = refl
 present-flags false (some false) = refl
 
 -- memory that begins with a table
-begins-with : (l part : List ℕ) (n : ℕ) → take n l ≡ part → l ≡ part ++ drop n l
+pub begins-with : (l part : List ℕ) (n : ℕ) → take n l ≡ part → l ≡ part ++ drop n l
 begins-with l part n e = sym (take-append-drop n l) ∙ ap (λ (x : List ℕ). x ++ drop n l) e
 
 -- ---- a line and a state in memory

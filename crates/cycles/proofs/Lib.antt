@@ -23,6 +23,7 @@ pub mod ExpressionValues
 pub mod ConditionValues
 pub mod AvoidLaws
 pub mod CallWrites
+pub mod ResolvedLaws
 pub mod CellTokenLaws
 pub mod StateTestLaws
 pub mod PutLaws
@@ -44,3 +45,9 @@ pub mod JudgeLaws
 pub mod TakesLaws
 pub mod SameInputsLaws
 pub mod CanonicalLaws
+pub mod AreaLaws
+pub mod SeenLaws
+pub mod CycleMemoryLaws
+pub mod CandidateLaws
+pub mod BindingWrites
+pub mod BindingPuts

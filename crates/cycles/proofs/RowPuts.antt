@@ -177,13 +177,17 @@ module _ {classes d cells : List ℕ} where
   }
 
   module _ {n : ℕ} (e : n ≡ getD d 1 0) where
-    pub row-impossible : 32 < n → {last : ℕ} {l m : List ℕ} {r : ℕ} → Row-put classes d cells last l m r
-    row-impossible h = record { is = λ text offsets lengths w c. let q = w .directory .entities in absurd (omega (arith, c .entities)) }
+    pub row-impossible : 32 < n → {last : ℕ} {l m : List ℕ} → Row-put classes d cells last l m 0
+    row-impossible h = record {
+      short = omega arith;
+      is = λ text offsets lengths w c. let q = w .directory .entities in absurd (omega (arith, c .entities));
+    }
 
     -- the number, and the fields of all cells
     pub row-end : {last from at i : ℕ} {a l m : List ℕ} → (from ≡ 0 + length (decimal last)) × (l ≡ overwritten a 0 (decimal last))
         → Fired-so-far classes d cells l from i m at → i ≤ 12 * n → 12 * n ≤ i → n ≤ 32 → 32768 ≤ length a → Row-put classes d cells last a m at
     row-end {last} {from} {at} {i} {a} p q g h few big = record {
+      short = let low = decimal-most last in let high = q .short in let end = p .0 in omega arith;
       is = λ text offsets lengths w c s k cs.
           let f = w .file in
           let z = w .directory .entities in
@@ -329,12 +333,16 @@ module _ {text classes offsets lengths d : List ℕ} where
 
   module _ {n : ℕ} (e : n ≡ getD d 1 0) where
     pub header-impossible : 32 < n → {l m : List ℕ} {r : ℕ} → Header-put text classes offsets lengths d l m r
-    header-impossible h = record { is = λ w c. let q = w .directory .entities in absurd (omega (arith, c .entities)) }
+    header-impossible h = record {
+      short = λ w c s. let q = w .directory .entities in absurd (omega (arith, c .entities));
+      is = λ w c. let q = w .directory .entities in absurd (omega (arith, c .entities));
+    }
 
     pub header-end : {at i : ℕ} (a : List ℕ) {m : List ℕ} → Names-so-far text classes offsets lengths d (set a 0 110) 1 i m at
         → i ≤ 12 * n → 12 * n ≤ i → Header-put text classes offsets lengths d a m at
     unfolding row-header
     header-end {at} {i} a q g h = record {
+      short = λ w c s. let z = w .directory .entities in let high = q .is w c s .0 in omega (arith, c .entities);
       is = λ w c s.
           let f = w .file in
           let z = w .directory .entities in

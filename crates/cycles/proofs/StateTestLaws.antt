@@ -203,7 +203,7 @@ module _ {plane : Plane} {classes d cells : List ℕ} where
 abbrev pub behind : ℕ → List ℕ → List ℕ
 behind k m = take (length m - k) (drop k m)
 
-behind-all : (k : ℕ) (m : List ℕ) → behind k m ≡ drop k m
+pub behind-all : (k : ℕ) (m : List ℕ) → behind k m ≡ drop k m
 behind-all k m = take-all (length m - k) (drop k m) (rw (length-drop k m) (omega arith))
 
 -- the tests after that of the last number, by the number of entities

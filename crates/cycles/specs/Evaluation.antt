@@ -1,10 +1,10 @@
 -- What the evaluator of one rule at one binding works on: columns that stand for tokens and for what their names mean, memory that stands
 -- for a store, and memory that takes writes. What it promises holds in every world for which the columns and the memory stand.
-use Prim.Native.Nat.{ℕ, _+_, _*_, _<_, _≤_}
+use Prim.Native.Nat.{ℕ, _+_, _*_, _/_, _%_, _<_, _≤_}
 use mathlib.Core.Path.{_≡_}
 use mathlib.Core.List.{List, [], _∷_, flatMap}
 use mathlib.Core.Bool.{Bool, cond}
-use mathlib.Core.Option.{Option, some}
+use mathlib.Core.Option.{Option, none, some}
 use mathlib.Core.Logic.{_⊎_}
 use lib.Dec.{ltb, eqb}
 use lib.ListN.{length, getD, getElem?, drop}
@@ -26,12 +26,10 @@ use Rattle.cycles.specs.Evaluate.{value-at, value, filter-holds, test-ho
 unfoldable pub bound : Binding → ℕ → ℕ
 bound b r = cond (ltb r 32) r (cond (eqb r 32) (b .first) (cond (eqb r 33) (b .second) (b .third)))
 
--- a look-up found member m of entity e, of so many entities
-pub record Locates (count : ℕ) (p : Option Spot) (e m : ℕ) : Type 0 where
-  pub what : Member
-  pub found : p ≡ some (record { entity = e; member = m; what = what })
-  pub entity-below : e < count
-  pub member-below : m < 12
+-- what a reference says of a look-up, among so many entities: member m of entity e, or nothing, where m is no member's number
+pub data Locates (count : ℕ) (p : Option Spot) (e m : ℕ) : Type 0 where
+  located : (what : Member) → p ≡ some (record { entity = e; member = m; what = what }) → e < count → m < 12 → Locates count p e m
+  missing : p ≡ none → 12 ≤ m → Locates count p e m
 
 -- a target whose name is token number n, up to token number i: "name `:` interface declares a variable; a bare name .."
 pub data Targeted {classes : List ℕ} (w : Rows classes) (n : ℕ) : ℕ → Type 0 where
@@ -39,10 +37,10 @@ pub data Targeted {classes : List ℕ} (w : Rows classes) (n : ℕ) : ℕ → Ty
   declares : Stands w n NAME → Stands w (n + 1) COLON → Stands w (n + 1 + 1) NAME → Targeted w n (n + 1 + 1 + 1)
 
 -- the names of tokens number n and m mean the cell that the column of references says: at n, a name that means an entity or a variable, it has
--- a reference, and at m, a member's name, the member's number
+-- a reference in its low 8 bits, and at m, a member's name, the member's number above them
 abbrev pub Refers : {classes : List ℕ} → Rows classes → List ℕ → Binding → Spots → ℕ → ℕ → ℕ → Type 0
 Refers rows refs b spots count n m =
-    Locates count (spots (nth-token (rows .tokens) n .bytes) (nth-token (rows .tokens) m .bytes)) (bound b (getD refs n 0)) (getD refs m 0)
+    Locates count (spots (nth-token (rows .tokens) n .bytes) (nth-token (rows .tokens) m .bytes)) (bound b (getD refs n 0 % 256)) (getD refs m 0 / 256)
 
 -- the tokens of a rule, of which `rows` tells the range, and what its names mean under a binding, of so many entities
 pub record Resolved (classes values refs : List ℕ) (b : Binding) : Type 0 where
@@ -84,7 +82,7 @@ pub record In-stores (classes values refs : List ℕ) (b : Binding) (flags cells
   pub now-stored : Stored (rule .count) flags cells now
   pub previous-stored : Stored (rule .count) previous-flags previous-cells previous
 
--- a cell of a located spot, as it is read
+-- the cell that a reference says, as it is read
 pub record Cell-read (flags cells : List ℕ) (e m : ℕ) (r : Value) : Type 0 where
   pub reads : (count : ℕ) (s : Store) (p : Option Spot) → Stored count flags cells s → Locates count p e m → r ≡ value-at s p
 
@@ -95,7 +93,7 @@ unfoldable pub puts : List ℕ → List Write → List ℕ
 puts area [] = area
 puts area (w ∷ ws) = puts (with-cell area (w .entity * 12 + w .member) (w .value)) ws
 
--- the write of a value to a located spot, if it is made
+-- the write of a value to the spot that a reference says, if it is made
 pub record Put (area : List ℕ) (made : Bool) (e m : ℕ) (v : Value) (after : List ℕ) : Type 0 where
   pub written : (count : ℕ) (p : Option Spot) → count ≤ 32 → Locates count p e m → after ≡ puts area (written-if made p v)
 
@@ -130,7 +128,7 @@ module _ (classes values refs : List ℕ) (b : Binding) (flags cells : List ℕ)
   -- an attribute named after a `with` at number `at` is one of entity e, the target
   pub record Owns (e at : ℕ) (c : In-store classes values refs b flags cells) (t : Target) : Type 0 where
     pub owns : Stands (c .rule .rows) at WITH → Stands (c .rule .rows) (at + 1) NAME
-        → Locates (c .rule .count) (c .rule .spots (t .name .bytes) (nth-token (c .rule .rows .tokens) (at + 1) .bytes)) e (getD refs (at + 1) 0)
+        → Locates (c .rule .count) (c .rule .spots (t .name .bytes) (nth-token (c .rule .rows .tokens) (at + 1) .bytes)) e (getD refs (at + 1) 0 / 256)
 
   pub record Filter-yields (e at : ℕ) (c : In-store classes values refs b flags cells) (f : Option Filter) (r : Bool) : Type 0 where
     pub filters : (t : Target) → Owns e at c t → r ≡ filter-holds (c .rule .spots) (c .store) t f
@@ -155,7 +153,7 @@ module _ (classes values refs : List ℕ) (b : Binding) (flags cells previous-fl
   abbrev pub in-stores-rows : In-stores classes values refs b flags cells previous-flags previous-cells → Rows classes
   in-stores-rows c = c .rule .rows
 
-  -- of an event in a located spot
+  -- of an event in the spot that a reference says
   pub record Test-yields (e m : ℕ) (c : In-stores classes values refs b flags cells previous-flags previous-cells) (x : Test) (r : Bool) : Type 0 where
     pub tests : (p : Option Spot) → Locates (c .rule .count) p e m → r ≡ test-holds (c .rule .spots) (c .now) (c .previous) p x
 

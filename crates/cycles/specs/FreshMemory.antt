@@ -15,14 +15,11 @@ use Rattle.text.specs.Grammar.{number-reader, literal-reader}
 use Rattle.checking.specs.DirectoryReads.{Few}
 use Rattle.checking.specs.Scope.{look-up, member-of}
 use Rattle.checking.specs.Directory.{name-in, Columns-of, Bench}
+use Rattle.checking.specs.CheckedBench.{Values-of}
 use Rattle.checking.specs.DeclarationWalk.{Body-of}
 use Rattle.cycles.specs.Cycle.{assigned, initial-value, fresh}
 use Rattle.cycles.specs.StateImage.{table, with-state}
 use Rattle.cycles.specs.StateMemory.{Put}
-
--- the column of values, a row for each token
-abbrev pub Values-of : List ℕ → List Token → Type 0
-Values-of values ts = (i : ℕ) (t : Token) → getElem? ts i ≡ some t → t .value ≡ getD values i 0
 
 -- the columns that literals are read from
 pub record Literal-columns (classes values : List ℕ) (ts : List Token) : Type 0 where

@@ -22,3 +22,5 @@ pub mod FieldReads
 pub mod HeaderReads
 pub mod LineReads
 pub mod Judging
+pub mod AllRules
+pub mod CycleMemory

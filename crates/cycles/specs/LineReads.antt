@@ -21,7 +21,7 @@ use Rattle.cycles.specs.declared.lines.Reading.the-variants.{Refused, Go
 use Rattle.cycles.specs.Store.{Inputs}
 use Rattle.cycles.specs.Spots.{Spot}
 use Rattle.cycles.specs.Fields.{fields}
-use Rattle.cycles.specs.Header.{Column}
+use Rattle.cycles.specs.Header.{Column, header}
 use Rattle.cycles.specs.Record.{Numbered, field-in, as-truth, Input, inputs-in, inputs-of}
 use Rattle.cycles.specs.Line.{Answer, refused, accepted, Reading, reading}
 use Rattle.cycles.specs.StateImage.{table, presence-flag, input-bytes}
@@ -107,7 +107,7 @@ pub record Values-read (classes d values columns : List ℕ) (count : ℕ) (flag
   pub is : (g : Record-given classes d values columns count flags cells)
       → Inputs-are (inputs-in (g .header) (g .texts)) (length (g .bench .file .entities)) (g .flags-after) (g .cells-after) ok new-flags new-cells
 
--- ---- a header and a record
+-- ---- a record under a header
 
 -- the number and the inputs that they give, or the refusal; flags and cells after those of the bench's entities stay
 abbrev pub Answers : Answer Reading → ℕ → List ℕ → List ℕ → List ℕ → List ℕ → Reads → Type 0
@@ -117,6 +117,8 @@ Answers (accepted rd) n flags cells new-flags new-cells r =
     × (new-flags ≡ presence-table (inputs-of (rd .inputs)) n ++ drop n flags)
     × (new-cells ≡ input-table (inputs-of (rd .inputs)) n ++ drop (108 * n) cells)
 
-pub record Line-read (text classes offsets lengths d names values flags cells new-flags new-cells : List ℕ) (r : Reads) : Type 0 where
-  pub is : (w : Bench text classes offsets lengths d) → Few (w .file)
+-- a record, where the numbers of a header's columns stand in memory
+pub record Record-read (classes d values columns : List ℕ) (count : ℕ) (flags cells new-flags new-cells : List ℕ) (r : Reads) : Type 0 where
+  pub is : (text offsets lengths : List ℕ) (w : Bench text classes offsets lengths d) → Few (w .file)
+      → (names : List ℕ) (cs : List Column) → header (w .file) names ≡ some cs → map column-number cs ≡ backwards count columns
       → Answers (reading (w .file) names values) (length (w .file .entities)) flags cells new-flags new-cells r

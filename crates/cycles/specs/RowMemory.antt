@@ -59,9 +59,11 @@ abbrev pub Now-in : File → State → List ℕ → Type 0
 Now-in f s cells = (e m : ℕ) (x : Member) → member-of f e m ≡ some x → s .now .cell e m ≡ cell-at cells (e * 12 + m)
 
 pub record Row-put (classes d cells : List ℕ) (last : ℕ) (before after : List ℕ) (r : ℕ) : Type 0 where
+  pub short : r ≤ 32768
   pub is : (text offsets lengths : List ℕ) (w : Bench text classes offsets lengths d) → Few (w .file)
       → (s : State) → s .last ≡ last → Now-in (w .file) s cells → In-front (row (w .file) s) before after r
 
 pub record Header-put (text classes offsets lengths d before after : List ℕ) (r : ℕ) : Type 0 where
+  pub short : (w : Bench text classes offsets lengths d) → Few (w .file) → Short-names text classes offsets lengths → r ≤ 32768
   pub is : (w : Bench text classes offsets lengths d) → Few (w .file) → Short-names text classes offsets lengths
       → In-front (row-header (w .file)) before after r

@@ -11,7 +11,9 @@ use crate::conditions::filter;
 use crate::conditions::target_end;
 use crate::evaluate::Binding;
 use crate::evaluate::bound;
-use crate::evaluate::is_present;
+use crate::evaluate::is_present_at;
+use crate::evaluate::member;
+use crate::evaluate::owner;
 use crate::evaluate::put;
 use crate::expressions::expression;
 use checking::class_at;
@@ -25,7 +27,7 @@ const OPENERS: u32 = 16;
 fn call(
     classes: &[u8],
     values: &[u32],
-    refs: &[u8],
+    refs: &[u16],
     b: Binding,
     flags: &[u8],
     cells: &[u8],
@@ -52,8 +54,9 @@ fn call(
     );
     let v = x.value;
     let on = skip(x.next, size);
-    let owner = skip(on, size);
-    let e = bound(b, class_at(refs, owner));
+    let target = skip(on, size);
+    let e = bound(b, owner(refs, target));
+    let m = member(refs, name);
     let f = filter(
         classes,
         values,
@@ -62,11 +65,11 @@ fn call(
         flags,
         cells,
         e,
-        target_end(classes, owner),
+        target_end(classes, target),
         OPENERS,
     );
-    let made = both(is_present(flags, e), both(f.holds, values::is_set(v)));
-    put(area, made, e, class_at(refs, name), v);
+    let made = both(is_present_at(flags, e, m), both(f.holds, values::is_set(v)));
+    put(area, made, e, m, v);
     f.next
 }
 
@@ -74,7 +77,7 @@ fn call(
 fn further_calls(
     classes: &[u8],
     values: &[u32],
-    refs: &[u8],
+    refs: &[u16],
     b: Binding,
     flags: &[u8],
     cells: &[u8],
@@ -106,7 +109,7 @@ fn further_calls(
 pub fn rule_at(
     classes: &[u8],
     values: &[u32],
-    refs: &[u8],
+    refs: &[u16],
     b: Binding,
     flags: &[u8],
     cells: &[u8],

@@ -5,7 +5,9 @@ ghost use Rattle.text.specs.Grammar.{filter-reader, test-reader, clause-reader,
 ghost use Rattle.cycles.specs.Evaluation.{Target-walk, Filter-walk, Test-walk, Condition-walk};
 use crate::evaluate::Binding;
 use crate::evaluate::bound;
-use crate::evaluate::is_present;
+use crate::evaluate::is_present_at;
+use crate::evaluate::member;
+use crate::evaluate::owner;
 use crate::evaluate::read_cell;
 use crate::expressions::expression;
 use checking::class_at;
@@ -57,7 +59,7 @@ pub fn target_end(classes: &[u8], at: usize) -> usize
 pub fn filter(
     classes: &[u8],
     values: &[u32],
-    refs: &[u8],
+    refs: &[u16],
     b: Binding,
     flags: &[u8],
     cells: &[u8],
@@ -78,7 +80,7 @@ pub fn filter(
     let size = classes.len();
     let name = skip(at, size);
     let inside = skip(skip(name, size), size);
-    let cell = read_cell(flags, cells, e, class_at(refs, name));
+    let cell = read_cell(flags, cells, e, member(refs, name));
     let x = expression(classes, values, refs, b, flags, cells, inside, depth);
     let v = x.value;
     Holding {
@@ -91,7 +93,7 @@ pub fn filter(
 fn test(
     classes: &[u8],
     values: &[u32],
-    refs: &[u8],
+    refs: &[u16],
     b: Binding,
     flags: &[u8],
     cells: &[u8],
@@ -137,7 +139,7 @@ fn test(
 fn clause(
     classes: &[u8],
     values: &[u32],
-    refs: &[u8],
+    refs: &[u16],
     b: Binding,
     flags: &[u8],
     cells: &[u8],
@@ -153,9 +155,9 @@ fn clause(
     let size = classes.len();
     let name = skip(at, size);
     let from = skip(name, size);
-    let owner = skip(from, size);
-    let e = bound(b, class_at(refs, owner));
-    let m = class_at(refs, name);
+    let target = skip(from, size);
+    let e = bound(b, owner(refs, target));
+    let m = member(refs, name);
     let f = filter(
         classes,
         values,
@@ -164,7 +166,7 @@ fn clause(
         previous_flags,
         previous_cells,
         e,
-        target_end(classes, owner),
+        target_end(classes, target),
         depth,
     );
     let t = test(
@@ -182,7 +184,7 @@ fn clause(
         depth,
     );
     Holding {
-        holds: both(is_present(flags, e), both(f.holds, t.holds)),
+        holds: both(is_present_at(flags, e, m), both(f.holds, t.holds)),
         next: t.next,
     }
 }
@@ -191,7 +193,7 @@ fn clause(
 fn atom(
     classes: &[u8],
     values: &[u32],
-    refs: &[u8],
+    refs: &[u16],
     b: Binding,
     flags: &[u8],
     cells: &[u8],
@@ -254,7 +256,7 @@ fn atom(
 fn conjunction(
     classes: &[u8],
     values: &[u32],
-    refs: &[u8],
+    refs: &[u16],
     b: Binding,
     flags: &[u8],
     cells: &[u8],
@@ -306,7 +308,7 @@ fn conjunction(
 pub fn condition(
     classes: &[u8],
     values: &[u32],
-    refs: &[u8],
+    refs: &[u16],
     b: Binding,
     flags: &[u8],
     cells: &[u8],

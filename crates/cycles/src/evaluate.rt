@@ -1,10 +1,12 @@
 // References and cells: what the names of a rule mean under a binding, and what a store in memory holds there.
 ghost use mathlib.Core.Path.{_≡_};
-ghost use Prim.Native.Nat.{_≤_};
-ghost use lib.Dec.{eqb};
+ghost use mathlib.Core.Bool.{_&&_};
+ghost use Prim.Native.Nat.{_≤_, _/_, _%_};
+ghost use lib.Dec.{ltb, eqb};
 ghost use lib.ListN.{length, getD};
 ghost use Rattle.cycles.specs.Evaluation.{bound, Cell-read, Put};
 use checking::class_at;
+use checking::row;
 use values::Value;
 
 // The entities of a rule's variables, at most three.
@@ -12,6 +14,20 @@ pub struct Binding {
     pub first: u8,
     pub second: u8,
     pub third: u8,
+}
+
+// What token number i refers to, a name that means an entity or a variable: the low 8 bits of its row.
+pub fn owner(refs: &[u16], i: usize) -> u8
+    ensures { λ r. ⌜ r ≡ getD (now (refs .entry)) i 0 % 256 ⌝ }
+{
+    (row(refs, i) % 256) as u8
+}
+
+// The number of the member that token number i names: what its row has above the low 8 bits.
+pub fn member(refs: &[u16], i: usize) -> u8
+    ensures { λ r. ⌜ r ≡ getD (now (refs .entry)) i 0 / 256 ⌝ }
+{
+    (row(refs, i) / 256) as u8
 }
 
 // The entity that a reference means.
@@ -36,11 +52,21 @@ pub fn is_present(flags: &[u8], e: u8) -> bool
     class_at(flags, e as usize) == 1
 }
 
-// Member m of entity e, unset where the entity is absent.
+// Is entity e present, of which member m is asked? A name that means no member has number 12.
+pub fn is_present_at(flags: &[u8], e: u8, m: u8) -> bool
+    ensures { λ r. ⌜ r ≡ (ltb m 12 && eqb (getD (now (flags .entry)) e 0) 1) ⌝ }
+{
+    if 12 <= m {
+        return false;
+    }
+    is_present(flags, e)
+}
+
+// Member m of entity e, unset where the entity is absent or has no such member.
 pub fn read_cell(flags: &[u8], cells: &[u8], e: u8, m: u8) -> Value
     ensures { λ r. ⌜ Cell-read (now (flags .entry)) (now (cells .entry)) e m r ⌝ }
 {
-    if !is_present(flags, e) {
+    if !is_present_at(flags, e, m) {
         return Value::Unset;
     }
     let i = (e as usize) * 12 + (m as usize);
@@ -50,12 +76,15 @@ pub fn read_cell(flags: &[u8], cells: &[u8], e: u8, m: u8) -> Value
     values::cell(cells, i)
 }
 
-// The write of a value to member m of entity e, if it is to be made.
+// The write of a value to member m of entity e, if it is to be made and there is such a member.
 pub fn put(area: &mut [u8], made: bool, e: u8, m: u8, v: Value)
     requires { ⌜ 3456 ≤ length (now area) ⌝ }
     ensures { λ _. ⌜ Put (now (area .entry)) made e m v (now (area .exit)) ⌝ }
 {
     if !made {
+        return;
+    }
+    if 12 <= m {
         return;
     }
     let i = (e as usize) * 12 + (m as usize);

@@ -10,6 +10,8 @@ ghost use Rattle.text.specs.Grammar.{member-reader, simple-or, factor-reader, t
 ghost use Rattle.cycles.specs.Evaluation.{Expression-walk};
 use crate::evaluate::Binding;
 use crate::evaluate::bound;
+use crate::evaluate::member;
+use crate::evaluate::owner;
 use crate::evaluate::read_cell;
 use checking::class_at;
 use text::classes::DIVIDE;
@@ -91,7 +93,7 @@ fn is_term_operator(class: u8) -> bool
 fn leaf(
     classes: &[u8],
     values: &[u32],
-    refs: &[u8],
+    refs: &[u16],
     b: Binding,
     flags: &[u8],
     cells: &[u8],
@@ -112,9 +114,9 @@ fn leaf(
     let next = skip(at, size);
     if class == NAME {
         let name = skip(next, size);
-        let e = bound(b, class_at(refs, at));
+        let e = bound(b, owner(refs, at));
         return Valued {
-            value: read_cell(flags, cells, e, class_at(refs, name)),
+            value: read_cell(flags, cells, e, member(refs, name)),
             next: skip(name, size),
         };
     }
@@ -152,7 +154,7 @@ fn leaf(
 fn factor(
     classes: &[u8],
     values: &[u32],
-    refs: &[u8],
+    refs: &[u16],
     b: Binding,
     flags: &[u8],
     cells: &[u8],
@@ -208,7 +210,7 @@ fn factor(
 fn term(
     classes: &[u8],
     values: &[u32],
-    refs: &[u8],
+    refs: &[u16],
     b: Binding,
     flags: &[u8],
     cells: &[u8],
@@ -247,7 +249,7 @@ fn term(
 pub fn expression(
     classes: &[u8],
     values: &[u32],
-    refs: &[u8],
+    refs: &[u16],
     b: Binding,
     flags: &[u8],
     cells: &[u8],

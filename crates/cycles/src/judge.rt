@@ -15,7 +15,7 @@ pub enum Judgement {
 }
 
 // Is an entity present after the line? By its flags: present, and the presence that was read.
-fn present_after(present: u8, flag: u8) -> bool
+pub fn present_after(present: u8, flag: u8) -> bool
     ensures { λ r. ⌜ r ≡ present-by present flag ⌝ }
 {
     if flag == 0 {

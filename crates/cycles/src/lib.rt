@@ -1,19 +1,22 @@
 // The cycles of a bench.
+pub mod bindings; // what all rules write
 pub mod calls; // the writes of a rule at one binding
 pub mod conditions; // whether a condition holds
+pub mod cycle; // a cycle in the memory of a state
 pub mod evaluate; // references and cells
 pub mod expressions; // the value of an expression
 mod fields; // the fields of a line
 pub mod fresh; // the fresh state
-mod header; // the columns of a line
+pub mod header; // the columns of a line
 pub mod image; // the state image
 pub mod judge; // what a state says to a line
-pub mod lines; // a header and a record by themselves
+pub mod lines; // a record under a header
 mod record; // the values of a line
 pub mod rows; // rows of fired actions, and their header
 
 ghost use mathlib.Core.Path.{_≡_};
 ghost use Rattle.cycles.specs.StateImage.{STATE};
+pub use bindings::all_rules;
 pub use calls::rule_at;
 pub use conditions::Holding;
 pub use conditions::condition;

@@ -1,9 +1,8 @@
-// A header and a record by themselves: a number and inputs in lent memory, or a refusal.
-ghost use Prim.Native.Nat.{_≤_};
-ghost use lib.ListN.{length};
-ghost use Rattle.cycles.specs.HeaderReads.{MOST-COLUMNS};
-ghost use Rattle.cycles.specs.LineReads.{Line-read};
-use crate::header::read_header;
+// A record under a header that is read: a number and inputs in lent memory, or a refusal.
+ghost use Prim.Native.Nat.{ℕ, _≤_, _<_};
+ghost use lib.ListN.{length, getD};
+ghost use Rattle.cycles.specs.HeaderReads.{NO-COLUMN};
+ghost use Rattle.cycles.specs.LineReads.{Record-read};
 use crate::record::clear_cells;
 use crate::record::clear_flags;
 use crate::record::read_values;
@@ -11,37 +10,31 @@ use crate::record::record_number;
 use checking::row;
 use values::Number;
 
-// What a header and a record say: a refusal by its code, or the record's number.
+// What a record says: a refusal by its code, or its number.
 pub enum Reading {
     Refused(u8),
     Got(u64),
 }
 
-// Reads them. `columns` is room for the numbers of the columns; `flags` and `cells` get the inputs, in the form of the state image.
-pub fn read_line(
-    text: &[u8],
+// Reads a record. `columns` has the numbers of the header's columns; `flags` and `cells` get the inputs, in the form of the state image.
+pub fn read_record(
     classes: &[u8],
-    offsets: &[u16],
-    lengths: &[u8],
     d: &[u16],
-    names: &[u8],
     values: &[u8],
-    columns: &mut [u16],
+    columns: &[u16],
+    count: usize,
     flags: &mut [u8],
     cells: &mut [u8],
 ) -> Reading
-    requires { ⌜ (MOST-COLUMNS ≤ length (now columns)) × (32 ≤ length (now flags)) × (3456 ≤ length (now cells)) ⌝ }
+    requires { ⌜ (count ≤ length (now columns)) × ((k : ℕ) → k < count → getD (now columns) k 0 < NO-COLUMN) ⌝ }
+    requires { ⌜ (32 ≤ length (now flags)) × (3456 ≤ length (now cells)) ⌝ }
     ensures { λ r. ⌜
-        Line-read (now (text .entry)) (now (classes .entry)) (now (offsets .entry)) (now (lengths .entry)) (now (d .entry)) (now (names .entry))
-        (now (values .entry)) (now (flags .entry)) (now (cells .entry)) (now (flags .exit)) (now (cells .exit)) r ⌝ }
+        Record-read (now (classes .entry)) (now (d .entry)) (now (values .entry)) (now (columns .entry)) count (now (flags .entry)) (now (cells .entry))
+        (now (flags .exit)) (now (cells .exit)) r ⌝ }
 {
     let entities = row(d, 1);
     if 32 < entities {
-        return Reading::Refused(22);
-    }
-    let count = read_header(text, classes, offsets, lengths, d, names, columns);
-    if 416 < count {
-        return Reading::Refused(22);
+        return Reading::Refused(21);
     }
     let number = record_number(values, count);
     match number {

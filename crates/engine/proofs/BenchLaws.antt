@@ -1,19 +1,45 @@
 -- The bench image, written and read back.
-use Prim.Native.Nat.{ℕ, _+_, _≤_}
+use Prim.Native.Nat.{ℕ, _+_, _-_, _≤_, _<_}
 use native.Mathlib.Omega.{arith}
-use mathlib.Core.Path.{_≡_, refl, ap}
+use mathlib.Core.Path.{_≡_, refl, ap, _∙_, subst}
 use mathlib.Core.Bool.{Bool, true, false}
-use mathlib.Core.List.{List, _++_}
+use mathlib.Core.List.{List, _++_, append-assoc}
 use mathlib.Core.Option.{none, some}
 use lib.Dec.{leb}
 use lib.ListN.{length, take, drop, length-append, length-drop}
 use lib.Seq.{take-append-seam}
-use borrow.Author.Tests.{le-leb}
-use Rattle.values.specs.Bytes.{word-at, low-first}
+use borrow.Author.Tests.{le-leb, lt-leb}
+use Rattle.values.specs.Bytes.{word-at, low-first, overwritten}
 use Rattle.text.specs.Syntax.{File}
 use Rattle.checking.specs.Verdict.{Verdict, verdict, MOST-BYTES, accepted-file}
 use Rattle.checking.proofs.VerdictLaws.{file-is-accepted}
-use Rattle.engine.specs.BenchImage.{BENCH, with-bench, bench-of}
+use Rattle.cycles.specs.StateMemory.{Put}
+use Rattle.cycles.proofs.PutLaws.{put-said, put-next, put-in-front}
+use Rattle.engine.specs.BenchImage.{BENCH, with-bench, bench-of, text-in}
+
+-- the length and the text, put one after the other
+pub bench-put : (text m : List ℕ) → (length text ≤ MOST-BYTES) × (BENCH ≤ length m) → {n k : List ℕ} {r : ℕ}
+    → n ≡ overwritten m 0 (low-first 4 (length text)) → (r ≡ 4 + length text) × (k ≡ overwritten n 4 text) → k ≡ with-bench text m
+unfolding with-bench
+bench-put text m (h, g) {n} p q =
+    let x : Put (low-first 4 (length text)) m 0 n 4 = record { end = refl; is = p } in
+    let e = q .0 in
+    let i = put-in-front (put-next x (put-said text q)) (omega arith) in
+    i .is
+    ∙ ap (λ (k : ℕ). (low-first 4 (length text) ++ text) ++ drop k m) e
+    ∙ append-assoc (low-first 4 (length text)) text (drop (4 + length text) m)
+
+-- the text in memory, as code lends it
+pub text-none : (m : List ℕ) {n : ℕ} → n ≡ word-at 4 m 0 → 32768 < n → take (0 - 0) (drop 0 m) ≡ text-in m
+unfolding text-in
+text-none m {n} e h = rw (← e, lt-leb n MOST-BYTES h, text-in)
+
+pub text-held : (m : List ℕ) {n : ℕ} → n ≡ word-at 4 m 0 → n ≤ 32768 → take (4 + n - 4) (drop 4 m) ≡ text-in m
+unfolding text-in
+text-held m {n} e h =
+    let z : 4 + n - 4 ≡ n = omega arith in
+    let k : word-at 4 m 0 ≤ MOST-BYTES = subst (λ (j : ℕ). j ≤ MOST-BYTES) e h in
+    rw (z, le-leb (word-at 4 m 0) MOST-BYTES k, text-in) (ap (λ (j : ℕ). take j (drop 4 m)) e)
 
 -- the length that the first 4 bytes hold
 length-word : (n : ℕ) (rest : List ℕ) → n ≤ MOST-BYTES → word-at 4 (low-first 4 n ++ rest) 0 ≡ n

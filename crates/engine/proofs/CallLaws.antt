@@ -35,7 +35,7 @@ use Rattle.engine.specs.Calls.{
   line-call,
 }
 use Rattle.engine.specs.Runs.{Request, sight, machine-answer}
-use Rattle.engine.specs.DemandThree.{start-bench, start-state}
+use Rattle.engine.proofs.Replies.{start-bench, start-state}
 
 -- memory that stands for a bench file, and memory that stands for a sound state of it
 pub record Stands-for (f : File) (bench state : List ℕ) (s : State) : Type 0 where

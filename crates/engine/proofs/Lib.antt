@@ -1,6 +1,10 @@
 pub mod BenchLaws
 pub mod LeavesLaws
 pub mod ImageRoundTrip
+pub mod Replies
 pub mod CallLaws
 pub mod RunLaws
 pub mod DemandThree
+pub mod LineLaws
+pub mod ServingLaws
+pub mod EntryLaws

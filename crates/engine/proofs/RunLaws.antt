@@ -26,8 +26,9 @@ use Rattle.cycles.proofs.ImageLaws.{state-written, state-written-length}
 use Rattle.cycles.proofs.SoundCycle.{fresh-sound, line-sound, follow-sound}
 use Rattle.engine.specs.BenchImage.{BENCH, bench-of}
 use Rattle.engine.specs.Calls.{with-row, row-answer, After-line, line-accepted, line-answered, line-call}
-use Rattle.engine.specs.Runs.{Request, replies, sight, machine-answer, ref-answered, ref-run, Taken, taken-if, taken-lines}
-use Rattle.engine.specs.DemandThree.{Same-stores, Same-lines, Same-values, Side-by-side, start-bench, start-state, run-lines}
+use Rattle.engine.specs.Runs.{Request, sight, machine-answer, ref-answered, ref-run, Taken, taken-if, taken-lines}
+use Rattle.engine.specs.DemandThree.{Same-stores, Same-lines, Same-values, Side-by-side}
+use Rattle.engine.proofs.Replies.{replies, start-bench, start-state, run-lines}
 use Rattle.engine.proofs.BenchLaws.{bench-written, bench-length}
 use Rattle.engine.proofs.CallLaws.{
   Stands-for,

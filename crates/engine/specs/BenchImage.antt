@@ -1,6 +1,6 @@
 -- The bench image: 4 bytes of the text's length, the lowest first, then the text. So memory stands for a bench exactly if its text is accepted.
 use Prim.Native.Nat.{ℕ, _+_}
-use mathlib.Core.List.{List, _++_}
+use mathlib.Core.List.{List, [], _++_}
 use mathlib.Core.Bool.{true, false}
 use mathlib.Core.Option.{Option, none}
 use lib.Dec.{leb}
@@ -21,3 +21,7 @@ with-bench text m = low-first 4 (length text) ++ text ++ drop (4 + length text) 
 unfoldable pub bench-of : List ℕ → Option File
 unfolding accepted-file
 bench-of m = elim (leb (word-at 4 m 0) MOST-BYTES) [ true ↦ accepted-file (take (word-at 4 m 0) (drop 4 m)) | false ↦ none ]
+
+-- the text that memory holds; none, which no check accepts, where its length is too great
+unfoldable pub text-in : List ℕ → List ℕ
+text-in m = elim (leb (word-at 4 m 0) MOST-BYTES) [ true ↦ take (word-at 4 m 0) (drop 4 m) | false ↦ [] ]

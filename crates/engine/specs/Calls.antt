@@ -1,8 +1,9 @@
 -- The public calls as functions of the lent bytes: the answer, and every lent byte after the call. An answer has document 01's number in its
 -- low 8 bits, 0 for acceptance, and above them the offset of a refusal of a text or the length of a written row.
 use Prim.Native.Nat.{ℕ, _+_, _*_}
+use mathlib.Core.Path.{_≡_}
 use mathlib.Core.List.{List, _++_}
-use mathlib.Core.Bool.{Bool, true, false, _||_}
+use mathlib.Core.Bool.{true, false, _||_}
 use mathlib.Core.Option.{Option, none, some}
 use lib.Dec.{ltb, eqb}
 use lib.ListN.{length, drop}
@@ -136,3 +137,21 @@ row-call bench state r = elim (ltb (length bench) BENCH || ltb (length state) ST
   | true ↦ record { answer = 31; row = r }
   | false ↦ row-on-bench (bench-of bench) state r
 ]
+
+-- ---- the contracts: what a call answers, and the memory that it leaves, on all input
+
+abbrev pub Check-contract : (text bench new-bench : List ℕ) → ℕ → Type 0
+Check-contract text bench new-bench r = record { answer = r; bench = new-bench } ≡ check-call text bench
+
+abbrev pub Fresh-contract : (bench state new-state : List ℕ) → ℕ → Type 0
+Fresh-contract bench state new-state r = record { answer = r; state = new-state } ≡ fresh-call bench state
+
+abbrev pub Line-contract : (bench state names values row new-state new-row : List ℕ) → ℕ → Type 0
+Line-contract bench state names values row new-state new-row r =
+    record { answer = r; state = new-state; row = new-row } ≡ line-call bench state names values row
+
+abbrev pub Header-contract : (bench row new-row : List ℕ) → ℕ → Type 0
+Header-contract bench row new-row r = record { answer = r; row = new-row } ≡ header-call bench row
+
+abbrev pub Row-contract : (bench state row new-row : List ℕ) → ℕ → Type 0
+Row-contract bench state row new-row r = record { answer = r; row = new-row } ≡ row-call bench state row

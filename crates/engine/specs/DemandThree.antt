@@ -2,20 +2,20 @@
 use Prim.Native.Nat.{ℕ, _≤_}
 use mathlib.Core.Path.{_≡_}
 use mathlib.Core.List.{List, [], _∷_, map}
-use mathlib.Core.Option.{Option, some}
+use mathlib.Core.Option.{some}
 use lib.Dec.{T}
 use lib.ListN.{length}
 use Rattle.text.specs.Syntax.{File}
 use Rattle.checking.specs.Scope.{member-of, is-action}
 use Rattle.checking.specs.Verdict.{Verdict, verdict}
 use Rattle.cycles.specs.Outcome.{running}
-use Rattle.cycles.specs.Store.{Store, Inputs, State, Line}
+use Rattle.cycles.specs.Store.{Store, State, Line}
 use Rattle.cycles.specs.Cycle.{is-sort, fresh}
 use Rattle.cycles.specs.StateImage.{STATE, state-of}
 use Rattle.cycles.specs.ClosedSet.{Closed}
 use Rattle.engine.specs.BenchImage.{BENCH}
-use Rattle.engine.specs.Calls.{check-call, fresh-call}
-use Rattle.engine.specs.Runs.{Request, replies, sight, ref-run, Taken, taken-lines}
+use Rattle.engine.specs.Calls.{After-line, Check-contract, Fresh-contract}
+use Rattle.engine.specs.Runs.{Request, Run, sight, ref-run, Taken, taken-lines}
 
 -- the two stores have the same presence and cells for the entities of the set
 pub record Same-stores (S : ℕ → Type 0) (s t : Store) : Type 0 where
@@ -45,30 +45,28 @@ Side-by-side R [] (y ∷ ys) = ⊥
 Side-by-side R (x ∷ xs) [] = ⊥
 Side-by-side R (x ∷ xs) (y ∷ ys) = R x y × Side-by-side R xs ys
 
--- the memory of bench and state from which a run starts: as check and fresh leave what was lent to them
-unfoldable pub start-bench : List ℕ → List ℕ → List ℕ
-unfolding check-call
-start-bench text bench = check-call text bench .bench
-
-unfoldable pub start-state : List ℕ → List ℕ → List ℕ → List ℕ
-unfolding fresh-call start-bench
-start-state text bench state = fresh-call (start-bench text bench) state .state
-
--- the accepted lines of a run over these requests
-unfoldable pub run-lines : File → List ℕ → List ℕ → List ℕ → List Request → List Taken
-unfolding taken-lines replies start-bench start-state
-run-lines f text bench state qs = taken-lines f qs (replies (start-bench text bench) (start-state text bench state) qs)
+-- how a run begins: a check that accepts the text, and a fresh state, as their contracts allow them, in memory of the stated sizes at least;
+-- bench and state as they are left
+pub record Begins (text bench state : List ℕ) : Type 0 where
+  pub lent-bench : List ℕ
+  pub lent-state : List ℕ
+  pub bench-size : BENCH ≤ length lent-bench
+  pub state-size : STATE ≤ length lent-state
+  pub check-answer : ℕ
+  pub fresh-answer : ℕ
+  pub is-checked : Check-contract text lent-bench bench check-answer
+  pub is-fresh : Fresh-contract bench lent-state state fresh-answer
 
 pub record Demand-three : Type 1 where
   -- "Over every list of calls, refused ones included, the engine's state stays that of the paper's bare machine, which never comes to a stop"
   pub stays : (text : List ℕ) (f : File) → verdict text ≡ Verdict.accepted f
-      → (bench state : List ℕ) → BENCH ≤ length bench → STATE ≤ length state
-      → (qs : List Request)
-      → ref-run f (fresh f) qs ≡ running (map (sight f) (replies (start-bench text bench) (start-state text bench state) qs))
+      → (bench state : List ℕ) → Begins text bench state
+      → (qs : List Request) (rs : List After-line) → Run bench state qs rs
+      → ref-run f (fresh f) qs ≡ running (map (sight f) rs)
   -- "and two runs whose accepted lines agree on a closed set of entities agree on that set's values and fired actions, whatever the rest reads"
   pub apart : (text : List ℕ) (f : File) → verdict text ≡ Verdict.accepted f
       → (S : ℕ → Type 0) → Closed f S
-      → (bench state bench′ state′ : List ℕ) → BENCH ≤ length bench → STATE ≤ length state → BENCH ≤ length bench′ → STATE ≤ length state′
-      → (qs qs′ : List Request)
-      → Side-by-side (λ x y. Same-lines S (x .line) (y .line)) (run-lines f text bench state qs) (run-lines f text bench′ state′ qs′)
-      → Side-by-side (λ x y. Same-values f S (x .state) (y .state)) (run-lines f text bench state qs) (run-lines f text bench′ state′ qs′)
+      → (bench state bench′ state′ : List ℕ) → Begins text bench state → Begins text bench′ state′
+      → (qs qs′ : List Request) (rs rs′ : List After-line) → Run bench state qs rs → Run bench′ state′ qs′ rs′
+      → Side-by-side (λ x y. Same-lines S (x .line) (y .line)) (taken-lines f qs rs) (taken-lines f qs′ rs′)
+      → Side-by-side (λ x y. Same-values f S (x .state) (y .state)) (taken-lines f qs rs) (taken-lines f qs′ rs′)

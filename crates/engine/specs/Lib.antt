@@ -2,3 +2,5 @@ pub mod BenchImage
 pub mod Calls
 pub mod Runs
 pub mod DemandThree
+pub mod LineMemory
+pub mod Serving

@@ -2,7 +2,7 @@
 use Prim.Native.Nat.{ℕ, _%_}
 use mathlib.Core.List.{List, [], _∷_, _++_}
 use mathlib.Core.Bool.{Bool, true, false}
-use mathlib.Core.Option.{Option, none, some}
+use mathlib.Core.Option.{Option, some}
 use lib.Dec.{ltb, eqb}
 use lib.ListN.{length}
 use Rattle.text.specs.Syntax.{File}
@@ -12,7 +12,7 @@ use Rattle.cycles.specs.Cycle.{ref-follow}
 use Rattle.cycles.specs.Line.{Answer, refused, accepted, Reading, reading, line-of, line}
 use Rattle.cycles.specs.Row.{row}
 use Rattle.cycles.specs.StateImage.{state-of}
-use Rattle.engine.specs.Calls.{ROW, with-row, row-answer, After-line, line-call}
+use Rattle.engine.specs.Calls.{ROW, with-row, row-answer, After-line, Line-contract}
 
 -- what is lent to one call beside bench and state: "whatever else is lent may be any bytes"
 pub record Request : Type 0 where
@@ -20,13 +20,12 @@ pub record Request : Type 0 where
   pub values : List ℕ
   pub row : List ℕ
 
--- "Each gets bench and state as the last call left them"
-unfoldable pub replies : List ℕ → List ℕ → List Request → List After-line
-unfolding line-call
-replies bench state [] = []
-replies bench state (q ∷ qs) =
-    let r = line-call bench state (q .names) (q .values) (q .row) in
-    r ∷ replies bench (r .state) qs
+-- a run: calls as the contract of the line call allows them. "Each gets bench and state as the last call left them"
+pub data Run (bench : List ℕ) : List ℕ → List Request → List After-line → Type 0 where
+  ends : {state : List ℕ} → Run bench state [] []
+  goes-on : {state : List ℕ} {q : Request} {qs : List Request} {r : After-line} {rs : List After-line}
+      → Line-contract bench state (q .names) (q .values) (q .row) (r .state) (r .row) (r .answer) → Run bench (r .state) qs rs
+      → Run bench state (q ∷ qs) (r ∷ rs)
 
 -- what a call shows: its answer, the state that its memory stands for, the row's memory
 pub record Sight : Type 0 where

@@ -1,10 +1,150 @@
-// The engine's memory sizes.
-ghost use mathlib.Core.Path.{_≡_};
-ghost use Rattle.engine.specs.BenchImage.{BENCH};
+// The engine's entry points: a bench file is checked once; then each line of readings is one call.
+//
+// Every call answers with one number: document 01's number in its low 8 bits, 0 for acceptance, and above them the offset of a refused text
+// or the length of a written row. Nothing lent is trusted: memory may have any bytes and any length, and a refusal changes none of it.
+pub mod bench; // the bench image
+pub mod line; // a line on a checked bench
+pub mod serve; // a call on a bench's text
 
-// The size of a bench image.
-pub fn bench_size() -> usize
-    ensures { λ r. ⌜ r ≡ BENCH ⌝ }
+ghost use Rattle.engine.specs.Calls.{Check-contract, Fresh-contract, Line-contract, Header-contract, Row-contract};
+use bench::text_of;
+use serve::Call;
+use serve::serve;
+
+// Stated sizes: memory that is shorter is refused by 31.
+const BENCH: usize = 32772;
+
+const STATE: usize = 10468;
+
+const ROW: usize = 32768;
+
+// Checks a bench file and writes its image: 31, 11 to 18 with the offset of the fault, or 0.
+#[no_mangle]
+pub extern "C" fn bench_check(text: &[u8], bench: &mut [u8]) -> u64
+    ensures { λ r. ⌜ Check-contract (now (text .entry)) (now (bench .entry)) (now (bench .exit)) r ⌝ }
 {
-    32772
+    if bench.len() < BENCH {
+        return 31;
+    }
+    let nothing = [0u8; 1];
+    let mut none = [0u8; 1];
+    serve(
+        Call::Check,
+        text,
+        &mut none,
+        &nothing,
+        &nothing,
+        &nothing,
+        bench,
+    )
+}
+
+// Writes the fresh state of a checked bench: 31, 32, or 0.
+#[no_mangle]
+pub extern "C" fn state_fresh(bench: &[u8], state: &mut [u8]) -> u64
+    ensures { λ r. ⌜ Fresh-contract (now (bench .entry)) (now (state .entry)) (now (state .exit)) r ⌝ }
+{
+    if bench.len() < BENCH {
+        return 31;
+    }
+    if state.len() < STATE {
+        return 31;
+    }
+    let nothing = [0u8; 1];
+    let mut none = [0u8; 1];
+    serve(
+        Call::Fresh,
+        text_of(bench),
+        state,
+        &nothing,
+        &nothing,
+        &nothing,
+        &mut none,
+    )
+}
+
+// Takes one line, a header and a record: moves the state on and writes the line's row. A line that is sent again leaves the state and gives
+// its row again. 31, 32, 33, 22, 21, 23, 24, 25, or 0 with the row's length.
+#[no_mangle]
+pub extern "C" fn bench_line(
+    bench: &[u8],
+    state: &mut [u8],
+    names: &[u8],
+    values: &[u8],
+    row: &mut [u8],
+) -> u64
+    ensures { λ r. ⌜
+        Line-contract (now (bench .entry)) (now (state .entry)) (now (names .entry)) (now (values .entry)) (now (row .entry)) (now (state .exit))
+        (now (row .exit)) r ⌝ }
+{
+    if bench.len() < BENCH {
+        return 31;
+    }
+    if state.len() < STATE {
+        return 31;
+    }
+    if row.len() < ROW {
+        return 31;
+    }
+    let nothing = [0u8; 1];
+    serve(
+        Call::Line,
+        text_of(bench),
+        state,
+        &nothing,
+        names,
+        values,
+        row,
+    )
+}
+
+// Writes the row of names: 31, 32, or 0 with its length.
+#[no_mangle]
+pub extern "C" fn bench_header(bench: &[u8], row: &mut [u8]) -> u64
+    ensures { λ r. ⌜ Header-contract (now (bench .entry)) (now (row .entry)) (now (row .exit)) r ⌝ }
+{
+    if bench.len() < BENCH {
+        return 31;
+    }
+    if row.len() < ROW {
+        return 31;
+    }
+    let nothing = [0u8; 1];
+    let mut none = [0u8; 1];
+    serve(
+        Call::Header,
+        text_of(bench),
+        &mut none,
+        &nothing,
+        &nothing,
+        &nothing,
+        row,
+    )
+}
+
+// Writes the row of the line that left the state: 31, 32, 33, or 0 with its length.
+#[no_mangle]
+pub extern "C" fn bench_row(bench: &[u8], state: &[u8], row: &mut [u8]) -> u64
+    ensures { λ r. ⌜ Row-contract (now (bench .entry)) (now (state .entry)) (now (row .entry)) (now (row .exit)) r ⌝ }
+{
+    if bench.len() < BENCH {
+        return 31;
+    }
+    if state.len() < STATE {
+        return 31;
+    }
+    if row.len() < ROW {
+        return 31;
+    }
+    let nothing = [0u8; 1];
+    let mut none = [0u8; 1];
+    serve(
+        Call::Row,
+        text_of(bench),
+        &mut none,
+        state,
+        &nothing,
+        &nothing,
+        row,
+    )
 }

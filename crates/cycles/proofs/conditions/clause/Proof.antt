@@ -13,14 +13,14 @@ skip-requires-2 c κs = search needs
 skip-requires-3 : tie.Need-skip-requires-3
 skip-requires-3 c κs = search needs
 
-class-at-requires : tie.Need-class-at-requires
-class-at-requires c κs = search needs
+owner-requires : tie.Need-owner-requires
+owner-requires c κs = search needs
 
 bound-requires : tie.Need-bound-requires
 bound-requires c κs = search needs
 
-class-at-requires-2 : tie.Need-class-at-requires-2
-class-at-requires-2 c κs = search needs
+member-requires : tie.Need-member-requires
+member-requires c κs = search needs
 
 target-end-requires : tie.Need-target-end-requires
 target-end-requires c κs = search needs
@@ -34,8 +34,8 @@ skip-requires-4 c κs = search needs
 test-requires : tie.Need-test-requires
 test-requires c κs = search needs
 
-is-present-requires : tie.Need-is-present-requires
-is-present-requires c κs = search needs
+is-present-at-requires : tie.Need-is-present-at-requires
+is-present-at-requires c κs = search needs
 
 both-requires : tie.Need-both-requires
 both-requires c κs = search needs
@@ -49,10 +49,10 @@ returns c =
     (c .before .before .before .before .before .before .before .before .before .before .before .skip2 .ensures)
     (c .before .before .before .before .before .before .before .before .before .before .skip3 .ensures)
     (c .before .before .before .before .before .before .target-end .ensures)
-    (c .before .before .before .before .before .before .before .before .before .class-at .ensures)
+    (c .before .before .before .before .before .before .before .before .before .owner .ensures)
     (c .before .before .before .before .before .before .before .before .bound .ensures)
-    (c .before .before .before .before .before .before .before .class-at2 .ensures) (c .before .before .before .before .before .filter .ensures)
-    (c .before .before .before .before .skip4 .ensures) (c .before .before .before .test .ensures) (c .before .before .is-present .ensures)
+    (c .before .before .before .before .before .before .before .member .ensures) (c .before .before .before .before .before .filter .ensures)
+    (c .before .before .before .before .skip4 .ensures) (c .before .before .before .test .ensures) (c .before .before .is-present-at .ensures)
     (c .before .both .ensures) (c .both2 .ensures)
 
 pub clause-spec : {M : Type 1} → statement M
@@ -62,14 +62,14 @@ clause-spec =
     skip-requires
     skip-requires-2
     skip-requires-3
-    class-at-requires
+    owner-requires
     bound-requires
-    class-at-requires-2
+    member-requires
     target-end-requires
     filter-requires
     skip-requires-4
     test-requires
-    is-present-requires
+    is-present-at-requires
     both-requires
     both-requires-2
     returns)

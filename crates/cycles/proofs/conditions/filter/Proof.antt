@@ -19,8 +19,8 @@ skip-requires-2 c κs = search needs
 skip-requires-3 : tie.Need-skip-requires-3
 skip-requires-3 c κs = search needs
 
-class-at-requires-2 : tie.Need-class-at-requires-2
-class-at-requires-2 c κs = search needs
+member-requires : tie.Need-member-requires
+member-requires c κs = search needs
 
 read-cell-requires : tie.Need-read-cell-requires
 read-cell-requires c κs = search needs
@@ -36,7 +36,7 @@ returns-2 c =
     filter-is-some _ (c .before .before .before .before .before .before .before .before .class-at .ensures)
     (c .before .before .before .before .before .before .before .if1 .left) (c .before .before .before .before .before .before .skip .ensures)
     (c .before .before .before .before .before .skip2 .ensures) (c .before .before .before .before .skip3 .ensures)
-    (c .before .before .before .class-at2 .ensures) (c .before .before .read-cell .ensures) (c .before .expression .ensures) (c .equal .ensures)
+    (c .before .before .before .member .ensures) (c .before .before .read-cell .ensures) (c .before .expression .ensures) (c .equal .ensures)
 
 pub filter-spec : {M : Type 1} → statement M
 filter-spec =
@@ -47,7 +47,7 @@ filter-spec =
     skip-requires
     skip-requires-2
     skip-requires-3
-    class-at-requires-2
+    member-requires
     read-cell-requires
     expression-requires
     equal-requires

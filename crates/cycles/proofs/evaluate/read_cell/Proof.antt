@@ -6,11 +6,11 @@ use Rattle.cycles.proofs.EvaluationLaws.{read-absent, read-short, read-
 use Rattle.cycles.proofs.evaluate.read_cell.Statement.{statement}
 use Rattle.cycles.proofs.evaluate.read_cell.Tie as tie
 
-is-present-requires : tie.Need-is-present-requires
-is-present-requires c κs = search needs
+is-present-at-requires : tie.Need-is-present-at-requires
+is-present-at-requires c κs = search needs
 
 returns : tie.Need-returns
-returns c = read-absent (sym (c .before .is-present .ensures) ∙ not-true _ (c .if1 .taken))
+returns c = read-absent (sym (c .before .is-present-at .ensures) ∙ not-true _ (c .if1 .taken))
 
 mul-i : tie.Need-mul-i
 mul-i c = search needs
@@ -31,13 +31,13 @@ cell-requires : tie.Need-cell-requires
 cell-requires c κs = search needs
 
 returns-3 : tie.Need-returns-3
-returns-3 c = read-present (sym (c .before .before .before .is-present .ensures) ∙ not-false _ (c .before .before .if1 .left)) (c .cell .ensures)
+returns-3 c = read-present (sym (c .before .before .before .is-present-at .ensures) ∙ not-false _ (c .before .before .if1 .left)) (c .cell .ensures)
 
 pub read-cell-spec : {M : Type 1} → statement M
 read-cell-spec =
     tie.close
     (tie.spec
-    is-present-requires
+    is-present-at-requires
     returns
     mul-i
     add-i

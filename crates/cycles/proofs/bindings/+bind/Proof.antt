@@ -1,0 +1,213 @@
+-- `bind` meets its contract. The measure is how many variables may still get an entity; the loop's invariant says which writes are left.
+use Prim.Native.Nat.{ℕ, _<_, _≤_, _-_}
+use native.Mathlib.Omega.{arith}
+use mathlib.Core.Path.{_≡_, refl, _∙_}
+use lib.ListN.{length}
+use borrow.Author.Needs.{needs}
+use borrow.Author.Tests.{not-true, not-false}
+use borrow.Fn.Kinds.{In}
+use borrow.Fn.PlainCycle.{Measures, is, falls, and}
+use Rattle.cycles.proofs.BindingPuts.{
+  incomplete-few,
+  bindings-complete,
+  bindings-impossible,
+  Turns-left,
+  turns-begin,
+  turn-skips,
+  turn-takes,
+  turns-end,
+}
+use Rattle.cycles.proofs.bindings.bind.Reads as bind
+use Rattle.cycles.proofs.bindings.bind.Kinds as bind-kinds
+use Rattle.cycles.proofs.bindings.+bind.Lts-bind as bind-lts
+use Rattle.checking.proofs.class_at.Reads as class-at-reads
+use Rattle.checking.proofs.row.Reads as row-reads
+use Rattle.cycles.proofs.bindings.is_candidate.Reads as is-candidate-reads
+use Rattle.cycles.proofs.bindings.is_complete.Reads as is-complete-reads
+use Rattle.cycles.proofs.bindings.with_entity.Reads as with-entity-reads
+use Rattle.cycles.proofs.calls.rule_at.Reads as rule-at-reads
+use Rattle.cycles.proofs.bindings.+bind.{statement}
+use Rattle.cycles.proofs.bindings.+bind.Tie.{close}
+
+abbrev μ-bind : Measures 10 bind-kinds.ps ℕ
+μ-bind κs a = 3 - a .1 .1 .1 .1 .1 .1 .1 .1 .1 .1 .0
+
+abbrev bind-at : ℕ → In 10 bind-kinds.ps
+bind-at t = and 10 bind-kinds.ps (is 10 bind-kinds.ps μ-bind t) bind.Pre
+
+abbrev bind-below : ℕ → In 10 bind-kinds.ps
+bind-below t = and 10 bind-kinds.ps (falls 10 bind-kinds.ps _<_ μ-bind t) bind.Pre
+
+abbrev bind-claims : ℕ → bind-lts.Claims
+bind-claims t = (
+  is-complete-reads.Asked,
+  is-complete-reads.Learnt,
+  row-reads.Asked,
+  row-reads.Learnt,
+  rule-at-reads.Asked,
+  rule-at-reads.Learnt,
+  class-at-reads.Asked,
+  class-at-reads.Learnt,
+  is-candidate-reads.Asked,
+  is-candidate-reads.Learnt,
+  with-entity-reads.Asked,
+  with-entity-reads.Learnt,
+  bind-below t,
+  bind.Post,
+)
+
+abbrev bind-Inv-loop : bind-lts.InvT-loop
+bind-Inv-loop classes values refs scopes d flags cells previous-flags previous-cells k level b area₀ n face next₀ area next =
+    (next ≤ n) × Turns-left classes values d refs scopes flags cells previous-flags previous-cells k level b area₀ next area
+    × (length area ≡ length area₀)
+
+abbrev bind-μ-loop : bind-lts.MeasureT-loop
+bind-μ-loop classes values refs scopes d flags cells previous-flags previous-cells k level b area₀ n face next₀ area next = n - next
+
+-- the variables that have entities are not all
+few-bound : (t : ℕ) (c : bind-lts.Else1 (bind-claims t) (bind-at t) bind.Post bind-Inv-loop bind-μ-loop)
+    → c .before .before .before .before .before .before .before .before .before .before .before .before .args .level < 3
+few-bound t c =
+    let a = c .before .before .before .before .before .before .before .before .before .before .before .before .args in
+    incomplete-few (a .scopes .now) (a .k) (a .level) (c .before .is-complete .ensures) (c .if1 .left)
+
+bind-is-complete-requires : (t : ℕ) → bind-lts.Need-is-complete-requires (bind-claims t) (bind-at t) bind.Post bind-Inv-loop bind-μ-loop
+bind-is-complete-requires t c κs = search needs
+
+bind-add-row : (t : ℕ) → bind-lts.Need-add-row (bind-claims t) (bind-at t) bind.Post bind-Inv-loop bind-μ-loop
+bind-add-row t c = search needs
+
+bind-row-requires : (t : ℕ) → bind-lts.Need-row-requires (bind-claims t) (bind-at t) bind.Post bind-Inv-loop bind-μ-loop
+bind-row-requires t c κs = search needs
+
+bind-add-at : (t : ℕ) → bind-lts.Need-add-at (bind-claims t) (bind-at t) bind.Post bind-Inv-loop bind-μ-loop
+bind-add-at t c = search needs
+
+bind-rule-at-requires : (t : ℕ) → bind-lts.Need-rule-at-requires (bind-claims t) (bind-at t) bind.Post bind-Inv-loop bind-μ-loop
+bind-rule-at-requires t c κs = c .before .before .before .before .before .before .before .before .before .before .before .before .before .before .pre .1
+
+bind-same-length : (t : ℕ) → bind-lts.Need-same-length (bind-claims t) (bind-at t) bind.Post bind-Inv-loop bind-μ-loop
+bind-same-length t c = c .before .before .rule-at .kept .1 .1 .1 .1 .1 .1 .1 .1 .1 .0
+
+bind-returns : (t : ℕ) → bind-lts.Need-returns (bind-claims t) (bind-at t) bind.Post bind-Inv-loop bind-μ-loop
+bind-returns t c =
+    bindings-complete (c .before .before .before .before .before .before .is-complete .ensures) (c .before .before .before .before .before .if1 .taken)
+    (c .before .before .before .before .row .ensures .0) (c .before .before .rule-at .ensures)
+
+bind-row-requires-2 : (t : ℕ) → bind-lts.Need-row-requires-2 (bind-claims t) (bind-at t) bind.Post bind-Inv-loop bind-μ-loop
+bind-row-requires-2 t c κs = search needs
+
+bind-returns-2 : (t : ℕ) → bind-lts.Need-returns-2 (bind-claims t) (bind-at t) bind.Post bind-Inv-loop bind-μ-loop
+bind-returns-2 t c = bindings-impossible (c .before .row2 .ensures .0) (c .if2 .taken)
+
+bind-mul-class-at : (t : ℕ) → bind-lts.Need-mul-class-at (bind-claims t) (bind-at t) bind.Post bind-Inv-loop bind-μ-loop
+bind-mul-class-at t c = search needs
+
+bind-add-class-at : (t : ℕ) → bind-lts.Need-add-class-at (bind-claims t) (bind-at t) bind.Post bind-Inv-loop bind-μ-loop
+bind-add-class-at t c = search needs
+
+bind-add-class-at-2 : (t : ℕ) → bind-lts.Need-add-class-at-2 (bind-claims t) (bind-at t) bind.Post bind-Inv-loop bind-μ-loop
+bind-add-class-at-2 t c = search needs
+
+bind-class-at-requires : (t : ℕ) → bind-lts.Need-class-at-requires (bind-claims t) (bind-at t) bind.Post bind-Inv-loop bind-μ-loop
+bind-class-at-requires t c κs = search needs
+
+bind-loop-holds : (t : ℕ) → bind-lts.Need-loop-holds (bind-claims t) (bind-at t) bind.Post bind-Inv-loop bind-μ-loop
+bind-loop-holds t c = (omega arith, turns-begin, refl)
+
+bind-cast-loop : (t : ℕ) → bind-lts.Need-cast-loop (bind-claims t) (bind-at t) bind.Post bind-Inv-loop bind-μ-loop
+bind-cast-loop t c = search needs
+
+bind-add-next : (t : ℕ) → bind-lts.Need-add-next (bind-claims t) (bind-at t) bind.Post bind-Inv-loop bind-μ-loop
+bind-add-next t c = search needs
+
+bind-is-candidate-requires : (t : ℕ) → bind-lts.Need-is-candidate-requires (bind-claims t) (bind-at t) bind.Post bind-Inv-loop bind-μ-loop
+bind-is-candidate-requires t c κs = search needs
+
+bind-loop-less : (t : ℕ) → bind-lts.Need-loop-less (bind-claims t) (bind-at t) bind.Post bind-Inv-loop bind-μ-loop
+bind-loop-less t c = search needs
+
+bind-loop-again : (t : ℕ) → bind-lts.Need-loop-again (bind-claims t) (bind-at t) bind.Post bind-Inv-loop bind-μ-loop
+bind-loop-again t c = (
+  omega arith,
+  turn-skips (c .before .before .before .loop .inv .1)
+      (c .before .before .before .before .before .before .row2 .ensures .0)
+      (c .before .before .loop-test .taken)
+      (c .before .before .before .before .class-at .ensures)
+      (c .before .is-candidate .ensures)
+      (not-true _ (c .if3 .taken)),
+  c .before .before .before .loop .inv .2,
+)
+
+bind-add-bind : (t : ℕ) → bind-lts.Need-add-bind (bind-claims t) (bind-at t) bind.Post bind-Inv-loop bind-μ-loop
+bind-add-bind t c = search (needs, few-bound t (c .before .before .before .before .before .before .before))
+
+bind-with-entity-requires : (t : ℕ) → bind-lts.Need-with-entity-requires (bind-claims t) (bind-at t) bind.Post bind-Inv-loop bind-μ-loop
+bind-with-entity-requires t c κs = search needs
+
+bind-bind-requires : (t : ℕ) → bind-lts.Need-bind-requires (bind-claims t) (bind-at t) bind.Post bind-Inv-loop bind-μ-loop
+bind-bind-requires t c κs =
+    let s = c .before .before .before .before .before in
+    let start = s .before .before .before .before .before .before .before .before .before .before .before .before .before .before .before .before in (
+      omega (arith, start .pre .0, few-bound t (s .before .before .before .before)),
+      omega (arith, start .pre .1, s .loop .inv .2),
+    )
+
+bind-loop-less-2 : (t : ℕ) → bind-lts.Need-loop-less-2 (bind-claims t) (bind-at t) bind.Post bind-Inv-loop bind-μ-loop
+bind-loop-less-2 t c = search needs
+
+bind-loop-again-2 : (t : ℕ) → bind-lts.Need-loop-again-2 (bind-claims t) (bind-at t) bind.Post bind-Inv-loop bind-μ-loop
+bind-loop-again-2 t c = (
+  omega (arith, c .before .before .before .before .before .before .before .loop-test .taken),
+  turn-takes (c .before .before .before .before .before .before .before .before .loop .inv .1)
+      (c .before .before .before .before .before .before .before .before .before .before .before .row2 .ensures .0)
+      (c .before .before .before .before .before .before .before .loop-test .taken)
+      (c .before .before .before .before .before .before .before .before .before .class-at .ensures)
+      (c .before .before .before .before .before .before .is-candidate .ensures)
+      (not-false _ (c .before .before .before .before .before .if3 .left))
+      (few-bound t (c .before .before .before .before .before .before .before .before .before .before .before .before))
+      (c .before .before .before .before .with-entity .ensures)
+      (c .before .before .bind .ensures),
+  c .before .before .bind .kept .1 .1 .1 .1 .1 .1 .1 .1 .1 .1 .1 .1 .0 ∙ c .before .before .before .before .before .before .before .before .loop .inv .2,
+)
+
+bind-same-length-2 : (t : ℕ) → bind-lts.Need-same-length-2 (bind-claims t) (bind-at t) bind.Post bind-Inv-loop bind-μ-loop
+bind-same-length-2 t c = c .before .loop .inv .2
+
+bind-returns-3 : (t : ℕ) → bind-lts.Need-returns-3 (bind-claims t) (bind-at t) bind.Post bind-Inv-loop bind-μ-loop
+bind-returns-3 t c =
+    turns-end (c .before .loop .inv .1) (c .before .before .before .before .before .before .is-complete .ensures)
+    (c .before .before .before .before .before .if1 .left) (c .before .before .before .before .row2 .ensures .0) (c .loop-test .left)
+
+pub +bind-spec : {M : Type 1} → statement M
++bind-spec = close μ-bind λ t. bind-lts.spec (bind-claims t)
+    (bind-at t)
+    bind.Post
+    bind-Inv-loop
+    bind-μ-loop
+    (bind-is-complete-requires t)
+    (bind-add-row t)
+    (bind-row-requires t)
+    (bind-add-at t)
+    (bind-rule-at-requires t)
+    (bind-same-length t)
+    (bind-returns t)
+    (bind-row-requires-2 t)
+    (bind-returns-2 t)
+    (bind-mul-class-at t)
+    (bind-add-class-at t)
+    (bind-add-class-at-2 t)
+    (bind-class-at-requires t)
+    (bind-loop-holds t)
+    (bind-cast-loop t)
+    (bind-add-next t)
+    (bind-is-candidate-requires t)
+    (bind-loop-less t)
+    (bind-loop-again t)
+    (bind-add-bind t)
+    (bind-with-entity-requires t)
+    (bind-bind-requires t)
+    (bind-loop-less-2 t)
+    (bind-loop-again-2 t)
+    (bind-same-length-2 t)
+    (bind-returns-3 t)

@@ -1,0 +1,170 @@
+// All rules, each for every binding of its variables.
+ghost use Prim.Native.Nat.{_≤_};
+ghost use mathlib.Core.Path.{_≡_};
+ghost use lib.ListN.{length};
+ghost use Rattle.cycles.specs.AllRules.{complete, candidate, Entity-added, Bindings-put, Rules-put};
+use crate::calls::rule_at;
+use crate::evaluate::Binding;
+use crate::evaluate::is_present;
+use checking::class_at;
+use checking::row;
+
+// The binding with entity e for variable number `level`, the next one.
+fn with_entity(b: Binding, level: u8, e: u8) -> Binding
+    ensures { λ r. ⌜ Entity-added b level e r ⌝ }
+{
+    if level == 0 {
+        return Binding {
+            first: e,
+            second: b.second,
+            third: b.third,
+        };
+    }
+    if level == 1 {
+        return Binding {
+            first: b.first,
+            second: e,
+            third: b.third,
+        };
+    }
+    Binding {
+        first: b.first,
+        second: b.second,
+        third: e,
+    }
+}
+
+// Does each variable of rule number k have its entity, if the first `level` of them do?
+fn is_complete(scopes: &[u8], k: u8, level: u8) -> bool
+    ensures { λ r. ⌜ r ≡ complete (now (scopes .entry)) k level ⌝ }
+{
+    if 3 <= level {
+        return true;
+    }
+    class_at(scopes, 4 * (k as usize)) == level
+}
+
+// Is entity e present, and of the interface of this number?
+fn is_candidate(d: &[u16], flags: &[u8], face: u8, e: u8) -> bool
+    ensures { λ r. ⌜ r ≡ candidate (now (d .entry)) (now (flags .entry)) face e ⌝ }
+{
+    if !is_present(flags, e) {
+        return false;
+    }
+    row(d, 323 + (e as usize)) == face as usize
+}
+
+// Rule number k, for every binding that has b's entities for the first `level` variables.
+fn bind(
+    classes: &[u8],
+    values: &[u32],
+    refs: &[u16],
+    scopes: &[u8],
+    d: &[u16],
+    flags: &[u8],
+    cells: &[u8],
+    previous_flags: &[u8],
+    previous_cells: &[u8],
+    k: u8,
+    level: u8,
+    b: Binding,
+    area: &mut [u8],
+)
+    requires { ⌜ 3456 ≤ length (now area) ⌝ }
+    ensures { λ _. ⌜
+        Bindings-put (now (classes .entry)) (now (values .entry)) (now (d .entry)) (now (refs .entry)) (now (scopes .entry)) (now (flags .entry))
+        (now (cells .entry)) (now («previous_flags» .entry)) (now («previous_cells» .entry)) k level b (now (area .entry)) (now (area .exit)) ⌝ }
+{
+    if is_complete(scopes, k, level) {
+        let at = row(d, 259 + (k as usize)) + 1;
+        rule_at(
+            classes,
+            values,
+            refs,
+            b,
+            flags,
+            cells,
+            previous_flags,
+            previous_cells,
+            at,
+            area,
+        );
+        return;
+    }
+    let n = row(d, 1);
+    if 32 < n {
+        return;
+    }
+    let face = class_at(scopes, 4 * (k as usize) + 1 + (level as usize));
+    let mut next: u8 = 0;
+    while (next as usize) < n {
+        let e = next;
+        next += 1;
+        if !is_candidate(d, flags, face, e) {
+            continue;
+        }
+        bind(
+            classes,
+            values,
+            refs,
+            scopes,
+            d,
+            flags,
+            cells,
+            previous_flags,
+            previous_cells,
+            k,
+            level + 1,
+            with_entity(b, level, e),
+            area,
+        );
+    }
+}
+
+// What all rules write goes into the area, of 384 cells.
+pub fn all_rules(
+    classes: &[u8],
+    values: &[u32],
+    refs: &[u16],
+    scopes: &[u8],
+    d: &[u16],
+    flags: &[u8],
+    cells: &[u8],
+    previous_flags: &[u8],
+    previous_cells: &[u8],
+    area: &mut [u8],
+)
+    requires { ⌜ 3456 ≤ length (now area) ⌝ }
+    ensures { λ _. ⌜
+        Rules-put (now (classes .entry)) (now (values .entry)) (now (d .entry)) (now (refs .entry)) (now (scopes .entry)) (now (flags .entry))
+        (now (cells .entry)) (now («previous_flags» .entry)) (now («previous_cells» .entry)) (now (area .entry)) (now (area .exit)) ⌝ }
+{
+    let n = row(d, 2);
+    if 64 < n {
+        return;
+    }
+    let none = Binding {
+        first: 0,
+        second: 0,
+        third: 0,
+    };
+    let mut k: u8 = 0;
+    while (k as usize) < n {
+        bind(
+            classes,
+            values,
+            refs,
+            scopes,
+            d,
+            flags,
+            cells,
+            previous_flags,
+            previous_cells,
+            k,
+            0,
+            none,
+            area,
+        );
+        k += 1;
+    }
+}

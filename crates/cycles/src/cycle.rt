@@ -1,0 +1,203 @@
+// A cycle: a line's inputs are applied, all rules are evaluated, and the next state is put.
+ghost use mathlib.Core.Path.{_≡_};
+ghost use mathlib.Core.List.{_++_};
+ghost use mathlib.Core.Bool.{cond};
+ghost use Prim.Native.Nat.{_+_, _*_, _≤_, _<_};
+ghost use lib.ListN.{length, drop};
+ghost use Rattle.cycles.specs.StateImage.{STATE, table};
+ghost use Rattle.cycles.specs.Judging.{present-by};
+ghost use Rattle.cycles.specs.CycleMemory.{seen-flag, leaves-by, seen-value, next-value, Value-of, Values-put, Cycled};
+use crate::bindings::all_rules;
+use crate::image::cell_token;
+use crate::image::is_sort;
+use crate::image::put_state;
+use crate::judge::present_after;
+use text::classes::ACTION;
+use text::classes::ATTRIBUTE;
+use values::Value;
+use values::cell;
+use values::put_cell;
+
+// ---- what the rules see
+
+// The flag of an entity after the line.
+fn present_byte(present: u8, flag: u8) -> u8
+    ensures { λ r. ⌜ r ≡ cond (present-by present flag) 1 0 ⌝ }
+{
+    if present_after(present, flag) {
+        return 1;
+    }
+    0
+}
+
+// Puts the flags of n entities after the line.
+fn see_flags(n: usize, present: &[u8], flags: &[u8], seen: &mut [u8])
+    requires { ⌜ (n ≤ length (now present)) × (n ≤ length (now flags)) × (n ≤ length (now seen)) ⌝ }
+    ensures { λ _. ⌜ now (seen .exit) ≡ table (seen-flag (now (present .entry)) (now (flags .entry))) 0 n ++ drop n (now (seen .entry)) ⌝ }
+{
+    let mut e = 0;
+    while e < n {
+        seen[e] = present_byte(present[e], flags[e]);
+        e += 1;
+    }
+}
+
+// Does an entity leave? By its flags before the line and after it.
+fn leaves(before: u8, after: u8) -> bool
+    ensures { λ r. ⌜ r ≡ leaves-by before after ⌝ }
+{
+    if before == 1 {
+        return after != 1;
+    }
+    false
+}
+
+// Cell number i after the line: its reading, or what it was; unset if its entity leaves and it is no attribute.
+fn seen_value(
+    classes: &[u8],
+    d: &[u16],
+    present: &[u8],
+    seen: &[u8],
+    cells: &[u8],
+    inputs: &[u8],
+    i: usize,
+) -> Value
+    requires { ⌜ (i < 12 * length (now present)) × (i < 12 * length (now seen)) ⌝ }
+    requires { ⌜ (i * 9 + 9 ≤ length (now cells)) × (i * 9 + 9 ≤ length (now inputs)) ⌝ }
+    ensures { λ r. ⌜
+        Value-of (now (classes .entry)) (now (d .entry))
+        (seen-value (now (present .entry)) (now (seen .entry)) (now (cells .entry)) (now (inputs .entry))) i r ⌝ }
+{
+    let at = i * 9;
+    if inputs[at] != 4 {
+        return cell(inputs, i);
+    }
+    let e = i / 12;
+    if !leaves(present[e], seen[e]) {
+        return cell(cells, i);
+    }
+    if is_sort(classes, cell_token(d, i), ATTRIBUTE) {
+        return cell(cells, i);
+    }
+    Value::Unset
+}
+
+// Puts the cells of n entities after the line.
+fn see_cells(
+    classes: &[u8],
+    d: &[u16],
+    n: usize,
+    present: &[u8],
+    seen: &[u8],
+    cells: &[u8],
+    inputs: &[u8],
+    out: &mut [u8],
+)
+    requires { ⌜ (n ≤ length (now present)) × (n ≤ length (now seen)) ⌝ }
+    requires { ⌜ (108 * n ≤ length (now cells)) × (108 * n ≤ length (now inputs)) × (108 * n ≤ length (now out)) ⌝ }
+    ensures { λ _. ⌜
+        Values-put (now (classes .entry)) (now (d .entry))
+        (seen-value (now (present .entry)) (now (seen .entry)) (now (cells .entry)) (now (inputs .entry))) (12 * n) (now (out .entry)) (now (out .exit)) ⌝ }
+{
+    let end = 12 * n;
+    let mut i = 0;
+    while i < end {
+        let v = seen_value(classes, d, present, seen, cells, inputs, i);
+        put_cell(out, i, v);
+        i += 1;
+    }
+}
+
+// ---- what the cycle leaves
+
+// Cell number i after the cycle: an action's as it was written, any other as the rules saw it.
+fn next_value(classes: &[u8], d: &[u16], cells: &[u8], area: &[u8], i: usize) -> Value
+    requires { ⌜ (i * 9 + 9 ≤ length (now cells)) × (i * 9 + 9 ≤ length (now area)) ⌝ }
+    ensures { λ r. ⌜ Value-of (now (classes .entry)) (now (d .entry)) (next-value (now (cells .entry)) (now (area .entry))) i r ⌝ }
+{
+    if is_sort(classes, cell_token(d, i), ACTION) {
+        return cell(area, i);
+    }
+    cell(cells, i)
+}
+
+// Puts the cells of n entities after the cycle into the area, which has the writes.
+fn put_next(classes: &[u8], d: &[u16], n: usize, cells: &[u8], area: &mut [u8])
+    requires { ⌜ (108 * n ≤ length (now cells)) × (108 * n ≤ length (now area)) ⌝ }
+    ensures { λ _. ⌜
+        Values-put (now (classes .entry)) (now (d .entry)) (next-value (now (cells .entry)) (now (area .entry))) (12 * n)
+        (now (area .entry)) (now (area .exit)) ⌝ }
+{
+    let end = 12 * n;
+    let mut i = 0;
+    while i < end {
+        let v = next_value(classes, d, cells, area, i);
+        put_cell(area, i, v);
+        i += 1;
+    }
+}
+
+// The cycle of a line of that number. The area of writes begins as unset cells: bytes of 0.
+pub fn cycle(
+    classes: &[u8],
+    values: &[u32],
+    d: &[u16],
+    refs: &[u16],
+    scopes: &[u8],
+    number: u32,
+    input_flags: &[u8],
+    input_cells: &[u8],
+    state: &mut [u8],
+)
+    requires { ⌜ (32 ≤ length (now «input_flags»)) × (3456 ≤ length (now «input_cells»)) ⌝ }
+    requires { ⌜ STATE ≤ length (now state) ⌝ }
+    ensures { λ _. ⌜
+        Cycled (now (classes .entry)) (now (values .entry)) (now (d .entry)) (now (refs .entry)) (now (scopes .entry)) number
+        (now («input_flags» .entry)) (now («input_cells» .entry)) (now (state .entry)) (now (state .exit)) ⌝ }
+{
+    let n = checking::row(d, 1);
+    if 32 < n {
+        return;
+    }
+    let previous_flags = 4 + n;
+    let now_cells = 4 + 3 * n;
+    let previous_cells = 4 + 111 * n;
+    let mut flags = [0u8; 32];
+    let mut cells = [0u8; 3456];
+    let mut area = [0u8; 3456];
+    see_flags(n, &state[4..], input_flags, &mut flags);
+    see_cells(
+        classes,
+        d,
+        n,
+        &state[4..],
+        &flags,
+        &state[now_cells..],
+        input_cells,
+        &mut cells,
+    );
+    all_rules(
+        classes,
+        values,
+        refs,
+        scopes,
+        d,
+        &flags,
+        &cells,
+        &state[previous_flags..],
+        &state[previous_cells..],
+        &mut area,
+    );
+    put_next(classes, d, n, &cells, &mut area);
+    put_state(
+        d,
+        number,
+        &flags,
+        &area,
+        &flags,
+        &cells,
+        input_flags,
+        input_cells,
+        state,
+    );
+}

@@ -1,0 +1,50 @@
+-- A run, worked out: what the contracts leave is one list of replies, from one memory.
+use Prim.Native.Nat.{ℕ}
+use mathlib.Core.Path.{_≡_, refl, ap, ap₂, _∙_}
+use mathlib.Core.List.{List, [], _∷_}
+use Rattle.text.specs.Syntax.{File}
+use Rattle.engine.specs.Calls.{After-check, check-call, After-fresh, fresh-call, After-line, line-call}
+use Rattle.engine.specs.Runs.{Request, Run, ends, goes-on, Taken, taken-lines}
+use Rattle.engine.specs.DemandThree.{Begins}
+
+-- what the calls give and leave
+unfoldable pub replies : List ℕ → List ℕ → List Request → List After-line
+unfolding line-call
+replies bench state [] = []
+replies bench state (q ∷ qs) =
+    let r = line-call bench state (q .names) (q .values) (q .row) in
+    r ∷ replies bench (r .state) qs
+
+pub run-replies : {bench state : List ℕ} {qs : List Request} {rs : List After-line} → Run bench state qs rs → rs ≡ replies bench state qs
+unfolding replies
+run-replies ends = refl
+run-replies {bench} {state} (goes-on {q = q} {qs = qs} {r = r} {rs = rs} c others) =
+    ap₂ (λ (x : After-line) (xs : List After-line). x ∷ xs) c (run-replies others ∙ ap (λ (x : After-line). replies bench (x .state) qs) c)
+
+-- the memory of bench and state from which a run starts: as check and fresh leave what was lent to them
+unfoldable pub start-bench : List ℕ → List ℕ → List ℕ
+unfolding check-call
+start-bench text bench = check-call text bench .bench
+
+unfoldable pub start-state : List ℕ → List ℕ → List ℕ → List ℕ
+unfolding fresh-call start-bench
+start-state text bench state = fresh-call (start-bench text bench) state .state
+
+-- the accepted lines of a run over these requests
+unfoldable pub run-lines : File → List ℕ → List ℕ → List ℕ → List Request → List Taken
+unfolding taken-lines replies start-bench start-state
+run-lines f text bench state qs = taken-lines f qs (replies (start-bench text bench) (start-state text bench state) qs)
+
+pub begins-bench : {text bench state : List ℕ} (b : Begins text bench state) → bench ≡ start-bench text (b .lent-bench)
+unfolding start-bench
+begins-bench b = ap (λ (r : After-check). r .bench) (b .is-checked)
+
+pub begins-state : {text bench state : List ℕ} (b : Begins text bench state) → state ≡ start-state text (b .lent-bench) (b .lent-state)
+unfolding start-state
+begins-state b =
+    ap (λ (r : After-fresh). r .state) (b .is-fresh) ∙ ap (λ (m : List ℕ). fresh-call m (b .lent-state) .state) (begins-bench b)
+
+-- the replies of a run that begins so
+pub begun-replies : {text bench state : List ℕ} (b : Begins text bench state) {qs : List Request} {rs : List After-line} → Run bench state qs rs
+    → rs ≡ replies (start-bench text (b .lent-bench)) (start-state text (b .lent-bench) (b .lent-state)) qs
+begun-replies b {qs} run = run-replies run ∙ ap₂ (λ (m n : List ℕ). replies m n qs) (begins-bench b) (begins-state b)

@@ -1,0 +1,177 @@
+// A line on a checked bench whose rules' names are resolved.
+ghost use Prim.Native.Nat.{ℕ, _≤_, _<_};
+ghost use lib.ListN.{length, getD};
+ghost use Rattle.cycles.specs.StateImage.{STATE};
+ghost use Rattle.cycles.specs.HeaderReads.{NO-COLUMN};
+ghost use Rattle.engine.specs.Calls.{ROW};
+ghost use Rattle.engine.specs.LineMemory.{Shown, Settled, Record-taken, Line-taken};
+use cycles::cycle::cycle;
+use cycles::header::read_header;
+use cycles::is_state;
+use cycles::judge::Judgement;
+use cycles::judge::judge;
+use cycles::lines::Reading;
+use cycles::lines::read_record;
+use cycles::number;
+use cycles::put_row;
+
+// What a line comes to: a refusal by its code, or the length of its row.
+pub enum Taken {
+    Refused(u8),
+    Row(usize),
+}
+
+// Writes the row of a state to the front and answers its length.
+pub fn show(classes: &[u8], d: &[u16], state: &[u8], row: &mut [u8]) -> usize
+    requires { ⌜ STATE ≤ length (now state) ⌝ }
+    requires { ⌜ ROW ≤ length (now row) ⌝ }
+    ensures { λ r. ⌜ Shown (now (classes .entry)) (now (d .entry)) (now (state .entry)) (now (row .entry)) (now (row .exit)) r ⌝ }
+{
+    let n = checking::row(d, 1);
+    if 32 < n {
+        return 0;
+    }
+    let cells = 4 + 3 * n;
+    put_row(classes, d, number(state), &state[cells..], row)
+}
+
+// What a state says to a line that is read; `flags` and `cells` have its inputs. A new line moves the state on, a retransmission leaves it.
+fn settle(
+    classes: &[u8],
+    literals: &[u32],
+    d: &[u16],
+    refs: &[u16],
+    scopes: &[u8],
+    line: u64,
+    flags: &[u8],
+    cells: &[u8],
+    state: &mut [u8],
+    row: &mut [u8],
+) -> Taken
+    requires { ⌜ (32 ≤ length (now flags)) × (3456 ≤ length (now cells)) ⌝ }
+    requires { ⌜ STATE ≤ length (now state) ⌝ }
+    requires { ⌜ ROW ≤ length (now row) ⌝ }
+    ensures { λ r. ⌜
+        Settled (now (classes .entry)) (now (literals .entry)) (now (d .entry)) (now (refs .entry)) (now (scopes .entry)) line (now (flags .entry))
+        (now (cells .entry)) (now (state .entry)) (now (row .entry)) (now (state .exit)) (now (row .exit)) r ⌝ }
+{
+    let n = checking::row(d, 1);
+    if 32 < n {
+        return Taken::Refused(33);
+    }
+    let read = 4 + 2 * n;
+    let inputs = 4 + 219 * n;
+    let judgement = judge(
+        n,
+        number(state),
+        line,
+        &state[4..],
+        &state[read..],
+        &state[inputs..],
+        flags,
+        cells,
+    );
+    match judgement {
+        Judgement::Refused(code) => Taken::Refused(code),
+        Judgement::Resent => Taken::Row(show(classes, d, state, row)),
+        Judgement::New => {
+            let number = (line % 4294967296) as u32;
+            cycle(
+                classes,
+                literals,
+                d,
+                refs,
+                scopes,
+                number,
+                flags,
+                cells,
+                state,
+            );
+            Taken::Row(show(classes, d, state, row))
+        }
+    }
+}
+
+// A record under a header that is read: `columns` has the numbers of its columns. The memory is a state.
+pub fn take_record(
+    classes: &[u8],
+    literals: &[u32],
+    d: &[u16],
+    refs: &[u16],
+    scopes: &[u8],
+    columns: &[u16],
+    count: usize,
+    values: &[u8],
+    state: &mut [u8],
+    row: &mut [u8],
+) -> Taken
+    requires { ⌜ (count ≤ length (now columns)) × ((k : ℕ) → k < count → getD (now columns) k 0 < NO-COLUMN) ⌝ }
+    requires { ⌜ STATE ≤ length (now state) ⌝ }
+    requires { ⌜ ROW ≤ length (now row) ⌝ }
+    ensures { λ r. ⌜
+        Record-taken (now (classes .entry)) (now (literals .entry)) (now (d .entry)) (now (refs .entry)) (now (scopes .entry)) (now (columns .entry)) count
+        (now (values .entry)) (now (state .entry)) (now (row .entry)) (now (state .exit)) (now (row .exit)) r ⌝ }
+{
+    let mut flags = [0u8; 32];
+    let mut cells = [0u8; 3456];
+    let reading = read_record(classes, d, values, columns, count, &mut flags, &mut cells);
+    match reading {
+        Reading::Refused(code) => Taken::Refused(code),
+        Reading::Got(line) => settle(
+            classes,
+            literals,
+            d,
+            refs,
+            scopes,
+            line,
+            &flags,
+            &cells,
+            state,
+            row,
+        ),
+    }
+}
+
+// A header and a record.
+pub fn take_line(
+    text: &[u8],
+    classes: &[u8],
+    offsets: &[u16],
+    lengths: &[u8],
+    literals: &[u32],
+    d: &[u16],
+    refs: &[u16],
+    scopes: &[u8],
+    names: &[u8],
+    values: &[u8],
+    state: &mut [u8],
+    row: &mut [u8],
+) -> Taken
+    requires { ⌜ STATE ≤ length (now state) ⌝ }
+    requires { ⌜ ROW ≤ length (now row) ⌝ }
+    ensures { λ r. ⌜
+        Line-taken (now (text .entry)) (now (classes .entry)) (now (offsets .entry)) (now (lengths .entry)) (now (literals .entry)) (now (d .entry))
+        (now (refs .entry)) (now (scopes .entry)) (now (names .entry)) (now (values .entry)) (now (state .entry)) (now (row .entry)) (now (state .exit))
+        (now (row .exit)) r ⌝ }
+{
+    if !is_state(classes, d, state) {
+        return Taken::Refused(33);
+    }
+    let mut columns = [0u16; 416];
+    let count = read_header(text, classes, offsets, lengths, d, names, &mut columns);
+    if 416 < count {
+        return Taken::Refused(22);
+    }
+    take_record(
+        classes,
+        literals,
+        d,
+        refs,
+        scopes,
+        &columns,
+        count,
+        values,
+        state,
+        row,
+    )
+}

@@ -1,0 +1,272 @@
+// A call on a bench's text: one piece of code with room for the text's columns serves them all.
+ghost use mathlib.Core.Path.{_≡_};
+ghost use mathlib.Core.Bool.{true};
+ghost use Prim.Native.Nat.{_*_, _≤_};
+ghost use lib.ListN.{length};
+ghost use Rattle.text.specs.TokenTable.{columns-of};
+ghost use Rattle.checking.specs.Verdict.{MOST-BYTES};
+ghost use Rattle.checking.specs.CheckedBench.{has-room};
+ghost use Rattle.engine.specs.LineMemory.{taken-answer, Short-row};
+ghost use Rattle.engine.specs.Serving.{Served, served, Room, On-bench, refusal};
+use crate::bench::put_bench;
+use crate::line::Taken;
+use crate::line::show;
+use crate::line::take_line;
+use checking::check::Checked;
+use checking::check::check;
+use checking::coded;
+use checking::resolver::resolve;
+use cycles::is_state;
+use cycles::put_fresh;
+use cycles::put_row_header;
+
+// The public calls.
+pub enum Call {
+    Check,
+    Fresh,
+    Line,
+    Header,
+    Row,
+}
+
+// The answer of a call that is accepted and writes a row of that length.
+fn row_answer(length: usize) -> u64
+    ensures { λ r. ⌜ (length ≤ 32768 → r ≡ 256 * length) ⌝ }
+{
+    // only where no bench stands in the columns
+    if 32768 < length {
+        return 0;
+    }
+    256 * (length as u64)
+}
+
+fn answer(taken: Taken) -> u64
+    requires { ⌜ Short-row taken ⌝ }
+    ensures { λ r. ⌜ r ≡ taken-answer taken ⌝ }
+{
+    match taken {
+        Taken::Refused(code) => code as u64,
+        Taken::Row(length) => row_answer(length),
+    }
+}
+
+// The answer of a call whose text is refused: the check says why.
+fn refusal(call: Call, code: u8, at: u32) -> u64
+    ensures { λ r. ⌜ r ≡ refusal call code at ⌝ }
+{
+    match call {
+        Call::Check => coded(code, at),
+        Call::Fresh => 32,
+        Call::Line => 32,
+        Call::Header => 32,
+        Call::Row => 32,
+    }
+}
+
+// A call on an accepted text in columns, a row for each token.
+fn on_bench(
+    call: Call,
+    text: &[u8],
+    classes: &[u8],
+    offsets: &[u16],
+    lengths: &[u8],
+    literals: &[u32],
+    d: &[u16],
+    refs: &mut [u16],
+    scopes: &mut [u8],
+    state: &mut [u8],
+    shown: &[u8],
+    names: &[u8],
+    values: &[u8],
+    out: &mut [u8],
+) -> u64
+    requires { ⌜ length (now text) ≤ MOST-BYTES ⌝ }
+    requires { ⌜ (length (now classes) ≤ length (now refs)) × (256 ≤ length (now scopes)) ⌝ }
+    requires { ⌜ Room call (now state) (now shown) (now out) ⌝ }
+    ensures { λ r. ⌜
+        On-bench call (now (text .entry)) (now (classes .entry)) (now (offsets .entry)) (now (lengths .entry)) (now (literals .entry)) (now (d .entry))
+        (now (state .entry)) (now (shown .entry)) (now (names .entry)) (now (values .entry)) (now (out .entry)) (now (state .exit)) (now (out .exit)) r ⌝ }
+{
+    match call {
+        Call::Check => {
+            put_bench(text, out);
+            0
+        }
+        Call::Fresh => {
+            put_fresh(text, classes, offsets, lengths, literals, d, state);
+            0
+        }
+        Call::Line => {
+            resolve(text, classes, offsets, lengths, d, refs, scopes);
+            answer(take_line(
+                text,
+                classes,
+                offsets,
+                lengths,
+                literals,
+                d,
+                refs,
+                scopes,
+                names,
+                values,
+                state,
+                out,
+            ))
+        }
+        Call::Header => row_answer(put_row_header(text, classes, offsets, lengths, d, out)),
+        Call::Row => {
+            if !is_state(classes, d, shown) {
+                return 33;
+            }
+            row_answer(show(classes, d, shown, out))
+        }
+    }
+}
+
+// A call on a text, with room for its columns.
+fn on_text(
+    call: Call,
+    text: &[u8],
+    classes: &mut [u8],
+    offsets: &mut [u16],
+    lengths: &mut [u8],
+    literals: &mut [u32],
+    d: &mut [u16],
+    refs: &mut [u16],
+    scopes: &mut [u8],
+    state: &mut [u8],
+    shown: &[u8],
+    names: &[u8],
+    values: &[u8],
+    out: &mut [u8],
+) -> u64
+    requires { ⌜ has-room (now text) (columns-of (now classes) (now offsets) (now lengths) (now literals)) (now d) ≡ true ⌝ }
+    requires { ⌜ (length (now classes) ≤ length (now refs)) × (256 ≤ length (now scopes)) ⌝ }
+    requires { ⌜ Room call (now state) (now shown) (now out) ⌝ }
+    ensures { λ r. ⌜
+        record { answer = r; state = now (state .exit); out = now (out .exit) }
+        ≡ served call (now (text .entry)) (now (state .entry)) (now (shown .entry)) (now (names .entry)) (now (values .entry)) (now (out .entry)) ⌝ }
+{
+    let checked = check(text, classes, offsets, lengths, literals, d);
+    match checked {
+        Checked::NoRoom => 31,
+        Checked::Refused { code, at } => refusal(call, code, at),
+        Checked::Accepted(n) => on_bench(
+            call,
+            text,
+            &classes[0..n],
+            offsets,
+            lengths,
+            literals,
+            d,
+            refs,
+            scopes,
+            state,
+            shown,
+            names,
+            values,
+            out,
+        ),
+    }
+}
+
+// A call on a text of 4,096 bytes at most: less memory to clear.
+fn on_short_text(
+    call: Call,
+    text: &[u8],
+    state: &mut [u8],
+    shown: &[u8],
+    names: &[u8],
+    values: &[u8],
+    out: &mut [u8],
+) -> u64
+    requires { ⌜ length (now text) ≤ 4096 ⌝ }
+    requires { ⌜ Room call (now state) (now shown) (now out) ⌝ }
+    ensures { λ r. ⌜
+        record { answer = r; state = now (state .exit); out = now (out .exit) }
+        ≡ served call (now (text .entry)) (now (state .entry)) (now (shown .entry)) (now (names .entry)) (now (values .entry)) (now (out .entry)) ⌝ }
+{
+    let mut classes = [0u8; 4096];
+    let mut offsets = [0u16; 4096];
+    let mut lengths = [0u8; 4096];
+    let mut literals = [0u32; 4096];
+    let mut d = [0u16; 355];
+    let mut refs = [0u16; 4096];
+    let mut scopes = [0u8; 256];
+    on_text(
+        call,
+        text,
+        &mut classes,
+        &mut offsets,
+        &mut lengths,
+        &mut literals,
+        &mut d,
+        &mut refs,
+        &mut scopes,
+        state,
+        shown,
+        names,
+        values,
+        out,
+    )
+}
+
+fn on_long_text(
+    call: Call,
+    text: &[u8],
+    state: &mut [u8],
+    shown: &[u8],
+    names: &[u8],
+    values: &[u8],
+    out: &mut [u8],
+) -> u64
+    requires { ⌜ Room call (now state) (now shown) (now out) ⌝ }
+    ensures { λ r. ⌜
+        record { answer = r; state = now (state .exit); out = now (out .exit) }
+        ≡ served call (now (text .entry)) (now (state .entry)) (now (shown .entry)) (now (names .entry)) (now (values .entry)) (now (out .entry)) ⌝ }
+{
+    let mut classes = [0u8; 32768];
+    let mut offsets = [0u16; 32768];
+    let mut lengths = [0u8; 32768];
+    let mut literals = [0u32; 32768];
+    let mut d = [0u16; 355];
+    let mut refs = [0u16; 32768];
+    let mut scopes = [0u8; 256];
+    on_text(
+        call,
+        text,
+        &mut classes,
+        &mut offsets,
+        &mut lengths,
+        &mut literals,
+        &mut d,
+        &mut refs,
+        &mut scopes,
+        state,
+        shown,
+        names,
+        values,
+        out,
+    )
+}
+
+// A call on a text of any length.
+pub fn serve(
+    call: Call,
+    text: &[u8],
+    state: &mut [u8],
+    shown: &[u8],
+    names: &[u8],
+    values: &[u8],
+    out: &mut [u8],
+) -> u64
+    requires { ⌜ Room call (now state) (now shown) (now out) ⌝ }
+    ensures { λ r. ⌜
+        record { answer = r; state = now (state .exit); out = now (out .exit) }
+        ≡ served call (now (text .entry)) (now (state .entry)) (now (shown .entry)) (now (names .entry)) (now (values .entry)) (now (out .entry)) ⌝ }
+{
+    if text.len() <= 4096 {
+        return on_short_text(call, text, state, shown, names, values, out);
+    }
+    on_long_text(call, text, state, shown, names, values, out)
+}

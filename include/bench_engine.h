@@ -1,0 +1,51 @@
+/* The Pantagruel bench engine: a bench file is checked once; then each line of readings is one call.
+ *
+ * Every call answers with one number. Its low 8 bits are 0 for acceptance or the number of a refusal; the bits above them are the offset
+ * of a refused text, or the length of a written row. A refused call changes no byte that was lent to it.
+ *
+ * Memory is lent as a pointer and a length; the slices lent to one call must not overlap. Any bytes and any lengths may be lent. Memory
+ * longer than its stated size is fine: what lies past the written part stays as it was.
+ */
+#ifndef BENCH_ENGINE_H
+#define BENCH_ENGINE_H
+
+#include <stddef.h>
+#include <stdint.h>
+
+#ifdef __cplusplus
+extern "C" {
+#endif
+
+/* Stated sizes: memory that is shorter is refused by 31. */
+#define BENCH_SIZE 32772u
+#define BENCH_STATE_SIZE 10468u
+#define BENCH_ROW_SIZE 32768u
+
+/* An answer's number (0: accepted), and what stands above it: an offset or a length. */
+#define BENCH_NUMBER(answer) ((unsigned)((answer) & 255u))
+#define BENCH_REST(answer) ((size_t)((answer) >> 8))
+
+/* Checks a bench file and writes its image to bench. 31; 11 to 18 with the offset of the fault; or 0. */
+uint64_t bench_check(const uint8_t *text, size_t text_length, uint8_t *bench, size_t bench_length);
+
+/* Writes the fresh state of a checked bench. 31, 32 or 0. */
+uint64_t state_fresh(const uint8_t *bench, size_t bench_length, uint8_t *state, size_t state_length);
+
+/* Takes one line: header and record, without line feeds. Moves the state on and writes the line's row, without a line feed. A line that
+ * is sent again leaves the state and gives its row again. 31, 32, 33, 22, 21, 23, 24, 25; or 0 with the row's length. */
+uint64_t bench_line(const uint8_t *bench, size_t bench_length, uint8_t *state, size_t state_length,
+                    const uint8_t *names, size_t names_length, const uint8_t *values, size_t values_length,
+                    uint8_t *row, size_t row_length);
+
+/* Writes the row of names, without a line feed. 31, 32; or 0 with its length. */
+uint64_t bench_header(const uint8_t *bench, size_t bench_length, uint8_t *row, size_t row_length);
+
+/* Writes the row of the line that a state was left by. 31, 32, 33; or 0 with its length. */
+uint64_t bench_row(const uint8_t *bench, size_t bench_length, const uint8_t *state, size_t state_length,
+                   uint8_t *row, size_t row_length);
+
+#ifdef __cplusplus
+}
+#endif
+
+#endif

@@ -1,0 +1,486 @@
+/* Calls the engine with memory that ends at a page nobody may touch, and again with memory that begins right after one.
+ * Sizes are exact, or one byte less; refused calls must leave every byte; random bytes are lent as each argument. */
+#define _DEFAULT_SOURCE
+#include "bench_engine.h"
+
+#include <stdio.h>
+#include <stdlib.h>
+#include <string.h>
+#include <sys/mman.h>
+#include <unistd.h>
+
+/* Counting. */
+
+static unsigned long passed, failed;
+
+static void check(int holds, const char *what)
+{
+    if (holds) {
+        passed++;
+        return;
+    }
+    if (failed++ < 20)
+        printf("failed: %s\n", what);
+}
+
+static void check_answer(uint64_t answer, unsigned number, size_t rest, const char *what)
+{
+    int holds = BENCH_NUMBER(answer) == number && BENCH_REST(answer) == rest;
+    check(holds, what);
+    if (!holds && failed <= 20)
+        printf("  answered %u with %zu, not %u with %zu\n", BENCH_NUMBER(answer), BENCH_REST(answer), number, rest);
+}
+
+/* A region between two guarded pages; a slice of it is lent at its end or at its start. */
+
+struct region {
+    uint8_t *base;
+    size_t bytes;
+    uint8_t *copy;
+    uint8_t *lent;
+    size_t length;
+};
+
+static struct region text, bench, state, names, values, row;
+static struct region *const regions[6] = {&text, &bench, &state, &names, &values, &row};
+static int lend_at_start;
+
+static void make(struct region *region, size_t least)
+{
+    size_t page = (size_t)sysconf(_SC_PAGESIZE);
+    uint8_t *whole;
+    region->bytes = (least + page - 1) / page * page;
+    whole = mmap(NULL, region->bytes + 2 * page, PROT_READ | PROT_WRITE, MAP_PRIVATE | MAP_ANONYMOUS, -1, 0);
+    region->copy = malloc(region->bytes);
+    if (whole == MAP_FAILED || !region->copy || mprotect(whole, page, PROT_NONE) != 0
+        || mprotect(whole + page + region->bytes, page, PROT_NONE) != 0) {
+        perror("guarded memory");
+        exit(2);
+    }
+    region->base = whole + page;
+    memset(region->base, 0xa5, region->bytes);
+}
+
+static void lend(struct region *region, size_t length)
+{
+    region->length = length;
+    region->lent = lend_at_start ? region->base : region->base + region->bytes - length;
+}
+
+/* Lends these bytes exactly. */
+static void put(struct region *region, const void *bytes, size_t length)
+{
+    lend(region, length);
+    if (length > 0)
+        memcpy(region->lent, bytes, length);
+}
+
+static void put_text(struct region *region, const char *words)
+{
+    put(region, words, strlen(words));
+}
+
+static void save(void)
+{
+    for (int i = 0; i < 6; i++)
+        memcpy(regions[i]->copy, regions[i]->base, regions[i]->bytes);
+}
+
+static int same(const struct region *region)
+{
+    return memcmp(region->copy, region->base, region->bytes) == 0;
+}
+
+static int all_same(void)
+{
+    for (int i = 0; i < 6; i++)
+        if (!same(regions[i]))
+            return 0;
+    return 1;
+}
+
+/* Whether nothing changed outside the first `written` bytes of what was lent. */
+static int rest_same(const struct region *region, size_t written)
+{
+    size_t start = (size_t)(region->lent - region->base);
+    return memcmp(region->copy, region->base, start) == 0
+        && memcmp(region->copy + start + written, region->lent + written, region->bytes - start - written) == 0;
+}
+
+/* The five calls on the regions. Each checks what holds for every answer. */
+
+/* Bytes that the state of a bench of this many entities takes. */
+#define STATE_USED(entities) (4u + 327u * (entities))
+
+/* How much of the state's memory the calls may write. */
+static size_t state_used = BENCH_STATE_SIZE;
+
+static size_t row_length(uint64_t answer)
+{
+    return BENCH_REST(answer) <= BENCH_ROW_SIZE ? BENCH_REST(answer) : BENCH_ROW_SIZE;
+}
+
+static uint64_t checked(void)
+{
+    uint64_t answer;
+    save();
+    answer = bench_check(text.lent, text.length, bench.lent, bench.length);
+    if (BENCH_NUMBER(answer) != 0)
+        check(all_same(), "a refused bench_check leaves every byte");
+    else
+        check(rest_same(&bench, 4 + text.length) && same(&text) && same(&state) && same(&row), "bench_check writes the bench alone");
+    return answer;
+}
+
+static uint64_t fresh(void)
+{
+    uint64_t answer;
+    save();
+    answer = state_fresh(bench.lent, bench.length, state.lent, state.length);
+    if (BENCH_NUMBER(answer) != 0)
+        check(all_same(), "a refused state_fresh leaves every byte");
+    else
+        check(rest_same(&state, state_used) && same(&bench) && same(&row), "state_fresh writes the state alone");
+    return answer;
+}
+
+static uint64_t line(void)
+{
+    uint64_t answer;
+    save();
+    answer = bench_line(bench.lent, bench.length, state.lent, state.length, names.lent, names.length, values.lent, values.length, row.lent,
+                        row.length);
+    if (BENCH_NUMBER(answer) != 0)
+        check(all_same() && BENCH_REST(answer) == 0, "a refused bench_line leaves every byte");
+    else
+        check(rest_same(&state, state_used) && rest_same(&row, row_length(answer)) && same(&bench) && same(&names) && same(&values),
+              "bench_line writes state and row alone");
+    return answer;
+}
+
+static uint64_t header(void)
+{
+    uint64_t answer;
+    save();
+    answer = bench_header(bench.lent, bench.length, row.lent, row.length);
+    if (BENCH_NUMBER(answer) != 0)
+        check(all_same(), "a refused bench_header leaves every byte");
+    else
+        check(rest_same(&row, row_length(answer)) && same(&bench) && same(&state), "bench_header writes the row alone");
+    return answer;
+}
+
+static uint64_t state_row(void)
+{
+    uint64_t answer;
+    save();
+    answer = bench_row(bench.lent, bench.length, state.lent, state.length, row.lent, row.length);
+    if (BENCH_NUMBER(answer) != 0)
+        check(all_same(), "a refused bench_row leaves every byte");
+    else
+        check(rest_same(&row, row_length(answer)) && same(&bench) && same(&state), "bench_row writes the row alone");
+    return answer;
+}
+
+static void check_row(uint64_t answer, const char *wanted)
+{
+    check_answer(answer, 0, strlen(wanted), wanted);
+    check(memcmp(row.lent, wanted, strlen(wanted)) == 0, wanted);
+}
+
+/* The pedal bench. */
+
+static const char PEDAL[] =
+    "interface P { event down : bool } interface S { event pos : whole } interface L { action keep ( whole ) } "
+    "entity p : P { } entity s : S { } entity k : L { } "
+    "rules when event down from p value = true trigger action keep ( s.pos ) on k end end";
+
+static void lend_exact(void)
+{
+    lend(&bench, BENCH_SIZE);
+    lend(&state, BENCH_STATE_SIZE);
+    lend(&row, BENCH_ROW_SIZE);
+}
+
+static void start_pedal(void)
+{
+    lend_exact();
+    state_used = STATE_USED(3);
+    put_text(&text, PEDAL);
+    check_answer(checked(), 0, 0, "the pedal bench is accepted");
+    check_answer(fresh(), 0, 0, "its fresh state");
+    put_text(&names, "n p.down s.pos");
+    put_text(&values, "1 false 100");
+}
+
+static void pedal_rows(void)
+{
+    static const char *const rows[][2] = {
+        {"1 false 100", "1 -"}, {"2 true 140", "2 140"}, {"2 true 140", "2 140"}, {"3 - 150", "3 -"},
+        {"4 false 150", "4 -"}, {"5 true 190", "5 190"},
+    };
+    start_pedal();
+    check_row(header(), "n k.keep");
+    check_row(state_row(), "0 -");
+    for (size_t i = 0; i < sizeof rows / sizeof rows[0]; i++) {
+        put_text(&values, rows[i][0]);
+        check_row(line(), rows[i][1]);
+        check_row(state_row(), rows[i][1]);
+    }
+    put_text(&values, "4 - -");
+    check_answer(line(), 24, 0, "an old number");
+    check_row(state_row(), "5 190");
+}
+
+/* Memory longer than stated: the bytes past the size stay. */
+static void longer_memory(void)
+{
+    start_pedal();
+    lend(&bench, BENCH_SIZE + 100);
+    lend(&state, BENCH_STATE_SIZE + 100);
+    lend(&row, BENCH_ROW_SIZE + 100);
+    check_answer(checked(), 0, 0, "a longer bench");
+    check_answer(fresh(), 0, 0, "a longer state");
+    check_row(header(), "n k.keep");
+    check_row(line(), "1 -");
+}
+
+/* One byte less than stated, for each memory of each call. */
+static void short_memory(void)
+{
+    start_pedal();
+    lend(&bench, BENCH_SIZE - 1);
+    check_answer(checked(), 31, 0, "bench_check, short bench");
+    put_text(&text, ";");
+    check_answer(checked(), 31, 0, "31 comes before 12");
+    check_answer(fresh(), 31, 0, "state_fresh, short bench");
+    check_answer(line(), 31, 0, "bench_line, short bench");
+    check_answer(header(), 31, 0, "bench_header, short bench");
+    check_answer(state_row(), 31, 0, "bench_row, short bench");
+    start_pedal();
+    lend(&state, BENCH_STATE_SIZE - 1);
+    check_answer(fresh(), 31, 0, "state_fresh, short state");
+    check_answer(line(), 31, 0, "bench_line, short state");
+    check_answer(state_row(), 31, 0, "bench_row, short state");
+    start_pedal();
+    lend(&row, BENCH_ROW_SIZE - 1);
+    check_answer(line(), 31, 0, "bench_line, short row");
+    check_answer(header(), 31, 0, "bench_header, short row");
+    check_answer(state_row(), 31, 0, "bench_row, short row");
+    lend(&bench, 0);
+    lend(&state, 0);
+    lend(&row, 0);
+    check_answer(checked(), 31, 0, "bench_check, no bench");
+    check_answer(fresh(), 31, 0, "state_fresh, no memory");
+    check_answer(line(), 31, 0, "bench_line, no memory");
+    check_answer(header(), 31, 0, "bench_header, no memory");
+    check_answer(state_row(), 31, 0, "bench_row, no memory");
+}
+
+/* Refusals of texts; each leaves the bench that was there. */
+static void refused_texts(void)
+{
+    static const struct {
+        const char *words;
+        unsigned number;
+        size_t offset;
+    } cases[] = {
+        {"", 13, 0},
+        {"rules end ;", 12, 10},
+        {"rules end # \x01", 12, 12},
+        {"rules", 13, 5},
+        {"rules end end", 13, 10},
+        {"interface I { } interface I { } rules end", 15, 26},
+        {"entity e : I { } rules end", 16, 11},
+        {"interface I { attribute a : whole } entity e : I { } rules end", 17, 51},
+        {"interface I { attribute a : whole } entity e : I { a = true } rules end", 18, 53},
+        {"interface I { event a : bool event b : bool event c : bool event d : bool event e : bool event f : bool event g : bool "
+         "event h : bool event i : bool event j : bool event k : bool event l : bool event m : bool } rules end", 14, 194},
+    };
+    start_pedal();
+    for (size_t i = 0; i < sizeof cases / sizeof cases[0]; i++) {
+        put_text(&text, cases[i].words);
+        check_answer(checked(), cases[i].number, cases[i].offset, cases[i].words);
+        check_row(header(), "n k.keep");
+    }
+    lend(&text, 32769);
+    memset(text.lent, ' ', text.length);
+    check_answer(checked(), 11, 32768, "a text of 32,769 bytes");
+    lend(&text, 32768);
+    memset(text.lent, ' ', text.length);
+    check_answer(checked(), 13, 32768, "32,768 blanks");
+    memcpy(text.lent + 32768 - 9, "rules end", 9);
+    check_answer(checked(), 0, 0, "a text of 32,768 bytes");
+    put_text(&names, "n");
+    put_text(&values, "1");
+    state_used = STATE_USED(0);
+    check_answer(fresh(), 0, 0, "the state of no entities");
+    check_row(line(), "1");
+}
+
+static void refused_lines(void)
+{
+    static const struct {
+        const char *names;
+        const char *values;
+        unsigned number;
+    } cases[] = {
+        {"", "2 - -", 22},
+        {"n p.down s.pos ", "2 - -", 22},
+        {"n p.down p.down", "2 - -", 22},
+        {"n k.keep", "2 1", 22},
+        {"n p.down s.pos", "", 21},
+        {"n p.down s.pos", "2 -", 21},
+        {"n p.down s.pos", "2 -  -", 21},
+        {"n p.down s.pos", "02 - -", 21},
+        {"n p.down s.pos", "2 - -\n", 21},
+        {"n p.down s.pos", "2 1 -", 23},
+        {"n p.down s.pos", "2 - -0", 23},
+        {"n p p.down", "2 false true", 23},
+        {"n p.down s.pos", "0 - -", 24},
+        {"n p.down s.pos", "3 - -", 24},
+        {"n p.down s.pos", "1 - -", 25},
+    };
+    start_pedal();
+    check_row(line(), "1 -");
+    for (size_t i = 0; i < sizeof cases / sizeof cases[0]; i++) {
+        put_text(&names, cases[i].names);
+        put_text(&values, cases[i].values);
+        check_answer(line(), cases[i].number, 0, cases[i].values);
+    }
+    put_text(&names, "n");
+    lend(&values, 8193);
+    memset(values.lent, '1', values.length);
+    check_answer(line(), 21, 0, "values of 8,193 bytes");
+    put_text(&values, "2");
+    lend(&names, 32769);
+    memset(names.lent, 'n', names.length);
+    check_answer(line(), 22, 0, "names of 32,769 bytes");
+}
+
+/* Memory that is no bench, or no state of it. */
+static void foreign_memory(void)
+{
+    start_pedal();
+    state.lent[4] = 2;
+    check_answer(line(), 33, 0, "a flag of 2");
+    check_answer(state_row(), 33, 0, "a flag of 2");
+    bench.lent[4] = '#';
+    check_answer(line(), 32, 0, "32 comes before 33");
+    check_answer(fresh(), 32, 0, "a bench that is refused");
+    check_answer(header(), 32, 0, "a bench that is refused");
+    bench.lent[4] = 'i';
+    memset(bench.lent, 255, 4);
+    check_answer(state_row(), 32, 0, "a length beyond the most");
+    start_pedal();
+    memset(state.lent, 255, 4);
+    put_text(&values, "4294967295 - -");
+    check_row(line(), "4294967295 -");
+    put_text(&values, "4294967296 - -");
+    check_answer(line(), 24, 0, "a number too great");
+}
+
+/* Random bytes. */
+
+static uint64_t seed = 1;
+
+static uint64_t random_number(void)
+{
+    uint64_t z = (seed += 0x9e3779b97f4a7c15u);
+    z = (z ^ (z >> 30)) * 0xbf58476d1ce4e5b9u;
+    z = (z ^ (z >> 27)) * 0x94d049bb133111ebu;
+    return z ^ (z >> 31);
+}
+
+static size_t below(size_t bound)
+{
+    return (size_t)(random_number() % bound);
+}
+
+static void scatter(struct region *region, size_t length)
+{
+    lend(region, length);
+    for (size_t i = 0; i < length; i++)
+        region->lent[i] = (uint8_t)random_number();
+}
+
+static void check_number(uint64_t answer, const char *allowed, const char *what)
+{
+    /* `allowed` lists two digits for each number. */
+    char wanted[3] = {(char)('0' + BENCH_NUMBER(answer) / 10 % 10), (char)('0' + BENCH_NUMBER(answer) % 10), 0};
+    int holds = 0;
+    for (size_t i = 0; i + 1 < strlen(allowed); i += 2)
+        holds |= memcmp(allowed + i, wanted, 2) == 0 && BENCH_NUMBER(answer) < 100;
+    check(holds, what);
+}
+
+static void random_arguments(void)
+{
+    start_pedal();
+    scatter(&text, below(10) == 0 ? below(33000) : below(40));
+    check_number(checked(), "001112131415161718", "bench_check of random bytes");
+    start_pedal();
+    if (below(2) == 0)
+        scatter(&names, below(10) == 0 ? below(33000) : below(20));
+    else
+        scatter(&values, below(10) == 0 ? below(8300) : below(20));
+    check_number(line(), "002122232425", "bench_line of random bytes");
+    start_pedal();
+    if (below(2) == 0)
+        scatter(&state, BENCH_STATE_SIZE);
+    else
+        state.lent[below(state_used)] = (uint8_t)random_number();
+    check_number(state_row(), "0033", "bench_row of a random state");
+    check_number(line(), "00332122232425", "bench_line of a random state");
+    start_pedal();
+    state_used = BENCH_STATE_SIZE;
+    if (below(3) == 0)
+        scatter(&bench, BENCH_SIZE);
+    else
+        bench.lent[below(4 + sizeof PEDAL)] = (uint8_t)random_number();
+    check_number(header(), "0032", "bench_header of a random bench");
+    check_number(line(), "0032332122232425", "bench_line of a random bench");
+    check_number(state_row(), "003233", "bench_row of a random bench");
+    check_number(fresh(), "0032", "state_fresh of a random bench");
+}
+
+/* All arguments at once, of any bytes and any lengths. */
+static void random_everything(void)
+{
+    state_used = BENCH_STATE_SIZE;
+    scatter(&text, below(200));
+    scatter(&bench, BENCH_SIZE - below(2));
+    scatter(&state, BENCH_STATE_SIZE - below(2));
+    scatter(&row, BENCH_ROW_SIZE - below(2));
+    scatter(&names, below(30));
+    scatter(&values, below(30));
+    check_number(line(), "3132332122232425", "bench_line of random bytes alone");
+    check_number(state_row(), "313233", "bench_row of random bytes alone");
+    check_number(header(), "3132", "bench_header of random bytes alone");
+    check_number(fresh(), "3132", "state_fresh of random bytes alone");
+    check_number(checked(), "003112131415161718", "bench_check of random bytes alone");
+}
+
+int main(void)
+{
+    make(&text, 40000);
+    make(&bench, BENCH_SIZE + 200);
+    make(&state, BENCH_STATE_SIZE + 200);
+    make(&names, 40000);
+    make(&values, 10000);
+    make(&row, BENCH_ROW_SIZE + 200);
+    for (lend_at_start = 0; lend_at_start < 2; lend_at_start++) {
+        pedal_rows();
+        longer_memory();
+        short_memory();
+        refused_texts();
+        refused_lines();
+        foreign_memory();
+        for (int i = 0; i < 300; i++)
+            random_arguments();
+        for (int i = 0; i < 50; i++)
+            random_everything();
+    }
+    printf("%lu passed, %lu failed\n", passed, failed);
+    return failed != 0;
+}

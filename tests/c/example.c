@@ -1,0 +1,106 @@
+/* A short program to copy: it checks a bench file, then gives each line of a file of readings to the engine and prints the rows.
+ *
+ *     cc -I include example.c libengine.a -o example
+ *     ./example bench.txt readings.txt
+ */
+#include "bench_engine.h"
+
+#include <stdio.h>
+#include <stdlib.h>
+#include <string.h>
+
+/* The caller lends the memory for bench, state and row, of the stated sizes at least. */
+static uint8_t bench[BENCH_SIZE];
+static uint8_t state[BENCH_STATE_SIZE];
+static uint8_t row[BENCH_ROW_SIZE];
+
+struct bytes {
+    uint8_t *start;
+    size_t length;
+};
+
+static struct bytes read_file(const char *path)
+{
+    struct bytes file = {NULL, 0};
+    size_t room = 0, got;
+    FILE *from = fopen(path, "rb");
+    if (!from) {
+        perror(path);
+        exit(2);
+    }
+    do {
+        room = 2 * room + 4096;
+        file.start = realloc(file.start, room);
+        if (!file.start) {
+            fprintf(stderr, "no memory for %s\n", path);
+            exit(2);
+        }
+        got = fread(file.start + file.length, 1, room - file.length, from);
+        file.length += got;
+    } while (file.length == room);
+    fclose(from);
+    return file;
+}
+
+/* Takes the next line off the front of what is left; a last line feed opens no further line. Returns 0 at the end. */
+static int next_line(struct bytes *rest, struct bytes *line)
+{
+    uint8_t *feed;
+    if (rest->length == 0)
+        return 0;
+    feed = memchr(rest->start, '\n', rest->length);
+    line->start = rest->start;
+    line->length = feed ? (size_t)(feed - rest->start) : rest->length;
+    rest->start += line->length + (feed ? 1 : 0);
+    rest->length -= line->length + (feed ? 1 : 0);
+    return 1;
+}
+
+/* An answer of 0 in its low 8 bits: the call did its work, and the bits above give the length of the row it wrote.
+ * Any other number: the call was refused and changed no byte; for lines the number is all there is to say. */
+static void print_row(uint64_t answer)
+{
+    if (BENCH_NUMBER(answer) == 0) {
+        fwrite(row, 1, BENCH_REST(answer), stdout);
+        putchar('\n');
+    } else {
+        printf("refused %u\n", BENCH_NUMBER(answer));
+    }
+}
+
+int main(int count, char **arguments)
+{
+    struct bytes text, rest, line, names = {(uint8_t *)"", 0};
+    uint64_t answer;
+    if (count != 3) {
+        fprintf(stderr, "usage: %s BENCH READINGS\n", arguments[0]);
+        return 2;
+    }
+    text = read_file(arguments[1]);
+    rest = read_file(arguments[2]);
+
+    /* Once per bench file. If it is refused (11 to 18), the bits above the number are the offset of the fault in the text. */
+    answer = bench_check(text.start, text.length, bench, sizeof bench);
+    if (BENCH_NUMBER(answer) != 0) {
+        printf("refused %u %zu\n", BENCH_NUMBER(answer), BENCH_REST(answer));
+        return 1;
+    }
+    /* Once per run. From now on leave bench and state alone between calls: the engine refuses by 32 or 33 what is none. */
+    state_fresh(bench, sizeof bench, state, sizeof state);
+
+    /* The first line names the columns; it is handed to every call, and each call may refuse it by 22. To learn of that before any
+     * values are there, number 0 is sent: it is always refused, by 24 after names of no columns, by 21 after others, by 22 if ill formed. */
+    next_line(&rest, &names);
+    answer = bench_line(bench, sizeof bench, state, sizeof state, names.start, names.length, (const uint8_t *)"0", 1, row, sizeof row);
+    if (BENCH_NUMBER(answer) == 22) {
+        print_row(answer);
+        return 1;
+    }
+    print_row(bench_header(bench, sizeof bench, row, sizeof row));
+
+    /* Each further line is one cycle. A refused line (21, 23, 24, 25) does not count: correct it and send it again.
+     * A line that is sent twice is taken once; its row is given again, so a sender in doubt may repeat it. */
+    while (next_line(&rest, &line))
+        print_row(bench_line(bench, sizeof bench, state, sizeof state, names.start, names.length, line.start, line.length, row, sizeof row));
+    return 0;
+}

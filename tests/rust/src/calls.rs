@@ -1,0 +1,87 @@
+//! The five calls as the interpreter answers them. Each is a function of the lent bytes alone.
+
+use crate::image::{self, BENCH_SIZE, ROW_SIZE, STATE_SIZE};
+use crate::interpreter::grammar::Bench;
+use crate::interpreter::line::{self, Taken};
+use crate::interpreter::machine::{self, State};
+use crate::interpreter::{accept, row as rows};
+
+/// The number in the low 8 bits, the offset or length above.
+pub fn answer(number: u8, rest: usize) -> u64 {
+    (rest as u64) << 8 | u64::from(number)
+}
+
+pub fn bench_check(text: &[u8], bench: &mut [u8]) -> u64 {
+    if bench.len() < BENCH_SIZE {
+        return answer(31, 0);
+    }
+    if let Err(refusal) = accept(text) {
+        return answer(refusal.number, refusal.place);
+    }
+    image::encode_bench(text, bench);
+    answer(0, 0)
+}
+
+pub fn state_fresh(bench: &[u8], state: &mut [u8]) -> u64 {
+    if bench.len() < BENCH_SIZE || state.len() < STATE_SIZE {
+        return answer(31, 0);
+    }
+    let Some(bench) = checked(bench) else { return answer(32, 0) };
+    let fresh = machine::fresh(&bench).expect("the machine never stops on an accepted bench");
+    image::encode_state(&fresh, state);
+    answer(0, 0)
+}
+
+pub fn bench_line(bench: &[u8], state: &mut [u8], names: &[u8], values: &[u8], row: &mut [u8]) -> u64 {
+    if bench.len() < BENCH_SIZE || state.len() < STATE_SIZE || row.len() < ROW_SIZE {
+        return answer(31, 0);
+    }
+    let (bench, before) = match checked_state(bench, state) {
+        Ok(both) => both,
+        Err(number) => return answer(number, 0),
+    };
+    match line::take(&bench, &before, names, values) {
+        Err(number) => answer(number, 0),
+        // A line sent again leaves the state's memory alone.
+        Ok(Taken::Resent) => write(&rows::row(&bench, &before), row),
+        Ok(Taken::Next(next)) => {
+            image::encode_state(&next, state);
+            write(&rows::row(&bench, &next), row)
+        }
+    }
+}
+
+pub fn bench_header(bench: &[u8], row: &mut [u8]) -> u64 {
+    if bench.len() < BENCH_SIZE || row.len() < ROW_SIZE {
+        return answer(31, 0);
+    }
+    match checked(bench) {
+        None => answer(32, 0),
+        Some(bench) => write(&rows::header(&bench), row),
+    }
+}
+
+pub fn bench_row(bench: &[u8], state: &[u8], row: &mut [u8]) -> u64 {
+    if bench.len() < BENCH_SIZE || state.len() < STATE_SIZE || row.len() < ROW_SIZE {
+        return answer(31, 0);
+    }
+    match checked_state(bench, state) {
+        Err(number) => answer(number, 0),
+        Ok((bench, state)) => write(&rows::row(&bench, &state), row),
+    }
+}
+
+fn checked(memory: &[u8]) -> Option<Bench<'_>> {
+    accept(image::decode_bench(memory)?).ok()
+}
+
+fn checked_state<'b>(bench: &'b [u8], state: &[u8]) -> Result<(Bench<'b>, State), u8> {
+    let bench = checked(bench).ok_or(32)?;
+    let state = image::decode_state(&bench, state).ok_or(33)?;
+    Ok((bench, state))
+}
+
+fn write(row: &[u8], memory: &mut [u8]) -> u64 {
+    memory[..row.len()].copy_from_slice(row);
+    answer(0, row.len())
+}

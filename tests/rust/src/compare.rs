@@ -1,0 +1,266 @@
+//! Runs both sides on a case and compares answers and every lent byte.
+
+use crate::calls;
+use crate::generate::case::{Call, Case, Lent, Step, LONGER_MOST};
+use crate::generate::prng::Prng;
+use crate::image::{BENCH_SIZE, ROW_SIZE, STATE_SIZE};
+use crate::{archive, interpreter};
+use std::collections::BTreeMap;
+
+/// Bytes past everything that is ever lent: nobody may touch them.
+const CANARY: usize = 64;
+
+/// How often each number was answered.
+#[derive(Clone, Debug, Default)]
+pub struct Tally {
+    pub answers: BTreeMap<u8, u64>,
+    pub calls: u64,
+    /// Accepted lines that gave some fired action.
+    pub fired: u64,
+}
+
+impl Tally {
+    pub fn add(&mut self, other: &Tally) {
+        for (&number, &count) in &other.answers {
+            *self.answers.entry(number).or_default() += count;
+        }
+        self.calls += other.calls;
+        self.fired += other.fired;
+    }
+}
+
+/// The first step at which the two sides part.
+#[derive(Clone, Debug)]
+pub struct Mismatch {
+    pub step: usize,
+    pub what: String,
+    pub ours: Option<u64>,
+    pub theirs: Option<u64>,
+    pub our_row: Vec<u8>,
+    pub their_row: Vec<u8>,
+}
+
+#[derive(Clone, PartialEq, Eq)]
+struct Memory {
+    bench: Vec<u8>,
+    state: Vec<u8>,
+    row: Vec<u8>,
+}
+
+impl Memory {
+    fn new(fill: u64) -> Memory {
+        let mut prng = Prng::new(fill);
+        let mut filled = |size: usize| prng.bytes(size + LONGER_MOST + CANARY);
+        Memory { bench: filled(BENCH_SIZE), state: filled(STATE_SIZE), row: filled(ROW_SIZE) }
+    }
+}
+
+/// Bench, state, names, values, row.
+type LineCall = fn(&[u8], &mut [u8], &[u8], &[u8], &mut [u8]) -> u64;
+
+/// The five calls of one side.
+struct Side {
+    check: fn(&[u8], &mut [u8]) -> u64,
+    fresh: fn(&[u8], &mut [u8]) -> u64,
+    line: LineCall,
+    header: fn(&[u8], &mut [u8]) -> u64,
+    row: fn(&[u8], &[u8], &mut [u8]) -> u64,
+}
+
+const OURS: Side = Side {
+    check: calls::bench_check,
+    fresh: calls::state_fresh,
+    line: calls::bench_line,
+    header: calls::bench_header,
+    row: calls::bench_row,
+};
+
+const THEIRS: Side = Side {
+    check: archive::bench_check,
+    fresh: archive::state_fresh,
+    line: archive::bench_line,
+    header: archive::bench_header,
+    row: archive::bench_row,
+};
+
+impl Side {
+    /// One call; `None` for a step that only writes memory.
+    fn answer(&self, text: &[u8], step: &Step, memory: &mut Memory) -> Option<u64> {
+        let Lent { bench, state, row } = step.lent;
+        let (bench, state, row) = (&mut memory.bench[..bench], &mut memory.state[..state], &mut memory.row[..row]);
+        match &step.call {
+            Call::Check => Some((self.check)(text, bench)),
+            Call::Fresh => Some((self.fresh)(bench, state)),
+            Call::Header => Some((self.header)(bench, row)),
+            Call::Row => Some((self.row)(bench, state, row)),
+            Call::Line { names, values } => Some((self.line)(bench, state, names, values, row)),
+            Call::SetBench { at, bytes } => overwrite(&mut memory.bench, *at, bytes),
+            Call::SetState { at, bytes } => overwrite(&mut memory.state, *at, bytes),
+        }
+    }
+}
+
+fn overwrite(memory: &mut [u8], at: usize, bytes: &[u8]) -> Option<u64> {
+    memory[at..at + bytes.len()].copy_from_slice(bytes);
+    None
+}
+
+/// Both sides under way on one bench text.
+pub struct Sides {
+    text: Vec<u8>,
+    ours: Memory,
+    theirs: Memory,
+    steps: usize,
+    pub tally: Tally,
+}
+
+impl Sides {
+    pub fn new(text: &[u8], fill: u64) -> Sides {
+        let memory = Memory::new(fill);
+        Sides { text: text.to_vec(), ours: memory.clone(), theirs: memory, steps: 0, tally: Tally::default() }
+    }
+
+    /// The engine's state memory.
+    pub fn state(&self) -> &[u8] {
+        &self.theirs.state
+    }
+
+    /// The engine's row memory.
+    pub fn row(&self) -> &[u8] {
+        &self.theirs.row
+    }
+
+    /// Does one step on both sides; gives the answer that both gave.
+    pub fn step(&mut self, step: &Step) -> Result<Option<u64>, Box<Mismatch>> {
+        let before = self.theirs.clone();
+        // Copies, to see that the engine leaves even what it only reads.
+        let (text, lent_step) = (self.text.clone(), step.clone());
+        let ours = OURS.answer(&self.text, step, &mut self.ours);
+        let theirs = THEIRS.answer(&text, &lent_step, &mut self.theirs);
+        let fault = if text != self.text || lent_step != *step {
+            Some("text, names or values were written to")
+        } else if ours != theirs {
+            Some("the answers differ")
+        } else {
+            self.fault(&before, step, theirs)
+        };
+        if let Some(what) = fault {
+            return Err(Box::new(self.mismatch(what, ours, theirs)));
+        }
+        self.steps += 1;
+        self.count(step, theirs);
+        Ok(theirs)
+    }
+
+    /// What is wrong with the memory after a call, if anything.
+    fn fault(&self, before: &Memory, step: &Step, answer: Option<u64>) -> Option<&'static str> {
+        let refused = answer.is_some_and(|answer| answer & 255 != 0);
+        if refused && self.theirs != *before {
+            return Some("a refused call changed memory");
+        }
+        if answer.is_some() && !self.ends_kept(before, step.lent) {
+            return Some("bytes past a stated size or past the lent memory changed");
+        }
+        if self.ours.bench != self.theirs.bench {
+            return Some("the memories of the bench differ");
+        }
+        if self.ours.state != self.theirs.state {
+            return Some("the memories of the state differ");
+        }
+        (self.ours.row != self.theirs.row).then_some("the memories of the row differ")
+    }
+
+    fn ends_kept(&self, before: &Memory, lent: Lent) -> bool {
+        let kept = |now: &[u8], before: &[u8], size: usize| now[size..] == before[size..];
+        kept(&self.theirs.bench, &before.bench, lent.bench.min(BENCH_SIZE))
+            && kept(&self.theirs.state, &before.state, lent.state.min(STATE_SIZE))
+            && kept(&self.theirs.row, &before.row, lent.row.min(ROW_SIZE))
+    }
+
+    fn count(&mut self, step: &Step, answer: Option<u64>) {
+        let Some(answer) = answer else { return };
+        self.tally.calls += 1;
+        *self.tally.answers.entry((answer & 255) as u8).or_default() += 1;
+        if matches!(step.call, Call::Line { .. }) && answer & 255 == 0 && fires(&self.theirs.row[..(answer >> 8) as usize]) {
+            self.tally.fired += 1;
+        }
+    }
+
+    fn mismatch(&self, what: &str, ours: Option<u64>, theirs: Option<u64>) -> Mismatch {
+        let row = |memory: &Memory, answer: Option<u64>| {
+            let length = answer.filter(|answer| answer & 255 == 0).map_or(0, |answer| answer >> 8) as usize;
+            memory.row[..length.min(memory.row.len())].to_vec()
+        };
+        Mismatch {
+            step: self.steps,
+            what: what.to_string(),
+            ours,
+            theirs,
+            our_row: row(&self.ours, ours),
+            their_row: row(&self.theirs, theirs),
+        }
+    }
+}
+
+/// Whether a row has a fired action.
+pub fn fires(row: &[u8]) -> bool {
+    row.split(|&byte| byte == b' ').skip(1).any(|field| field != b"-")
+}
+
+/// Runs a whole case.
+pub fn run(case: &Case) -> Result<Tally, Box<Mismatch>> {
+    let mut sides = Sides::new(&case.text, case.fill);
+    for step in &case.steps {
+        sides.step(step)?;
+    }
+    Ok(sides.tally)
+}
+
+// What a reader sees of a mismatch.
+
+pub fn show_answer(answer: Option<u64>) -> String {
+    match answer {
+        None => "no answer".into(),
+        Some(answer) => format!("{} with {}", answer & 255, answer >> 8),
+    }
+}
+
+pub fn show_bytes(bytes: &[u8]) -> String {
+    let mut shown = String::new();
+    for &byte in bytes {
+        match byte {
+            b'\n' => shown.push_str("\\n"),
+            32..=126 => shown.push(byte as char),
+            _ => shown.push_str(&format!("\\x{byte:02x}")),
+        }
+    }
+    shown
+}
+
+pub fn show_step(step: &Step) -> String {
+    let call = match &step.call {
+        Call::Check => "bench_check".to_string(),
+        Call::Fresh => "state_fresh".to_string(),
+        Call::Header => "bench_header".to_string(),
+        Call::Row => "bench_row".to_string(),
+        Call::Line { names, values } => format!("bench_line [{}] [{}]", show_bytes(names), show_bytes(values)),
+        Call::SetBench { at, bytes } => format!("write to the bench's memory at {at}: [{}]", show_bytes(bytes)),
+        Call::SetState { at, bytes } => format!("write to the state's memory at {at}: {bytes:02x?}"),
+    };
+    let Lent { bench, state, row } = step.lent;
+    format!("{call} (lent: bench {bench}, state {state}, row {row})")
+}
+
+pub fn show(case: &Case, mismatch: &Mismatch) -> String {
+    let mut shown = format!("bench text, {} bytes: [{}]\n", case.text.len(), show_bytes(&case.text));
+    if let Err(refusal) = interpreter::accept(&case.text) {
+        shown.push_str(&format!("(the interpreter refuses it: {} at {})\n", refusal.number, refusal.place));
+    }
+    for (number, step) in case.steps.iter().enumerate().take(mismatch.step + 1) {
+        shown.push_str(&format!("step {number}: {}\n", show_step(step)));
+    }
+    shown.push_str(&format!("at step {}: {}\n", mismatch.step, mismatch.what));
+    shown.push_str(&format!("interpreter: {} [{}]\n", show_answer(mismatch.ours), show_bytes(&mismatch.our_row)));
+    shown.push_str(&format!("engine:      {} [{}]\n", show_answer(mismatch.theirs), show_bytes(&mismatch.their_row)));
+    shown
+}

@@ -1,0 +1,52 @@
+//! A case: one bench text and a list of steps on lent memory.
+
+use crate::image::{BENCH_SIZE, ROW_SIZE, STATE_SIZE};
+
+/// How many bytes of each memory a call is lent.
+#[derive(Clone, Copy, Debug, PartialEq, Eq)]
+pub struct Lent {
+    pub bench: usize,
+    pub state: usize,
+    pub row: usize,
+}
+
+/// The most by which lent memory is longer than its stated size.
+pub const LONGER_MOST: usize = 48;
+
+pub const EXACT: Lent = Lent { bench: BENCH_SIZE, state: STATE_SIZE, row: ROW_SIZE };
+
+#[derive(Clone, Debug, PartialEq, Eq)]
+pub enum Call {
+    Check,
+    Fresh,
+    Header,
+    Row,
+    Line {
+        names: Vec<u8>,
+        values: Vec<u8>,
+    },
+    /// Not a call: writes these bytes to the bench's memory on both sides.
+    SetBench {
+        at: usize,
+        bytes: Vec<u8>,
+    },
+    /// The same for the state's memory.
+    SetState {
+        at: usize,
+        bytes: Vec<u8>,
+    },
+}
+
+#[derive(Clone, Debug, PartialEq, Eq)]
+pub struct Step {
+    pub call: Call,
+    pub lent: Lent,
+}
+
+#[derive(Clone, Debug, PartialEq, Eq)]
+pub struct Case {
+    pub text: Vec<u8>,
+    /// Seed of the bytes that all memory holds at first.
+    pub fill: u64,
+    pub steps: Vec<Step>,
+}

@@ -1,0 +1,298 @@
+//! Seeded cases: valid benches and readings, damage in every way of document 01's table, limits, random bytes.
+
+pub mod bench;
+pub mod case;
+pub mod damage;
+pub mod limits;
+pub mod lines;
+pub mod prng;
+pub mod states;
+
+use bench::{Plan, Size, LARGE, LOOSE, SMALL};
+use case::{Call, Case, Lent, Step, EXACT, LONGER_MOST};
+use lines::Line;
+use prng::Prng;
+
+use crate::image::BENCH_SIZE;
+
+/// The case of this number.
+pub fn case(seed: u64, number: u64) -> Case {
+    let mut prng = Prng::for_case(seed, number);
+    let prng = &mut prng;
+    let (text, calls) = match prng.weighted(&[40, 22, 7, 5, 3, 5, 10, 4, 4]) {
+        0 => readings(prng, SMALL, 12),
+        1 => damaged(prng),
+        2 => from_words(prng, limits::counted),
+        3 => from_words(prng, limits::nested),
+        4 => long(prng),
+        5 => random_text(prng),
+        6 => odd_state(prng),
+        7 => odd_bench(prng),
+        _ if prng.chance(25) => readings(prng, LARGE, 2),
+        _ => readings(prng, LOOSE, 8),
+    };
+    let lent = lent(prng);
+    let steps = calls.into_iter().map(|call| Step { call, lent: sometimes_short(prng, lent) }).collect();
+    Case { text, fill: prng.draw(), steps }
+}
+
+fn lent(prng: &mut Prng) -> Lent {
+    if prng.chance(50) {
+        return EXACT;
+    }
+    let mut longer = |size: usize| size + prng.below(LONGER_MOST + 1);
+    Lent { bench: longer(EXACT.bench), state: longer(EXACT.state), row: longer(EXACT.row) }
+}
+
+fn sometimes_short(prng: &mut Prng, lent: Lent) -> Lent {
+    if !prng.chance(4) {
+        return lent;
+    }
+    let short = |prng: &mut Prng, size: usize| if prng.chance(60) { size - 1 } else { prng.below(size) };
+    match prng.below(3) {
+        0 => Lent { bench: short(prng, EXACT.bench), ..lent },
+        1 => Lent { state: short(prng, EXACT.state), ..lent },
+        _ => Lent { row: short(prng, EXACT.row), ..lent },
+    }
+}
+
+type Made = (Vec<u8>, Vec<Call>);
+
+/// A valid bench with a run of lines, most of them valid.
+fn readings(prng: &mut Prng, size: Size, lines: usize) -> Made {
+    let plan = bench::bench(prng, size);
+    let text = bench::render(prng, &plan.words);
+    let mut calls = vec![Call::Check, Call::Fresh, Call::Header];
+    let count = prng.between(1, lines);
+    let mut run = Run::new(&plan, prng);
+    calls.extend((0..count).map(|_| run.call(prng)));
+    calls.push(Call::Row);
+    (text, calls)
+}
+
+/// Calls on a text that is likely refused: the memory before it stays.
+fn checks(text: Vec<u8>) -> Made {
+    let line = Call::Line { names: b"n".to_vec(), values: b"1".to_vec() };
+    (text, vec![Call::Check, Call::Fresh, Call::Header, line, Call::Row])
+}
+
+fn from_words(prng: &mut Prng, make: fn(&mut Prng) -> Vec<String>) -> Made {
+    let words = make(prng);
+    checks(bench::render(prng, &words))
+}
+
+/// A bench with one to three faults.
+fn damaged(prng: &mut Prng) -> Made {
+    let mut words = bench::bench(prng, SMALL).words;
+    let main = prng.weighted(&[25, 60, 15]);
+    let count = prng.weighted(&[60, 25, 15]) + 1;
+    let mut bad_bytes = 0;
+    for _ in 0..count {
+        let kind = if prng.chance(85) { main } else { prng.below(3) };
+        match kind {
+            0 => damage::words(prng, &mut words),
+            1 => damage::meaning(prng, &mut words),
+            _ => bad_bytes += 1,
+        }
+    }
+    let mut text = bench::render(prng, &words);
+    for _ in 0..bad_bytes {
+        damage::bytes(prng, &mut text);
+    }
+    checks(text)
+}
+
+fn long(prng: &mut Prng) -> Made {
+    let mut words = bench::bench(prng, SMALL).words;
+    if prng.chance(30) {
+        damage::words(prng, &mut words);
+    }
+    checks(limits::long_text(prng, &words))
+}
+
+fn random_text(prng: &mut Prng) -> Made {
+    let text = match prng.below(4) {
+        0 => {
+            let length = prng.below(200);
+            prng.bytes(length)
+        }
+        1 => {
+            let length = prng.below(60);
+            (0..length).map(|_| *prng.pick(b"ab1r _{}():=,.+-*/#\n\t ruleson")).collect()
+        }
+        2 => {
+            let words = damage::soup(prng);
+            bench::render(prng, &words)
+        }
+        _ => {
+            let words = bench::bench(prng, SMALL).words;
+            let mut text = bench::render(prng, &words);
+            text.truncate(prng.below(text.len() + 1));
+            text
+        }
+    };
+    checks(text)
+}
+
+/// A valid bench whose state memory is written by somebody else in between.
+fn odd_state(prng: &mut Prng) -> Made {
+    let plan = bench::bench(prng, SMALL);
+    let text = bench::render(prng, &plan.words);
+    let mut calls = vec![Call::Check, Call::Fresh];
+    let mut run = Run::new(&plan, prng);
+    for _ in 0..prng.below(3) {
+        calls.push(run.call(prng));
+    }
+    for _ in 0..prng.between(1, 3) {
+        calls.push(states::odd_state(prng, &text, plan.entities.len(), &mut run.number));
+        calls.push(Call::Row);
+        calls.extend(states::resend(prng, &plan, &text, calls.get(calls.len() - 2)));
+        for _ in 0..prng.between(1, 3) {
+            calls.push(run.call(prng));
+        }
+        if prng.chance(40) {
+            calls.push(Call::Fresh);
+            run.restart();
+        }
+    }
+    (text, calls)
+}
+
+/// A valid bench whose image is then written over.
+fn odd_bench(prng: &mut Prng) -> Made {
+    let plan = bench::bench(prng, SMALL);
+    let text = bench::render(prng, &plan.words);
+    let mut calls = vec![Call::Check, Call::Fresh];
+    let mut run = Run::new(&plan, prng);
+    calls.push(run.call(prng));
+    for _ in 0..prng.between(1, 3) {
+        calls.push(odd_image(prng, &text));
+        calls.extend([Call::Header, run.call(prng), Call::Row, Call::Fresh, Call::Row]);
+    }
+    (text, calls)
+}
+
+fn odd_image(prng: &mut Prng, text: &[u8]) -> Call {
+    let length = text.len() as u32;
+    let set_length = |length: u32| Call::SetBench { at: 0, bytes: length.to_le_bytes().to_vec() };
+    match prng.below(7) {
+        0 => set_length(prng.draw() as u32),
+        1 => set_length(*prng.pick(&[32_768, 32_769, 0, length + 1, u32::MAX, 65_536 + length, 1 << 31 | length])),
+        2 => set_length(length.saturating_sub(1)),
+        3 => Call::SetBench { at: 4 + prng.below(text.len() + 1), bytes: prng.bytes(1) },
+        4 => Call::SetBench { at: 0, bytes: prng.bytes(BENCH_SIZE) },
+        5 => {
+            // Another bench, whose state this likely is not.
+            let words = bench::bench(prng, SMALL).words;
+            let other = bench::render(prng, &words);
+            let mut bytes = (other.len() as u32).to_le_bytes().to_vec();
+            bytes.extend(other);
+            Call::SetBench { at: 0, bytes }
+        }
+        _ => Call::SetBench { at: 4 + text.len(), bytes: prng.bytes(1) },
+    }
+}
+
+/// A run under way: enough of its state to make valid lines.
+struct Run<'p> {
+    plan: &'p Plan,
+    columns: Vec<lines::Column>,
+    present: Vec<bool>,
+    number: u64,
+    last: Line,
+}
+
+impl<'p> Run<'p> {
+    fn new(plan: &'p Plan, prng: &mut Prng) -> Run<'p> {
+        let columns = lines::some_columns(prng, plan);
+        Run { plan, columns, present: vec![true; plan.entities.len()], number: 0, last: Line::default() }
+    }
+
+    fn restart(&mut self) {
+        self.present.fill(true);
+        self.number = 0;
+        self.last = Line::default();
+    }
+
+    /// The next call: a valid line mostly, else a resent or damaged one.
+    fn call(&mut self, prng: &mut Prng) -> Call {
+        if prng.chance(10) {
+            self.columns = lines::some_columns(prng, self.plan);
+        }
+        match prng.weighted(&[62, 5, 5, 4, 6, 6, 6, 6]) {
+            0 => self.next(prng),
+            1 => self.lent(&self.last, self.number),
+            2 => self.lent(&lines::same_readings(prng, self.plan, &self.last), self.number),
+            3 => self.other_readings(prng),
+            4 => self.other_number(prng),
+            5 => self.bad_names(prng),
+            6 => self.bad_values(prng),
+            _ => self.bad_field(prng),
+        }
+    }
+
+    fn lent(&self, line: &Line, number: u64) -> Call {
+        Call::Line { names: line.names(self.plan), values: line.values(number) }
+    }
+
+    fn next(&mut self, prng: &mut Prng) -> Call {
+        self.last = lines::line(prng, self.plan, &self.columns, &mut self.present);
+        self.number += 1;
+        self.lent(&self.last, self.number)
+    }
+
+    /// A valid line that the run does not go on with.
+    fn aside(&self, prng: &mut Prng) -> Line {
+        lines::line(prng, self.plan, &self.columns, &mut self.present.clone())
+    }
+
+    /// The last number with other readings, sometimes other in form only.
+    fn other_readings(&self, prng: &mut Prng) -> Call {
+        let mut line = self.last.clone();
+        if line.fields.is_empty() || prng.chance(40) {
+            return self.lent(&self.aside(prng), self.number);
+        }
+        let at = prng.below(line.fields.len());
+        line.fields[at] = match line.columns[at] {
+            lines::Column::Presence(entity) => ["-".to_string(), self.present[entity].to_string()][prng.below(2)].clone(),
+            // The other sign, so that the two zeros are told apart.
+            lines::Column::Event(..) if line.fields[at].len() == 16 && prng.chance(60) => lines::negated(&line.fields[at]),
+            lines::Column::Event(entity, member) => {
+                let value = lines::value(prng, self.plan.members(entity)[member].kind);
+                ["-".into(), "?".into(), value][prng.below(3)].clone()
+            }
+        };
+        self.lent(&line, self.number)
+    }
+
+    fn other_number(&self, prng: &mut Prng) -> Call {
+        let random = prng.draw() >> 31;
+        let number = *prng.pick(&[0, self.number + 2, self.number.saturating_sub(1), 4_294_967_295, 4_294_967_296, 9_999_999_999, random]);
+        self.lent(&self.aside(prng), number)
+    }
+
+    fn bad_names(&self, prng: &mut Prng) -> Call {
+        let line = self.aside(prng);
+        let mut names = line.names(self.plan);
+        lines::damage_names(prng, self.plan, &mut names);
+        let mut values = line.values(self.number + 1);
+        if prng.chance(20) {
+            lines::damage_values(prng, &mut values);
+        }
+        Call::Line { names, values }
+    }
+
+    fn bad_values(&self, prng: &mut Prng) -> Call {
+        let line = self.aside(prng);
+        let mut values = line.values(self.number + 1);
+        lines::damage_values(prng, &mut values);
+        Call::Line { names: line.names(self.plan), values }
+    }
+
+    fn bad_field(&self, prng: &mut Prng) -> Call {
+        let mut line = self.aside(prng);
+        lines::damage_field(prng, &mut line);
+        let number = if prng.chance(80) { self.number + 1 } else { self.number };
+        self.lent(&line, number)
+    }
+}

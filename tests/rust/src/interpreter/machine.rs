@@ -1,0 +1,291 @@
+//! The bare machine. It looks names up at each step and runs any grammatical bench, until it stops.
+
+use super::check::READABLE;
+use super::grammar::{Bench, Call, Clause, Condition, Filter, Interface, Link, Name, Rule, Sort, Sum, Test};
+use super::value::{differ, equal, negate, operate, to_real, Cell, Stop, Value};
+
+#[derive(Clone, Debug)]
+pub struct Store {
+    pub present: Vec<bool>,
+    /// For each entity a cell for each member.
+    pub cells: Vec<Vec<Cell>>,
+}
+
+#[derive(Clone, Copy, Debug)]
+pub enum Reading {
+    /// `-`, or no column.
+    NotRead,
+    /// `?`
+    Unset,
+    Set(Value),
+}
+
+/// What a line reads.
+#[derive(Clone, Debug)]
+pub struct Readings {
+    pub presence: Vec<Option<bool>>,
+    pub cells: Vec<Vec<Reading>>,
+}
+
+#[derive(Clone, Debug)]
+pub struct State {
+    pub number: u32,
+    pub now: Store,
+    /// The store as the rules saw it one cycle before.
+    pub before: Store,
+    pub last: Readings,
+}
+
+impl Store {
+    /// While absent, an entity's every member reads unset.
+    fn read(&self, entity: usize, member: usize) -> Cell {
+        if self.present[entity] {
+            self.cells[entity][member]
+        } else {
+            None
+        }
+    }
+}
+
+impl Reading {
+    fn same_bits(self, other: Reading) -> bool {
+        match (self, other) {
+            (Reading::NotRead, Reading::NotRead) | (Reading::Unset, Reading::Unset) => true,
+            (Reading::Set(a), Reading::Set(b)) => a.same_bits(b),
+            _ => false,
+        }
+    }
+}
+
+impl Readings {
+    pub fn none(bench: &Bench) -> Readings {
+        let cells = |entity| vec![Reading::NotRead; bench.members_of(entity).len()];
+        Readings { presence: vec![None; bench.entities.len()], cells: (0..bench.entities.len()).map(cells).collect() }
+    }
+
+    pub fn same_bits(&self, other: &Readings) -> bool {
+        let pairs = self.cells.iter().flatten().zip(other.cells.iter().flatten());
+        self.presence == other.presence && pairs.into_iter().all(|(a, b)| a.same_bits(*b))
+    }
+}
+
+/// The fresh state: all present, attributes set, the rest unset; before it all absent.
+pub fn fresh(bench: &Bench) -> Result<State, Stop> {
+    let count = bench.entities.len();
+    let empty: Vec<Vec<Cell>> = (0..count).map(|entity| vec![None; bench.members_of(entity).len()]).collect();
+    let mut cells = empty.clone();
+    for (entity, row) in cells.iter_mut().enumerate() {
+        set_attributes(bench, entity, row)?;
+    }
+    Ok(State {
+        number: 0,
+        now: Store { present: vec![true; count], cells },
+        before: Store { present: vec![false; count], cells: empty },
+        last: Readings::none(bench),
+    })
+}
+
+fn set_attributes(bench: &Bench, entity: usize, cells: &mut [Cell]) -> Result<(), Stop> {
+    let interface = bench.interface_of(entity).ok_or(Stop)?;
+    for assignment in &bench.entities[entity].assignments {
+        let member = interface.member_of_sort(assignment.name.text, &[Sort::Attribute]).ok_or(Stop)?;
+        if interface.members[member].kind != assignment.value.kind() {
+            return Err(Stop);
+        }
+        cells[member] = Some(assignment.value);
+    }
+    Ok(())
+}
+
+/// One cycle: the state after a line of this number with these readings.
+pub fn cycle(bench: &Bench, state: &State, number: u32, readings: &Readings) -> Result<State, Stop> {
+    let mut seen = state.now.clone();
+    apply_presence(bench, &mut seen, readings);
+    apply_readings(bench, &mut seen, readings)?;
+    let writes = fire(bench, &seen, &state.before)?;
+    let mut now = seen.clone();
+    unset(bench, &mut now, None, &[Sort::Action]);
+    for write in writes {
+        now.cells[write.entity][write.member] = Some(write.value);
+    }
+    Ok(State { number, now, before: seen, last: readings.clone() })
+}
+
+fn apply_presence(bench: &Bench, store: &mut Store, readings: &Readings) {
+    for (entity, reading) in readings.presence.iter().enumerate() {
+        let Some(present) = *reading else { continue };
+        if store.present[entity] && !present {
+            unset(bench, store, Some(entity), &READABLE);
+        }
+        store.present[entity] = present;
+    }
+}
+
+/// Unsets members of these sorts, of one entity or of all.
+fn unset(bench: &Bench, store: &mut Store, only: Option<usize>, sorts: &[Sort]) {
+    for (entity, cells) in store.cells.iter_mut().enumerate() {
+        if only.is_some_and(|chosen| chosen != entity) {
+            continue;
+        }
+        for (cell, member) in cells.iter_mut().zip(bench.members_of(entity)) {
+            if sorts.contains(&member.sort) {
+                *cell = None;
+            }
+        }
+    }
+}
+
+fn apply_readings(bench: &Bench, store: &mut Store, readings: &Readings) -> Result<(), Stop> {
+    for (entity, cells) in readings.cells.iter().enumerate() {
+        for (member, reading) in cells.iter().enumerate() {
+            match *reading {
+                Reading::NotRead => {}
+                Reading::Unset => store.cells[entity][member] = None,
+                Reading::Set(value) if value.kind() == bench.members_of(entity)[member].kind => store.cells[entity][member] = Some(value),
+                Reading::Set(_) => return Err(Stop),
+            }
+        }
+    }
+    Ok(())
+}
+
+struct Write {
+    entity: usize,
+    member: usize,
+    value: Value,
+}
+
+/// All writes, by rule, choice, call.
+fn fire(bench: &Bench, now: &Store, before: &Store) -> Result<Vec<Write>, Stop> {
+    let mut writes = Vec::new();
+    for rule in &bench.rules {
+        let variables = rule.variables();
+        let clauses = rule.clauses();
+        let mut trial = Trial { bench, now, before, rule, clauses, variables, choice: Vec::new() };
+        trial.choose(&mut writes)?;
+    }
+    Ok(writes)
+}
+
+/// One rule under trial, with the entities chosen so far for its variables.
+struct Trial<'b, 't> {
+    bench: &'b Bench<'t>,
+    now: &'b Store,
+    before: &'b Store,
+    rule: &'b Rule<'t>,
+    clauses: Vec<&'b Clause<'t>>,
+    variables: Vec<(Name<'t>, Name<'t>)>,
+    choice: Vec<usize>,
+}
+
+impl<'b, 't> Trial<'b, 't> {
+    /// The first declared variable turns slowest, entities in file order.
+    fn choose(&mut self, writes: &mut Vec<Write>) -> Result<(), Stop> {
+        if self.choice.len() == self.variables.len() {
+            return self.try_choice(writes);
+        }
+        let wanted = self.variables[self.choice.len()].1.text;
+        self.bench.interface(wanted).ok_or(Stop)?;
+        for entity in 0..self.bench.entities.len() {
+            if self.now.present[entity] && self.bench.entities[entity].interface.text == wanted {
+                self.choice.push(entity);
+                self.choose(writes)?;
+                self.choice.pop();
+            }
+        }
+        Ok(())
+    }
+
+    fn try_choice(&self, writes: &mut Vec<Write>) -> Result<(), Stop> {
+        // Every clause is worked out, whatever the others give.
+        let truths = self.clauses.iter().map(|clause| self.clause(clause)).collect::<Result<Vec<_>, _>>()?;
+        if !holds(&self.rule.condition, &mut truths.into_iter()) {
+            return Ok(());
+        }
+        for call in &self.rule.calls {
+            writes.extend(self.call(call)?);
+        }
+        Ok(())
+    }
+
+    fn entity(&self, name: Name) -> Result<usize, Stop> {
+        if let Some(entity) = self.bench.entity(name.text) {
+            return Ok(entity);
+        }
+        let variable = self.variables.iter().position(|(variable, _)| variable.text == name.text).ok_or(Stop)?;
+        Ok(self.choice[variable])
+    }
+
+    fn interface(&self, entity: usize) -> Result<&'b Interface<'t>, Stop> {
+        self.bench.interface_of(entity).ok_or(Stop)
+    }
+
+    fn clause(&self, clause: &Clause) -> Result<bool, Stop> {
+        let entity = self.entity(clause.from.name)?;
+        let member = self.interface(entity)?.member_of_sort(clause.event.text, &READABLE).ok_or(Stop)?;
+        let filtered = self.filter(entity, &clause.filter, self.before)?;
+        let now = self.now.read(entity, member);
+        let before = self.before.read(entity, member);
+        let met = match &clause.test {
+            Test::Changed => differ(now, before)?,
+            Test::Equals(_, sum) => {
+                let equal_now = equal(now, self.sum(sum, self.now)?)?;
+                let equal_before = equal(before, self.sum(sum, self.before)?)?;
+                equal_now && !equal_before
+            }
+        };
+        Ok(self.now.present[entity] && filtered && met)
+    }
+
+    fn filter(&self, entity: usize, filter: &Option<Filter>, store: &Store) -> Result<bool, Stop> {
+        let Some(filter) = filter else { return Ok(true) };
+        let member = self.interface(entity)?.member_of_sort(filter.attribute.text, &[Sort::Attribute]).ok_or(Stop)?;
+        equal(store.read(entity, member), self.sum(&filter.sum, store)?)
+    }
+
+    fn call(&self, call: &Call) -> Result<Option<Write>, Stop> {
+        let entity = self.entity(call.on.name)?;
+        let interface = self.interface(entity)?;
+        let member = interface.member_of_sort(call.action.text, &[Sort::Action]).ok_or(Stop)?;
+        let filtered = self.filter(entity, &call.filter, self.now)?;
+        let Some(value) = self.sum(&call.parameter, self.now)? else { return Ok(None) };
+        if value.kind() != interface.members[member].kind {
+            return Err(Stop);
+        }
+        let written = self.now.present[entity] && filtered;
+        Ok(written.then_some(Write { entity, member, value }))
+    }
+
+    fn sum(&self, sum: &Sum, store: &Store) -> Result<Cell, Stop> {
+        match sum {
+            Sum::Literal(value) => Ok(Some(*value)),
+            Sum::Member(owner, member) => {
+                let entity = self.entity(*owner)?;
+                let member = self.interface(entity)?.member(member.text).ok_or(Stop)?;
+                Ok(store.read(entity, member))
+            }
+            Sum::Real(_, inner) => to_real(self.sum(inner, store)?),
+            Sum::Minus(_, inner) => negate(self.sum(inner, store)?),
+            Sum::Chain(first, rest) => self.chain(first, rest, store),
+        }
+    }
+
+    fn chain(&self, first: &Sum, rest: &[Link], store: &Store) -> Result<Cell, Stop> {
+        let mut left = self.sum(first, store)?;
+        for link in rest {
+            left = operate(link.operator, left, self.sum(&link.right, store)?)?;
+        }
+        Ok(left)
+    }
+}
+
+/// Whether a condition holds, its clauses' truths given in the order of the text.
+#[allow(clippy::unnecessary_fold)]
+fn holds(condition: &Condition, truths: &mut impl Iterator<Item = bool>) -> bool {
+    match condition {
+        Condition::Clause(_) => truths.next().expect("a truth for each clause"),
+        // Folds without a short cut: each part must take its truths.
+        Condition::All(parts) => parts.iter().fold(true, |all, part| holds(part, truths) && all),
+        Condition::Any(parts) => parts.iter().fold(false, |any, part| holds(part, truths) || any),
+    }
+}

@@ -1,0 +1,162 @@
+//! `compare [--cases N] [--seed S] [--only K]`: random benches, the engine against the second interpreter.
+
+use second::compare::{self, Mismatch, Tally};
+use second::generate::{self, case::Case};
+use second::two_runs::{self, Verdict};
+use second::{archive, shrink};
+use std::env;
+use std::process::ExitCode;
+
+const CASES: u64 = 10_000;
+const SEED: u64 = 0x5eed_0001;
+/// One case in so many tries the promise about two runs.
+const TWO_RUNS_EVERY: u64 = 6;
+/// Only the first failing cases are shown.
+const SHOWN_MOST: u64 = 3;
+/// Every number that the table knows, and acceptance.
+const NUMBERS: [u8; 17] = [0, 11, 12, 13, 14, 15, 16, 17, 18, 21, 22, 23, 24, 25, 31, 32, 33];
+
+struct Options {
+    cases: u64,
+    seed: u64,
+    /// Runs this case alone and says its number first, to find one that ends the program.
+    only: Option<u64>,
+}
+
+/// What all cases showed.
+#[derive(Default)]
+struct Report {
+    tally: Tally,
+    passed: u64,
+    failed: u64,
+    trials: u64,
+    void: u64,
+    proper: u64,
+    proper_and_fired: u64,
+    proper_fired_differing: u64,
+    pairs: u64,
+}
+
+fn main() -> ExitCode {
+    let Some(options) = options() else {
+        eprintln!("usage: compare [--cases N] [--seed S] [--only K]");
+        return ExitCode::from(2);
+    };
+    let mut report = Report::default();
+    match options.only {
+        Some(number) => report.case(options.seed, number),
+        None => (0..options.cases).for_each(|number| report.case(options.seed, number)),
+    }
+    report.print();
+    let complete = options.only.is_some() || report.failed > 0 || report.complete(options.cases);
+    println!("{} passed, {} failed", report.passed, report.failed + u64::from(!complete));
+    ExitCode::from(u8::from(report.failed > 0 || !complete))
+}
+
+fn options() -> Option<Options> {
+    let mut options = Options { cases: CASES, seed: SEED, only: None };
+    let mut arguments = env::args().skip(1).peekable();
+    // The program's name may stand before its options.
+    if arguments.peek().is_some_and(|first| first == "compare") {
+        arguments.next();
+    }
+    while let Some(argument) = arguments.next() {
+        let number = arguments.next()?.parse().ok()?;
+        match &*argument {
+            "--cases" => options.cases = number,
+            "--seed" => options.seed = number,
+            "--only" => options.only = Some(number),
+            _ => return None,
+        }
+    }
+    Some(options)
+}
+
+impl Report {
+    fn case(&mut self, seed: u64, number: u64) {
+        let passed = if number % TWO_RUNS_EVERY == TWO_RUNS_EVERY - 1 { self.two_runs(seed, number) } else { self.one_run(seed, number) };
+        self.passed += u64::from(passed);
+        self.failed += u64::from(!passed);
+    }
+
+    fn one_run(&mut self, seed: u64, number: u64) -> bool {
+        let case = generate::case(seed, number);
+        match compare::run(&case) {
+            Ok(tally) => {
+                self.tally.add(&tally);
+                true
+            }
+            Err(mismatch) => self.show(number, &case, &mismatch),
+        }
+    }
+
+    fn two_runs(&mut self, seed: u64, number: u64) -> bool {
+        let trial = two_runs::trial(seed, number);
+        self.trials += 1;
+        match two_runs::judge(&trial) {
+            Verdict::Holds(shown) => {
+                self.tally.add(&shown.tally);
+                self.pairs += shown.pairs;
+                self.proper += u64::from(shown.proper);
+                self.proper_and_fired += u64::from(shown.proper && shown.fired);
+                self.proper_fired_differing += u64::from(shown.proper && shown.fired && shown.differing);
+                true
+            }
+            Verdict::Parts(case, mismatch) => self.show(number, &case, &mismatch),
+            Verdict::Fails(what) => {
+                if self.failed < SHOWN_MOST {
+                    println!("case {number}: two runs part on a closed set: {what}\n{}", two_runs::show(&two_runs::smaller(&trial)));
+                }
+                false
+            }
+            Verdict::Void(why) => {
+                self.void += 1;
+                println!("case {number}: the trial of two runs is void: {why}");
+                false
+            }
+        }
+    }
+
+    /// Shows a mismatch, made smaller. Always false: the case failed.
+    fn show(&self, number: u64, case: &Case, mismatch: &Mismatch) -> bool {
+        if self.failed < SHOWN_MOST {
+            println!("case {number}: {}", mismatch.what);
+            match shrink::shrink(case) {
+                Some((small, mismatch)) => println!("{}", compare::show(&small, &mismatch)),
+                None => println!("{}", compare::show(case, mismatch)),
+            }
+        }
+        false
+    }
+
+    fn print(&self) {
+        let against = if archive::LINKED { "the engine's archive" } else { "itself, the archive not being linked" };
+        println!("the second interpreter against {against}");
+        println!("{} cases, {} calls, {} accepted lines with fired actions", self.passed + self.failed, self.tally.calls, self.tally.fired);
+        let counts: Vec<String> = NUMBERS.iter().map(|number| format!("{number}: {}", self.count(*number))).collect();
+        println!("answers: {}", counts.join(", "));
+        println!(
+            "two runs: {} trials ({} void), {} pairs of accepted lines; {} with a nonempty proper closed set, {} of these with a fired action of the set, {} of these with other readings elsewhere",
+            self.trials, self.void, self.pairs, self.proper, self.proper_and_fired, self.proper_fired_differing
+        );
+    }
+
+    fn count(&self, number: u8) -> u64 {
+        self.tally.answers.get(&number).copied().unwrap_or(0)
+    }
+
+    /// Whether every number came up often enough for the cases to mean something.
+    fn complete(&self, cases: u64) -> bool {
+        let least = (cases / 1000).max(1);
+        let mut complete = true;
+        for number in NUMBERS.iter().filter(|number| self.count(**number) < least) {
+            println!("answer {number} came up less than {least} times");
+            complete = false;
+        }
+        if self.proper_fired_differing < (cases / 200).max(1) {
+            println!("too few trials of two runs had a nonempty proper closed set, a fired action and other readings elsewhere");
+            complete = false;
+        }
+        complete
+    }
+}

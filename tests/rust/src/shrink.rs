@@ -1,0 +1,185 @@
+//! Makes a mismatching case smaller while it still mismatches: fewer steps, rules, entities, words, columns.
+
+use crate::compare::{self, Mismatch};
+use crate::generate::case::{Call, Case, Step, EXACT};
+use std::time::{Duration, Instant};
+
+/// Shrinking is a courtesy to the reader: it ends after this time.
+const PATIENCE: Duration = Duration::from_secs(6);
+
+/// The longest span of words that is dropped at once.
+const SPAN_MOST: usize = 32;
+
+const BLANKS: &[u8] = b" \t\n";
+
+pub fn shrink(case: &Case) -> Option<(Case, Box<Mismatch>)> {
+    let mut best = case.clone();
+    let mut found = compare::run(&best).err()?;
+    let deadline = Instant::now() + PATIENCE;
+    loop {
+        let before = best.clone();
+        best.steps.truncate(found.step + 1);
+        let mut still = |case: &Case| Instant::now() < deadline && compare::run(case).is_err();
+        fewer_steps(&mut best, &mut still);
+        plain_sizes(&mut best, &mut still);
+        let steps = best.steps.clone();
+        let fill = best.fill;
+        best.text = smaller_text(&best.text, &mut |text| still(&Case { text: text.to_vec(), fill, steps: steps.clone() }));
+        fewer_columns(&mut best, &mut still);
+        found = compare::run(&best).err()?;
+        if best == before || Instant::now() >= deadline {
+            return Some((best, found));
+        }
+    }
+}
+
+/// Drops chunks of a list, ever smaller ones, as long as `keeps` says yes.
+pub fn thin<T: Clone>(mut items: Vec<T>, keeps: &mut dyn FnMut(&[T]) -> bool) -> Vec<T> {
+    let mut size = (items.len() / 2).max(1);
+    loop {
+        let mut at = 0;
+        while at < items.len() {
+            let mut fewer = items.clone();
+            fewer.drain(at..(at + size).min(items.len()));
+            if keeps(&fewer) {
+                items = fewer;
+            } else {
+                at += size;
+            }
+        }
+        if size == 1 {
+            return items;
+        }
+        size /= 2;
+    }
+}
+
+fn fewer_steps(case: &mut Case, still: &mut dyn FnMut(&Case) -> bool) {
+    let (text, fill) = (case.text.clone(), case.fill);
+    case.steps = thin(case.steps.clone(), &mut |steps| still(&Case { text: text.clone(), fill, steps: steps.to_vec() }));
+    // A line between others can go only if those after it count one less.
+    for at in (0..case.steps.len()).rev() {
+        let mut fewer = case.clone();
+        fewer.steps.remove(at);
+        fewer.steps[at..].iter_mut().for_each(count_one_less);
+        if still(&fewer) {
+            *case = fewer;
+        }
+    }
+}
+
+fn count_one_less(step: &mut Step) {
+    let Call::Line { values, .. } = &mut step.call else { return };
+    let end = values.iter().position(|&byte| byte == b' ').unwrap_or(values.len());
+    let number = std::str::from_utf8(&values[..end]).ok().and_then(|number| number.parse::<u64>().ok());
+    if let Some(number) = number.filter(|&number| number > 0) {
+        values.splice(..end, (number - 1).to_string().into_bytes());
+    }
+}
+
+fn plain_sizes(case: &mut Case, still: &mut dyn FnMut(&Case) -> bool) {
+    for at in 0..case.steps.len() {
+        let mut plain = case.clone();
+        plain.steps[at].lent = EXACT;
+        if plain != *case && still(&plain) {
+            *case = plain;
+        }
+    }
+}
+
+/// Drops whole rules, entities and interfaces, then single words.
+pub fn smaller_text(text: &[u8], keeps: &mut dyn FnMut(&[u8]) -> bool) -> Vec<u8> {
+    let blocks = thin(blocks(pieces(text)), &mut |blocks| keeps(&blocks.concat().concat()));
+    let words = thin(blocks.concat(), &mut |words| keeps(&words.concat()));
+    fewer_spans(words, &mut |words| keeps(&words.concat())).concat()
+}
+
+/// Drops any span of up to `SPAN_MOST` items: a clause, a call or an operand goes only as a whole.
+fn fewer_spans<T: Clone>(mut items: Vec<T>, keeps: &mut dyn FnMut(&[T]) -> bool) -> Vec<T> {
+    for size in (1..=SPAN_MOST.min(items.len())).rev() {
+        let mut at = 0;
+        while at + size <= items.len() {
+            let mut fewer = items.clone();
+            fewer.drain(at..at + size);
+            if keeps(&fewer) {
+                items = fewer;
+            } else {
+                at += 1;
+            }
+        }
+    }
+    items
+}
+
+/// Words, marks and comments, each with the blanks after it; nothing left out.
+fn pieces(text: &[u8]) -> Vec<Vec<u8>> {
+    let mut pieces = Vec::new();
+    let mut at = 0;
+    while at < text.len() {
+        let is_word = |byte: u8| byte.is_ascii_alphanumeric() || byte == b'_';
+        let length = match text[at] {
+            b'#' => text[at..].iter().position(|&byte| byte == b'\n').unwrap_or(text.len() - at),
+            first if is_word(first) => text[at..].iter().position(|&byte| !is_word(byte)).unwrap_or(text.len() - at),
+            first if BLANKS.contains(&first) => text[at..].iter().position(|byte| !BLANKS.contains(byte)).unwrap_or(text.len() - at),
+            _ => 1,
+        };
+        let piece = &text[at..at + length];
+        match pieces.last_mut() {
+            Some(last) if BLANKS.contains(&piece[0]) => Vec::extend_from_slice(last, piece),
+            _ => pieces.push(piece.to_vec()),
+        }
+        at += length;
+    }
+    pieces
+}
+
+/// Cuts the pieces before each `interface`, `entity`, `rules` and `when`.
+fn blocks(pieces: Vec<Vec<u8>>) -> Vec<Vec<Vec<u8>>> {
+    let opens: [&[u8]; 4] = [b"interface", b"entity", b"rules", b"when"];
+    let bare = |piece: &[u8]| piece.iter().copied().take_while(|byte| !BLANKS.contains(byte)).collect::<Vec<u8>>();
+    let mut blocks: Vec<Vec<Vec<u8>>> = vec![Vec::new()];
+    for piece in pieces {
+        if opens.contains(&&*bare(&piece)) {
+            blocks.push(Vec::new());
+        }
+        blocks.last_mut().expect("there is a first block").push(piece);
+    }
+    blocks
+}
+
+/// Drops a column of one line at a time, or of all lines with the same names.
+fn fewer_columns(case: &mut Case, still: &mut dyn FnMut(&Case) -> bool) {
+    let widest = case.steps.iter().map(|step| columns(&step.call)).max().unwrap_or(0);
+    for column in (1..widest).rev() {
+        for only in std::iter::once(None).chain((0..case.steps.len()).map(Some)) {
+            let mut fewer = case.clone();
+            for (at, step) in fewer.steps.iter_mut().enumerate() {
+                if only.is_none_or(|only| only == at) {
+                    drop_column(&mut step.call, column);
+                }
+            }
+            if fewer != *case && still(&fewer) {
+                *case = fewer;
+            }
+        }
+    }
+}
+
+fn columns(call: &Call) -> usize {
+    match call {
+        // Lines of thousands of blanks are left as they are.
+        Call::Line { names, .. } if names.len() < 2000 => names.split(|&byte| byte == b' ').count(),
+        _ => 0,
+    }
+}
+
+fn drop_column(call: &mut Call, column: usize) {
+    let Call::Line { names, values } = call else { return };
+    for line in [names, values] {
+        let mut fields: Vec<&[u8]> = line.split(|&byte| byte == b' ').collect();
+        if column < fields.len() {
+            fields.remove(column);
+            *line = fields.join(&b' ');
+        }
+    }
+}

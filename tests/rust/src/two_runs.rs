@@ -1,0 +1,432 @@
+//! The promise about two runs: on a closed set of entities, the same readings give the same values and fired actions, whatever is read
+//! elsewhere and whatever calls are refused in between.
+
+use crate::calls::answer;
+use crate::compare::{show_bytes, show_step, Mismatch, Sides, Tally};
+use crate::generate::bench::{self, Plan, LOOSE, SMALL};
+use crate::generate::case::{Call, Case, Step, EXACT};
+use crate::generate::lines::{self, Column, Line};
+use crate::generate::prng::Prng;
+use crate::image;
+use crate::interpreter::accept;
+use crate::interpreter::grammar::{Bench, Filter, Rule, Sort, Sum, Test};
+use crate::interpreter::machine::{Reading, State, Store};
+use crate::interpreter::value::{Cell, Value};
+use crate::shrink;
+
+/// Names and values of one call.
+type Lent = (Vec<u8>, Vec<u8>);
+
+#[derive(Clone, Debug)]
+enum Event {
+    /// A line for each run, both accepted.
+    Pair([Lent; 2]),
+    /// A call in one run, refused.
+    Aside(usize, Lent),
+}
+
+#[derive(Clone, Debug)]
+pub struct Trial {
+    text: Vec<u8>,
+    /// Names of the set's entities.
+    set: Vec<Vec<u8>>,
+    fill: u64,
+    events: Vec<Event>,
+}
+
+/// What a trial showed.
+pub enum Verdict {
+    Holds(Shown),
+    /// The two runs part on the set.
+    Fails(String),
+    /// The engine and the interpreter part in one run.
+    Parts(Case, Box<Mismatch>),
+    /// No trial of the promise: the set is not closed, or lines are not accepted in pairs.
+    Void(&'static str),
+}
+
+#[derive(Clone, Debug, Default)]
+pub struct Shown {
+    pub tally: Tally,
+    /// The set is neither empty nor all entities.
+    pub proper: bool,
+    /// Some action of the set fired.
+    pub fired: bool,
+    /// Readings outside the set differed.
+    pub differing: bool,
+    pub pairs: u64,
+}
+
+// Closed sets.
+
+/// All entities that a rule names, and all of its variables' interfaces.
+fn needed(bench: &Bench, rule: &Rule) -> Vec<usize> {
+    let mut names: Vec<&[u8]> = rule.places().iter().map(|place| place.name.text).collect();
+    for clause in rule.clauses() {
+        filter_names(&clause.filter, &mut names);
+        if let Test::Equals(_, sum) = &clause.test {
+            sum_names(sum, &mut names);
+        }
+    }
+    for call in &rule.calls {
+        filter_names(&call.filter, &mut names);
+        sum_names(&call.parameter, &mut names);
+    }
+    let interfaces: Vec<&[u8]> = rule.variables().iter().map(|(_, interface)| interface.text).collect();
+    let wanted = |entity: &usize| {
+        let entity = &bench.entities[*entity];
+        names.contains(&entity.name.text) || interfaces.contains(&entity.interface.text)
+    };
+    (0..bench.entities.len()).filter(wanted).collect()
+}
+
+fn filter_names<'t>(filter: &Option<Filter<'t>>, names: &mut Vec<&'t [u8]>) {
+    if let Some(filter) = filter {
+        sum_names(&filter.sum, names);
+    }
+}
+
+fn sum_names<'t>(sum: &Sum<'t>, names: &mut Vec<&'t [u8]>) {
+    match sum {
+        Sum::Literal(_) => {}
+        Sum::Member(owner, _) => names.push(owner.text),
+        Sum::Real(_, inner) | Sum::Minus(_, inner) => sum_names(inner, names),
+        Sum::Chain(first, rest) => {
+            sum_names(first, names);
+            rest.iter().for_each(|link| sum_names(&link.right, names));
+        }
+    }
+}
+
+/// The entities that a rule's calls can point at.
+fn called(bench: &Bench, rule: &Rule) -> Vec<usize> {
+    let variables = rule.variables();
+    let can_be = |entity: usize, name: &[u8]| {
+        let known = &bench.entities[entity];
+        let variable = variables.iter().find(|(variable, _)| variable.text == name);
+        known.name.text == name || variable.is_some_and(|(_, interface)| interface.text == known.interface.text)
+    };
+    let any_call = |entity: &usize| rule.calls.iter().any(|call| can_be(*entity, call.on.name.text));
+    (0..bench.entities.len()).filter(any_call).collect()
+}
+
+/// Adds to a set what it lacks to be closed; true if that was something.
+fn close_once(bench: &Bench, set: &mut [bool]) -> bool {
+    let mut grown = false;
+    for rule in &bench.rules {
+        if called(bench, rule).iter().any(|&entity| set[entity]) {
+            for entity in needed(bench, rule) {
+                grown |= !set[entity];
+                set[entity] = true;
+            }
+        }
+    }
+    grown
+}
+
+/// A closed set around a random entity: a proper one if a few tries find one.
+fn closed_set(prng: &mut Prng, bench: &Bench) -> Vec<bool> {
+    let mut targets: Vec<usize> = bench.rules.iter().flat_map(|rule| called(bench, rule)).collect();
+    if targets.is_empty() || prng.chance(5) {
+        targets = (0..bench.entities.len()).collect();
+    }
+    let mut set = Vec::new();
+    for _ in 0..12 {
+        set = vec![false; bench.entities.len()];
+        set[*prng.pick(&targets)] = true;
+        if prng.chance(15) {
+            set[*prng.pick(&targets)] = true;
+        }
+        while close_once(bench, &mut set) {}
+        if set.contains(&false) {
+            break;
+        }
+    }
+    set
+}
+
+// Making a trial.
+
+/// A random trial; benches without entities have none.
+pub fn trial(seed: u64, number: u64) -> Trial {
+    let mut prng = Prng::for_case(seed, number);
+    loop {
+        let size = if prng.chance(90) { LOOSE } else { SMALL };
+        let plan = bench::bench(&mut prng, size);
+        let text = bench::render(&mut prng, &plan.words);
+        let bench = accept(&text).expect("generated benches are valid");
+        if bench.entities.is_empty() || bench.rules.is_empty() {
+            continue;
+        }
+        let set = closed_set(&mut prng, &bench);
+        let names = bench.entities.iter().zip(&set).filter(|(_, &inside)| inside).map(|(entity, _)| entity.name.text.to_vec());
+        let names = names.collect();
+        let events = Maker::new(&mut prng, &plan, &set).events(&mut prng);
+        return Trial { text, set: names, fill: prng.draw(), events };
+    }
+}
+
+/// Two runs in the making.
+struct Maker<'p> {
+    plan: &'p Plan,
+    set: &'p [bool],
+    set_columns: Vec<Column>,
+    other_columns: [Vec<Column>; 2],
+    present: [Vec<bool>; 2],
+    last: [Line; 2],
+    number: u64,
+}
+
+impl<'p> Maker<'p> {
+    fn new(prng: &mut Prng, plan: &'p Plan, set: &'p [bool]) -> Maker<'p> {
+        let entity = |column: &Column| match *column {
+            Column::Presence(entity) | Column::Event(entity, _) => entity,
+        };
+        let mut part = |inside: bool| {
+            let mut columns = lines::some_columns(prng, plan);
+            columns.retain(|column| set[entity(column)] == inside);
+            columns
+        };
+        let set_columns = part(true);
+        let other_columns = [part(false), part(false)];
+        let present = vec![true; set.len()];
+        Maker { plan, set, set_columns, other_columns, present: [present.clone(), present], last: Default::default(), number: 0 }
+    }
+
+    fn events(&mut self, prng: &mut Prng) -> Vec<Event> {
+        let mut events = Vec::new();
+        for _ in 0..prng.between(3, 12) {
+            if prng.chance(25) {
+                events.push(self.aside(prng));
+            }
+            events.push(if self.number > 0 && prng.chance(12) { self.resent(prng) } else { self.next(prng) });
+        }
+        events
+    }
+
+    fn lent(&self, prng: &mut Prng, run: usize) -> Lent {
+        // Another form of the same readings, so that even the names differ between the runs.
+        let line = lines::same_readings(prng, self.plan, &self.last[run]);
+        (line.names(self.plan), line.values(self.number))
+    }
+
+    fn resent(&self, prng: &mut Prng) -> Event {
+        Event::Pair([self.lent(prng, 0), self.lent(prng, 1)])
+    }
+
+    fn next(&mut self, prng: &mut Prng) -> Event {
+        let shared = lines::line(prng, self.plan, &self.set_columns, &mut self.present[0]);
+        for entity in (0..self.set.len()).filter(|&entity| self.set[entity]) {
+            self.present[1][entity] = self.present[0][entity];
+        }
+        for run in 0..2 {
+            let mut line = lines::line(prng, self.plan, &self.other_columns[run], &mut self.present[run]);
+            line.columns.extend(shared.columns.iter());
+            line.fields.extend(shared.fields.iter().cloned());
+            self.last[run] = line;
+        }
+        self.number += 1;
+        Event::Pair([self.lent(prng, 0), self.lent(prng, 1)])
+    }
+
+    /// A call that is refused whatever the bench is.
+    fn aside(&self, prng: &mut Prng) -> Event {
+        let names = b"n".to_vec();
+        let lent = match prng.below(5) {
+            0 => (names, b"0".to_vec()),
+            1 => (names, (self.number + 2).to_string().into_bytes()),
+            2 => (names, b"01".to_vec()),
+            3 => (b"n n. ".to_vec(), (self.number + 1).to_string().into_bytes()),
+            _ => (self.last[0].names(self.plan), prng.bytes(9)),
+        };
+        Event::Aside(prng.below(2), lent)
+    }
+}
+
+// Judging a trial.
+
+fn line_step((names, values): &Lent) -> Step {
+    Step { call: Call::Line { names: names.clone(), values: values.clone() }, lent: EXACT }
+}
+
+/// The steps of one run.
+fn steps(trial: &Trial, run: usize) -> Vec<Step> {
+    let mut steps = vec![Step { call: Call::Check, lent: EXACT }, Step { call: Call::Fresh, lent: EXACT }];
+    for event in &trial.events {
+        match event {
+            Event::Pair(pair) => steps.push(line_step(&pair[run])),
+            Event::Aside(of, lent) if *of == run => steps.push(line_step(lent)),
+            Event::Aside(..) => {}
+        }
+    }
+    steps
+}
+
+pub fn judge(trial: &Trial) -> Verdict {
+    let Ok(bench) = accept(&trial.text) else { return Verdict::Void("the bench is refused") };
+    let find = |name: &Vec<u8>| bench.entity(name);
+    let Some(set) = trial.set.iter().map(find).collect::<Option<Vec<usize>>>() else {
+        return Verdict::Void("an entity of the set is missing");
+    };
+    let mut inside = vec![false; bench.entities.len()];
+    set.iter().for_each(|&entity| inside[entity] = true);
+    if close_once(&bench, &mut inside.clone()) {
+        return Verdict::Void("the set is not closed");
+    }
+    let mut judge = Judge { trial, bench: &bench, inside, runs: runs(trial), shown: Shown::default() };
+    match judge.run() {
+        Ok(()) => Verdict::Holds(judge.finish()),
+        Err(verdict) => *verdict,
+    }
+}
+
+fn runs(trial: &Trial) -> [Sides; 2] {
+    // Each run gets other bytes at first: they must not matter.
+    [Sides::new(&trial.text, trial.fill), Sides::new(&trial.text, trial.fill ^ 1)]
+}
+
+struct Judge<'a> {
+    trial: &'a Trial,
+    bench: &'a Bench<'a>,
+    inside: Vec<bool>,
+    runs: [Sides; 2],
+    shown: Shown,
+}
+
+impl Judge<'_> {
+    fn run(&mut self) -> Result<(), Box<Verdict>> {
+        for run in 0..2 {
+            for step in steps(self.trial, run).iter().take(2) {
+                self.step(run, step)?;
+            }
+        }
+        for event in &self.trial.events {
+            match event {
+                Event::Pair(pair) => self.pair(pair)?,
+                Event::Aside(run, lent) => {
+                    if self.step(*run, &line_step(lent))? & 255 == 0 {
+                        return Err(Box::new(Verdict::Void("a call meant to be refused is accepted")));
+                    }
+                }
+            }
+        }
+        Ok(())
+    }
+
+    fn step(&mut self, run: usize, step: &Step) -> Result<u64, Box<Verdict>> {
+        match self.runs[run].step(step) {
+            Ok(given) => Ok(given.unwrap_or(answer(0, 0))),
+            Err(mismatch) => {
+                let case = Case { text: self.trial.text.clone(), fill: self.trial.fill ^ run as u64, steps: steps(self.trial, run) };
+                Err(Box::new(Verdict::Parts(case, mismatch)))
+            }
+        }
+    }
+
+    fn pair(&mut self, pair: &[Lent; 2]) -> Result<(), Box<Verdict>> {
+        let first = self.step(0, &line_step(&pair[0]))?;
+        let second = self.step(1, &line_step(&pair[1]))?;
+        if first & 255 != 0 || second & 255 != 0 {
+            return Err(Box::new(Verdict::Void("a line is not accepted in both runs")));
+        }
+        let states = [self.state(0)?, self.state(1)?];
+        if !self.same_readings(&states, true) {
+            return Err(Box::new(Verdict::Void("the readings of the set differ")));
+        }
+        self.shown.differing |= !self.same_readings(&states, false);
+        self.compare(&states, [first, second])?;
+        self.shown.pairs += 1;
+        Ok(())
+    }
+
+    fn state(&self, run: usize) -> Result<State, Box<Verdict>> {
+        let state = image::decode_state(self.bench, self.runs[run].state());
+        state.ok_or_else(|| Box::new(Verdict::Fails("the engine left no state of the bench".into())))
+    }
+
+    /// Whether two states' last readings agree inside the set, or outside it.
+    fn same_readings(&self, states: &[State; 2], inside: bool) -> bool {
+        let same = |entity: usize| {
+            let cells = states[0].last.cells[entity].iter().zip(&states[1].last.cells[entity]);
+            states[0].last.presence[entity] == states[1].last.presence[entity] && cells.into_iter().all(|(a, b)| same_reading(*a, *b))
+        };
+        (0..self.inside.len()).filter(|&entity| self.inside[entity] == inside).all(same)
+    }
+
+    fn compare(&mut self, states: &[State; 2], answers: [u64; 2]) -> Result<(), Box<Verdict>> {
+        let rows = [0, 1].map(|run| self.row(run, answers[run]));
+        let mut column = 0;
+        for entity in 0..self.inside.len() {
+            let actions = self.bench.members_of(entity).iter().filter(|member| member.sort == Sort::Action).count();
+            let fields = [&rows[0][column..column + actions], &rows[1][column..column + actions]];
+            column += actions;
+            if !self.inside[entity] {
+                continue;
+            }
+            self.shown.fired |= fields[0].iter().any(|field| field != b"-");
+            let same_values =
+                same_store(&states[0].now, &states[1].now, entity) && same_store(&states[0].before, &states[1].before, entity);
+            if !same_values || fields[0] != fields[1] {
+                let name = show_bytes(self.bench.entities[entity].name.text);
+                return Err(Box::new(Verdict::Fails(format!("entity {name} parts at line {}", states[0].number))));
+            }
+        }
+        Ok(())
+    }
+
+    /// The fields of the row that the engine wrote, without the number.
+    fn row(&self, run: usize, answer: u64) -> Vec<Vec<u8>> {
+        let row = &self.runs[run].row()[..(answer >> 8) as usize];
+        row.split(|&byte| byte == b' ').skip(1).map(<[u8]>::to_vec).collect()
+    }
+
+    fn finish(mut self) -> Shown {
+        self.shown.proper = self.inside.contains(&true) && self.inside.contains(&false);
+        self.runs.iter().for_each(|sides| self.shown.tally.add(&sides.tally));
+        self.shown
+    }
+}
+
+fn same_reading(a: Reading, b: Reading) -> bool {
+    match (a, b) {
+        (Reading::NotRead, Reading::NotRead) | (Reading::Unset, Reading::Unset) => true,
+        (Reading::Set(a), Reading::Set(b)) => Value::same_bits(a, b),
+        _ => false,
+    }
+}
+
+fn same_cell(a: Cell, b: Cell) -> bool {
+    match (a, b) {
+        (None, None) => true,
+        (Some(a), Some(b)) => a.same_bits(b),
+        _ => false,
+    }
+}
+
+fn same_store(a: &Store, b: &Store, entity: usize) -> bool {
+    let cells = a.cells[entity].iter().zip(&b.cells[entity]);
+    a.present[entity] == b.present[entity] && cells.into_iter().all(|(a, b)| same_cell(*a, *b))
+}
+
+// Showing a trial that fails.
+
+/// A smaller trial that still fails: fewer rules, entities and words.
+pub fn smaller(trial: &Trial) -> Trial {
+    let fails = |trial: &Trial| matches!(judge(trial), Verdict::Fails(_));
+    let mut best = trial.clone();
+    best.events = shrink::thin(best.events.clone(), &mut |events| fails(&Trial { events: events.to_vec(), ..trial.clone() }));
+    let base = best.clone();
+    best.text = shrink::smaller_text(&best.text, &mut |text| fails(&Trial { text: text.to_vec(), ..base.clone() }));
+    best
+}
+
+pub fn show(trial: &Trial) -> String {
+    let set: Vec<String> = trial.set.iter().map(|name| show_bytes(name)).collect();
+    let mut shown = format!("bench text: [{}]\nclosed set: {}\n", show_bytes(&trial.text), set.join(" "));
+    for run in 0..2 {
+        for step in steps(trial, run) {
+            shown.push_str(&format!("run {run}: {}\n", show_step(&step)));
+        }
+    }
+    shown
+}

@@ -1,0 +1,177 @@
+//! The points that document 01 leaves open and that were decided.
+
+mod common;
+use common::{accepted, keeping, printed, prints, sum};
+use second::interpreter::grammar;
+use second::interpreter::machine::{cycle, fresh, Reading, Readings};
+use second::interpreter::value::{Stop, Value};
+
+#[test]
+fn words() {
+    // Case is kept, so these are names.
+    accepted("interface End { event Rules : bool } entity When : End { } rules end");
+    // A number and a name need no blank between.
+    accepted("interface I{attribute a:real attribute b:whole}entity e:I{a=1rb=2}rules end");
+    accepted("interface I{attribute a:whole attribute b:whole}entity e:I{a=0000000001b=2}rules end");
+}
+
+#[test]
+fn changed_compares_reals_by_value() {
+    let bench = "interface I { event r : real action k ( real ) } entity e : I { } rules when event r from e value changed trigger action k ( e.r ) on e end end";
+    prints(
+        bench,
+        "n e.r|1 0000000000000000|2 8000000000000000|3 ?|4 ?|5 8000000000000000",
+        "n e.k|1 0000000000000000|2 -|3 -|4 -|5 8000000000000000",
+    );
+}
+
+#[test]
+fn unset_differs_from_any_value() {
+    let bench = "interface I { event b : bool action k ( whole ) } entity e : I { } rules when event b from e value changed trigger action k ( 1 ) on e end end";
+    prints(bench, "n e.b|1 ?|2 true|3 true|4 ?|5 ?", "n e.k|1 -|2 1|3 -|4 1|5 -");
+}
+
+#[test]
+fn negation_of_reals() {
+    assert_eq!(sum("real", "- 0r"), "8000000000000000");
+    assert_eq!(sum("real", "0r - 0r"), "0000000000000000");
+    let bench = "interface I { attribute a : real event x : bool action k ( real ) } entity e : I { a = - 0r } \
+        rules when event x from e value changed trigger action k ( e.a ) on e end end";
+    prints(bench, "n e.x|1 true", "n e.k|1 8000000000000000");
+}
+
+#[test]
+fn reals_that_are_not_finite_are_unset() {
+    assert_eq!(sum("real", "1r / 0r"), "-");
+    assert_eq!(sum("real", "0r / 0r"), "-");
+    assert_eq!(sum("real", "1r / 0r + 1r"), "-");
+    let bench = keeping("real", "x.r * x.r");
+    prints(&bench, "n x.go x.r|1 true 7fefffffffffffff", "n x.keep|1 -");
+    prints(&bench, "n x.go x.r|1 true 0000000000000001", "n x.keep|1 0000000000000000");
+}
+
+#[test]
+fn sums_group_to_the_left() {
+    assert_eq!(sum("whole", "10 - 3 - 2"), "5");
+    assert_eq!(sum("whole", "100 / 10 / 5 * 3"), "6");
+    assert_eq!(sum("whole", "1 + 2 * 3"), "7");
+    assert_eq!(sum("whole", "- 7 / 2 * 2"), "-6");
+    assert_eq!(sum("whole", "7 / - 2"), "-3");
+    assert_eq!(sum("whole", "- ( - 2147483647 - 1 )"), "-");
+    assert_eq!(sum("whole", "46341 * 46341"), "-");
+    assert_eq!(sum("real", "real ( 7 / 2 ) / 2r"), "3ff8000000000000");
+    assert_eq!(sum("whole", "x.w + 1"), "-");
+}
+
+#[test]
+fn leaving_and_coming_back() {
+    let bench =
+        "interface I { attribute a : whole event x : whole action k ( whole ) } entity e : I { a = 7 } entity f : I { a = 8 } rules \
+        when event x from f value changed trigger action k ( e.a ) on f , action k ( e.x ) on e end end";
+    // While absent, attributes read unset and calls write nothing; events are gone on return, attributes are not.
+    let lines = "n e f.x e.x|1 - 1 5|2 false 2 -|3 - 3 -|4 true 4 -|5 - 5 6";
+    prints(bench, lines, "n e.k f.k|1 5 7|2 - -|3 - -|4 - 7|5 6 7");
+}
+
+#[test]
+fn absent_before_counts_as_unset() {
+    let bench = "interface I { event x : whole action k ( whole ) } entity e : I { } rules when event x from e value = 1 trigger action k ( 1 ) on e end end";
+    prints(bench, "n e e.x|1 - 1|2 false -|3 true 1|4 - 1", "n e.k|1 1|2 -|3 1|4 -");
+}
+
+#[test]
+fn value_equals_works_both_sides_out_in_each_cycle() {
+    let bench = "interface I { event x : whole event y : whole action k ( whole ) } entity e : I { } \
+        rules when event x from e value = e.y trigger action k ( e.x ) on e end end";
+    prints(bench, "n e.x e.y|1 1 1|2 2 2|3 2 3|4 3 3|5 - -", "n e.k|1 1|2 -|3 -|4 3|5 -");
+}
+
+#[test]
+fn choices_turn_the_first_variable_slowest() {
+    let bench = "interface I { attribute a : whole event x : bool } interface K { action k ( whole ) } \
+        entity a : I { a = 1 } entity b : I { a = 2 } entity c : K { } \
+        rules when event x from v : I value = true or event x from w : I value = true trigger action k ( v.a * 10 + w.a ) on c end end";
+    prints(bench, "n a.x b.x|1 true -|2 - true|3 ? ?", "n c.k|1 21|2 22|3 -");
+}
+
+#[test]
+fn and_binds_tighter_than_or() {
+    let bench = |condition: &str| {
+        format!(
+            "interface I {{ event a : bool event b : bool event c : bool action k ( whole ) }} entity e : I {{ }} \
+             rules when {condition} trigger action k ( 1 ) on e end end"
+        )
+    };
+    let (a, b, c) = ("event a from e value = true", "event b from e value = true", "event c from e value = true");
+    prints(&bench(&format!("{a} or {b} and {c}")), "n e.a e.b e.c|1 true - -", "n e.k|1 1");
+    prints(&bench(&format!("( {a} or {b} ) and {c}")), "n e.a e.b e.c|1 true - -", "n e.k|1 -");
+    prints(&bench(&format!("{a} and {b} or {c}")), "n e.a e.b e.c|1 - - true", "n e.k|1 1");
+}
+
+#[test]
+fn call_filter_reads_now() {
+    let bench = "interface I { attribute a : whole event x : whole action k ( whole ) } entity e : I { a = 3 } \
+        rules when event x from e value changed trigger action k ( 1 ) on e with a = e.x end end";
+    prints(bench, "n e.x|1 3|2 4|3 3", "n e.k|1 1|2 -|3 1");
+}
+
+#[test]
+fn resent_readings_are_compared_as_readings() {
+    let bench = "interface I { event x : whole event r : real } entity e : I { } rules end";
+    prints(
+        bench,
+        "n e e.x e.r|1 - - 0000000000000000|1 true - 0000000000000000|1 - ? 0000000000000000|1 - - 8000000000000000|1 - - 0000000000000000",
+        "n|1|refused 25|refused 25|refused 25|1",
+    );
+}
+
+#[test]
+fn absence_is_seen_from_the_state_before_the_call() {
+    let bench = "interface I { event x : whole } entity e : I { } rules end";
+    prints(bench, "n e e.x|1 false -|1 - 1|1 true 1|1 false -", "n|1|refused 23|refused 25|1");
+}
+
+#[test]
+fn files_of_the_runner() {
+    assert_eq!(printed("rules end\n", ""), "refused 22\n");
+    assert_eq!(printed("", "n\n1\n"), "refused 13 0\n");
+    assert_eq!(printed("rules end", "n"), "n\n");
+    assert_eq!(printed("rules end", "n\n1\n\n2\n"), "n\n1\nrefused 21\n2\n");
+    assert_eq!(printed("rules end", "n\r\n1"), "refused 22\n");
+    assert_eq!(printed("rules end", "\nn\n1"), "refused 22\n");
+}
+
+// The bare machine on benches that are not checked.
+
+fn stops(text: &str) -> bool {
+    let bench = grammar::read(text.as_bytes()).expect("grammatical");
+    let run = fresh(&bench).and_then(|state| cycle(&bench, &state, 1, &Readings::none(&bench)));
+    run.err() == Some(Stop)
+}
+
+#[test]
+fn the_machine_stops() {
+    let head = "interface I { attribute a : whole event x : whole action k ( whole ) } entity e : I { a = 1 } rules ";
+    let rule = |clause: &str, call: &str| format!("{head}when {clause} trigger {call} end end");
+    let call = "action k ( 1 ) on e";
+    assert!(!stops(&rule("event x from e value = 1", call)));
+    assert!(stops(&rule("event x from f value = 1", call)));
+    assert!(stops(&rule("event x from e value = e.q", call)));
+    assert!(stops(&rule("event x from e value = 1 + true", call)));
+    assert!(stops(&rule("event x from e value = e.x + true", call)));
+    assert!(!stops(&rule("event x from e with a = e.x + 1r + 1 value changed", call)));
+    assert!(stops(&rule("event x from e value = real ( 1r )", call)));
+    assert!(stops(&rule("event x from v : K value changed", call)));
+    // An unset value fits anywhere, so nothing stops here; a call that is not reached does not stop either.
+    assert!(!stops(&rule("event x from e value = 1r", call)));
+    assert!(!stops(&rule("event x from e value changed", "action k ( true ) on e")));
+}
+
+#[test]
+fn the_machine_stops_at_a_reading_of_another_kind() {
+    let bench = grammar::read(b"interface I { event x : whole } entity e : I { } rules end").expect("grammatical");
+    let state = fresh(&bench).expect("a state");
+    let mut readings = Readings::none(&bench);
+    readings.cells[0][0] = Reading::Set(Value::Bool(true));
+    assert_eq!(cycle(&bench, &state, 1, &readings).err(), Some(Stop));
+}

@@ -1,0 +1,249 @@
+//! Each refusal of a bench text with its place, and each refusal of a line.
+
+mod common;
+use common::{accepted, prints, refusal, refused_at_mark, PEDAL};
+
+const HEAD: &str = "interface I { attribute a : whole attribute b : bool event x : whole event y : real action z ( whole ) } \
+    interface J { event x : bool } entity e : I { a = 1 b = true } entity j : J { } rules ";
+
+/// A rule with this condition and this call, after the usual head.
+fn ruled(condition: &str, call: &str) -> String {
+    format!("{HEAD}when {condition} trigger {call} end end")
+}
+
+const CLAUSE: &str = "event x from e value changed";
+const CALL: &str = "action z ( 1 ) on e";
+
+#[test]
+fn number_11() {
+    let text = format!("rules end{}", " ".repeat(32_768 - 9));
+    assert_eq!(refusal(&text), (0, 0));
+    assert_eq!(refusal(&format!("{text} ")), (11, 32_768));
+    // Too long comes before any other fault.
+    assert_eq!(refusal(&";".repeat(40_000)), (11, 32_768));
+}
+
+#[test]
+fn number_12() {
+    refused_at_mark(12, "rules end @;");
+    refused_at_mark(12, "rules @_a end");
+    refused_at_mark(12, "rules end\n@\r");
+    refused_at_mark(12, "rules end # comment @\u{7f} \n");
+    refused_at_mark(12, "rules end # comment @\r\n");
+    refused_at_mark(12, "@12345678901");
+    refused_at_mark(12, "@2147483648");
+    refused_at_mark(12, "@2147483648r");
+    // A longer run of digits is no word, whatever its value.
+    refused_at_mark(12, "@00000000001");
+    refused_at_mark(12, "x @aaaaaaaaaaaaaaaaaaaaaaaaa");
+    accepted("rules # any ; _ ~ \t text\nend#");
+    // A bad byte at the end wins over bad grammar at the start.
+    refused_at_mark(12, "end rules @\\");
+}
+
+#[test]
+fn number_12_bytes_beyond_ascii() {
+    for byte in (0..=255u8).filter(|byte| !(32..=126).contains(byte) && *byte != 9 && *byte != 10) {
+        let text = [b"rules end ".as_slice(), &[byte]].concat();
+        let refusal = second::interpreter::accept(&text).expect_err("refused");
+        assert_eq!((refusal.number, refusal.place), (12, 10), "byte {byte}");
+    }
+}
+
+#[test]
+fn number_13() {
+    refused_at_mark(13, "rules end @end");
+    refused_at_mark(13, "rules@");
+    refused_at_mark(13, "rules \n # comment\n @");
+    refused_at_mark(13, "@rule end");
+    refused_at_mark(13, "interface @event { } rules end");
+    refused_at_mark(13, "interface I { event x : whole @attribute a : whole } rules end");
+    refused_at_mark(13, "interface I { action x @: whole } rules end");
+    refused_at_mark(13, "interface I { event x : @int } rules end");
+    refused_at_mark(13, "entity e : I { } @interface I { } rules end");
+    refused_at_mark(13, "entity e : I { a = - @true } rules end");
+    refused_at_mark(13, "entity e : I { a = - @- 1 } rules end");
+    refused_at_mark(13, "entity e : I { a = @x } rules end");
+    refused_at_mark(13, "rules when event x from e value changed trigger @end end");
+    refused_at_mark(13, "rules when event x from e @changed trigger action z ( 1 ) on e end end");
+    refused_at_mark(13, "rules when event x from e value changed trigger action z ( @) on e end end");
+    refused_at_mark(13, "rules when event x from e value changed trigger action z ( a @) on e end end");
+    refused_at_mark(13, "rules when ( event x from e value = 1 @trigger action z ( 1 ) on e end end");
+    refused_at_mark(13, "rules when event x from e value = 1 @) trigger action z ( 1 ) on e end end");
+    refused_at_mark(13, "rules when event x from e value = real @1 trigger action z ( 1 ) on e end end");
+    // `1real` is `1r` and then a name.
+    refused_at_mark(13, "rules when event x from e value = 1r@eal trigger action z ( 1 ) on e end end");
+}
+
+#[test]
+fn number_15() {
+    refused_at_mark(15, "interface I { } interface @I { } rules end");
+    refused_at_mark(15, "interface I { attribute a : whole event @a : whole } rules end");
+    refused_at_mark(15, "interface I { } entity e : I { } entity @e : I { } rules end");
+    refused_at_mark(15, "interface I { attribute a : whole } entity e : I { a = 1 @a = 2 } rules end");
+    refused_at_mark(15, &ruled("event x from v : J value changed and event x from @v : J value changed", CALL));
+    refused_at_mark(15, &ruled("event x from @j : J value changed", CALL));
+    refused_at_mark(15, &ruled("event x from v : I value changed", "action z ( 1 ) on @v : I"));
+    // The name means the first declaration, which has no z: that place is earlier.
+    refused_at_mark(16, &ruled("event x from v : J value changed", "action @z ( 1 ) on v : I"));
+    accepted("interface a { event a : whole } entity a : a { } rules end");
+}
+
+#[test]
+fn number_16() {
+    refused_at_mark(16, "interface I { } entity e : @J { a = 1 } rules end");
+    refused_at_mark(16, "interface I { event x : whole } entity e : I { @x = 1 } rules end");
+    refused_at_mark(16, "interface I { } entity e : I { @x = 1 x = 2 } rules end");
+    refused_at_mark(16, &ruled("event x from @f value changed", CALL));
+    refused_at_mark(16, &ruled("event x from v : @K value changed", CALL));
+    refused_at_mark(16, &ruled("event @a from e value changed", CALL));
+    refused_at_mark(16, &ruled("event x from e with @x = 1 value changed", CALL));
+    refused_at_mark(16, &ruled("event x from e value = @f.x", CALL));
+    refused_at_mark(16, &ruled("event x from e value = e.@q", CALL));
+    refused_at_mark(16, &ruled(CLAUSE, "action @x ( 1 ) on e"));
+    refused_at_mark(16, &ruled(CLAUSE, "action z ( 1 ) on e with @z = 1"));
+    // An action's name is readable as an event.
+    accepted(&ruled("event z from e value changed", CALL));
+    // A variable may be used before it is declared.
+    accepted(&ruled("event x from v value changed and event x from v : I value changed", CALL));
+}
+
+#[test]
+fn members_are_looked_up_where_the_interface_is_known() {
+    // The interface is unknown, so `q` is not looked up; the unknown interface itself is refused.
+    refused_at_mark(16, &ruled("event q from v : @K value changed", CALL));
+    refused_at_mark(16, &ruled("event q from v value = v.q or event x from v : @K value changed", CALL));
+    // The name means the entity, so its member is looked up there, before 15 at the variable.
+    refused_at_mark(16, &ruled("event @y from j : I value changed", CALL));
+    // The first declared variable counts, wherever it stands.
+    refused_at_mark(
+        16,
+        &ruled("event @y from v value changed and event x from v : J value changed and event x from v : I value changed", CALL),
+    );
+}
+
+#[test]
+fn number_17() {
+    refused_at_mark(17, "interface I { attribute a : whole attribute b : whole } entity e : I { a = 1 @} rules end");
+    // One pass with 15 and 16, the earliest place first.
+    refused_at_mark(17, "interface I { attribute a : whole } entity e : I { @} entity e : K { } rules end");
+    refused_at_mark(15, "interface I { attribute a : whole } interface @I { } entity e : I { } rules end");
+    refused_at_mark(16, "interface I { attribute a : whole } entity e : @K { } rules end");
+}
+
+#[test]
+fn number_18() {
+    refused_at_mark(18, "interface I { attribute a : whole } entity e : I { a @= 1r } rules end");
+    refused_at_mark(18, &ruled("event x from e value @= true", CALL));
+    refused_at_mark(18, &ruled("event x from e with a @= 1r value changed", CALL));
+    refused_at_mark(18, &ruled("event x from e value = 1 @+ 1r", CALL));
+    refused_at_mark(18, &ruled("event x from e value = @- true", CALL));
+    refused_at_mark(18, &ruled("event y from e value = @real ( 1r )", CALL));
+    refused_at_mark(18, &ruled("event y from e value = @real ( true )", CALL));
+    refused_at_mark(18, &ruled(CLAUSE, "action z @( 1r ) on e"));
+    refused_at_mark(18, &ruled(CLAUSE, "action z ( 1 ) on e with b @= 1"));
+    // A sum with a fault inside fits anywhere; a bool never fits an operator.
+    refused_at_mark(18, &ruled("event x from e value = true @+ ( 1 + 2r )", CALL));
+    refused_at_mark(18, &ruled("event x from e value = ( 1 @+ 2r ) + 1r", CALL));
+    refused_at_mark(18, &ruled("event x from e value = 1 * 2 @+ 2r / 3r", CALL));
+    refused_at_mark(18, &ruled("event x from e value = 1 + true @* 3", CALL));
+    accepted(&ruled("event y from e value = real ( e.x ) * - 2r", CALL));
+}
+
+#[test]
+fn earlier_numbers_win() {
+    // 14 before 15, though the repeated name stands first.
+    let many: String = (0..16).map(|number| format!("interface i{number} {{ }} ")).collect();
+    refused_at_mark(14, &format!("{many}@interface i0 {{ }} rules end"));
+    // 16 before 18, though the wrong kind stands first.
+    refused_at_mark(16, "interface I { attribute a : whole } entity e : I { a = true } entity f : @K { } rules end");
+}
+
+#[test]
+fn lines_of_names() {
+    let names = [
+        "",
+        "m",
+        "n ",
+        " n",
+        "n  p",
+        "n q",
+        "n p.up",
+        "n k.keep",
+        "n p p",
+        "n p.down p.down",
+        "n\tp",
+        "n p.",
+        "n .down",
+        "n p.down.x",
+        "n p\r",
+        "N",
+    ];
+    for names in names {
+        prints(PEDAL, &format!("{names}|1"), "refused 22");
+    }
+    // An attribute is no column.
+    prints("interface I { attribute a : whole } entity e : I { a = 1 } rules end", "n e.a|1 1", "refused 22");
+    // An entity may be called n.
+    prints("interface I { } entity n : I { } rules end", "n n|1 false", "n|1");
+}
+
+#[test]
+fn lines_of_values() {
+    let forms =
+        [" 1", "1 ", "1 - ", "1  -", "1 -", "1 - - -", "01 - -", "+1 - -", "-1 - -", "x - -", "12345678901 - -", "1\t- -", "1x - -"];
+    for values in forms {
+        prints(PEDAL, &format!("n p.down s.pos|{values}"), "n k.keep|refused 21");
+    }
+    for values in
+        ["1 ? ?x", "1 True -", "1 1 -", "1 - 01", "1 - -0", "1 - 2147483648", "1 - -2147483649", "1 - true", "1 - +1", "1 - 1\t", "1 - --1"]
+    {
+        prints(PEDAL, &format!("n p.down s.pos|{values}"), "n k.keep|refused 23");
+    }
+    for values in ["0 - -", "2 - -", "4294967296 - -", "9999999999 - -"] {
+        prints(PEDAL, &format!("n p.down s.pos|{values}"), "n k.keep|refused 24");
+    }
+    for values in ["1 ? ?", "1 - -2147483648", "1 true 2147483647", "1 false 0"] {
+        prints(PEDAL, &format!("n p.down s.pos|{values}"), if values.contains("true") { "n k.keep|1 2147483647" } else { "n k.keep|1 -" });
+    }
+}
+
+#[test]
+fn reals_in_lines() {
+    let bench = "interface I { event r : real action k ( real ) } entity e : I { } rules when event r from e value changed trigger action k ( e.r ) on e end end";
+    prints(bench, "n e.r|1 3ff0000000000000", "n e.k|1 3ff0000000000000");
+    let bad = [
+        "3FF0000000000000",
+        "3ff000000000000",
+        "3ff00000000000000",
+        "7ff0000000000000",
+        "fff0000000000000",
+        "7ff8000000000001",
+        "1",
+        "1r",
+        "3ff000000000000g",
+    ];
+    for value in bad {
+        prints(bench, &format!("n e.r|1 {value}"), "n e.k|refused 23");
+    }
+    prints(bench, "n e.r|1 7fefffffffffffff|2 0000000000000001", "n e.k|1 7fefffffffffffff|2 0000000000000001");
+}
+
+#[test]
+fn presence_takes_bools() {
+    let bench = "interface I { event x : whole } entity e : I { } rules end";
+    for value in ["?", "1", "True", "0"] {
+        prints(bench, &format!("n e|1 {value}"), "n|refused 23");
+    }
+    prints(bench, "n e e.x|1 false 1|1 false ?|1 false -|2 - 1|2 true 1", "n|refused 23|refused 23|1|refused 23|2");
+}
+
+#[test]
+fn other_readings_under_the_last_number() {
+    prints(PEDAL, "n p.down s.pos|1 - 1|1 - 2|1 ? 1|1 - -|1 - 1", "n k.keep|1 -|refused 25|refused 25|refused 25|1 -");
+}
+
+#[test]
+fn order_of_refusals_of_a_line() {
+    prints(PEDAL, "n p.down s.pos|5 x|5 x -|5 - -", "n k.keep|refused 21|refused 23|refused 24");
+}

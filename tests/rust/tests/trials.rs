@@ -1,0 +1,91 @@
+//! Every trial of document 01.
+
+mod common;
+use common::{keeping, prints, refusal, sum, PEDAL};
+use second::interpreter::entity_name;
+
+#[test]
+fn pedal_bench() {
+    prints(
+        PEDAL,
+        "n p.down s.pos|1 false 100|2 true 140|2 true 140|3 - 150|4 false 150|5 true 190|4 - -",
+        "n k.keep|1 -|2 140|2 140|3 -|4 -|5 190|refused 24",
+    );
+}
+
+#[test]
+fn smallest_texts() {
+    assert_eq!(refusal("rules end"), (0, 0));
+    assert_eq!(refusal(""), (13, 0));
+}
+
+#[test]
+fn sums() {
+    assert_eq!(sum("whole", "2147483647 + 1"), "-");
+    assert_eq!(sum("whole", "-7 / 2"), "-3");
+    assert_eq!(sum("whole", "7 / 0"), "-");
+    assert_eq!(sum("whole", "(-2147483647 - 1) / -1"), "-");
+    assert_eq!(sum("real", "1r / 3r"), "3fd5555555555555");
+}
+
+#[test]
+fn last_write_stands() {
+    let bench = keeping("whole", "1").replace("on x end", "on x , action keep ( 2 ) on x end");
+    prints(&bench, "n x.go|1 true", "n x.keep|1 2");
+}
+
+#[test]
+fn clause_filter_is_false_in_cycle_1() {
+    let bench = "interface X { attribute a : whole event go : bool action keep ( whole ) } entity x : X { a = 1 } \
+        rules when event go from x with a = 1 value changed trigger action keep ( 1 ) on x end end";
+    prints(bench, "n x.go|1 true|2 false|3 false", "n x.keep|1 -|2 1|3 -");
+}
+
+#[test]
+fn numbers_of_lines() {
+    prints("rules end", "n|1", "n|1");
+    prints("rules end", "n|0", "n|refused 24");
+    prints("rules end", "n|01", "n|refused 21");
+}
+
+#[test]
+fn interfaces_and_long_names() {
+    let many = |count: usize| (0..count).map(|number| format!("interface i{number} {{ }} ")).collect::<String>() + "rules end";
+    assert_eq!(refusal(&many(16)), (0, 0));
+    let text = many(17);
+    assert_eq!(refusal(&text), (14, text.find("interface i16").unwrap()));
+    assert_eq!(refusal(&format!("interface {} {{ }} rules end", "a".repeat(24))), (0, 0));
+    assert_eq!(refusal(&format!("interface {} {{ }} rules end", "a".repeat(25))), (12, 10));
+}
+
+#[test]
+fn names_by_number() {
+    assert_eq!(entity_name(PEDAL.as_bytes(), 0), b"p");
+    assert_eq!(entity_name(PEDAL.as_bytes(), 2), b"k");
+    assert_eq!(entity_name(PEDAL.as_bytes(), 3), b"");
+    assert_eq!(entity_name(b"rules", 0), b"");
+}
+
+// The three mistakes to expect.
+
+#[test]
+fn compares_with_the_store_one_cycle_before() {
+    // One press fires once, also when it is held.
+    prints(PEDAL, "n p.down s.pos|1 true 5|2 true 6|3 true 7", "n k.keep|1 5|2 -|3 -");
+}
+
+#[test]
+fn action_is_seen_one_cycle_later() {
+    let bench = "interface X { event go : bool action a ( bool ) action b ( bool ) } entity x : X { } rules \
+        when event go from x value = true trigger action a ( true ) on x end \
+        when event a from x value = true trigger action b ( true ) on x end end";
+    prints(bench, "n x.go|1 true|2 -|3 -", "n x.a x.b|1 true -|2 - true|3 - -");
+}
+
+#[test]
+fn chooses_for_variables_of_calls() {
+    let bench = "interface X { event go : bool } interface L { attribute i : whole action keep ( whole ) } \
+        entity x : X { } entity k : L { i = 5 } entity l : L { i = 6 } \
+        rules when event go from x value = true trigger action keep ( v.i ) on v : L end end";
+    prints(bench, "n x.go|1 true", "n k.keep l.keep|1 5 6");
+}
