@@ -4,7 +4,7 @@
  * of a refused text, or the length of a written row. A refused call changes no byte that was lent to it.
  *
  * Memory is lent as a pointer and a length; the slices lent to one call must not overlap. Any bytes and any lengths may be lent. Memory
- * longer than its stated size is fine: what lies past the written part stays as it was.
+ * longer than its stated size is fine: what lies past the written part stays as it was. A call takes some 340 KB of stack.
  */
 #ifndef BENCH_ENGINE_H
 #define BENCH_ENGINE_H

@@ -26,6 +26,9 @@ use text::walks::skip;
 
 const NO_ENTITY: usize = 32;
 
+// The class of the token that ends a rule, and so its declarations.
+const LAST: u8 = END;
+
 // The number of a rule's first variable, as a reference, and that of no reference.
 const VARIABLES: u16 = 32;
 
@@ -63,7 +66,7 @@ fn variable_reference(
             return NO_REFERENCE;
         }
         let class = class_at(classes, n + 1);
-        if class == END {
+        if class == LAST {
             return NO_REFERENCE;
         }
         if declares(text, offsets, lengths, class, n, i) {
@@ -203,7 +206,7 @@ fn declaration_number(classes: &[u8], start: usize, v: u8) -> usize
     let mut n = start;
     while n < size {
         let class = class_at(classes, n + 1);
-        if class == END {
+        if class == LAST {
             return size;
         }
         let here = n;

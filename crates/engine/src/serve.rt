@@ -20,6 +20,9 @@ use cycles::is_state;
 use cycles::put_fresh;
 use cycles::put_row_header;
 
+// The answer of a call that is accepted and writes no row.
+const ACCEPTED: u64 = 0;
+
 // The public calls.
 pub enum Call {
     Check,
@@ -90,11 +93,11 @@ fn on_bench(
     match call {
         Call::Check => {
             put_bench(text, out);
-            0
+            ACCEPTED
         }
         Call::Fresh => {
             put_fresh(text, classes, offsets, lengths, literals, d, state);
-            0
+            ACCEPTED
         }
         Call::Line => {
             resolve(text, classes, offsets, lengths, d, refs, scopes);

@@ -15,7 +15,7 @@ use Rattle.text.specs.declared.Item.the-variants.{Gap, Found, Bad, End}
 use Rattle.text.specs.Bytes.{is-letter, is-digit, is-name-byte, is-blank, is-comment-byte, run}
 use Rattle.text.specs.Tokens.{NAME, name-item, number-item, class-in, marks}
 use Rattle.text.specs.Tokens.{Item, gap, found, bad, item, tokens, no-token-at, add-token, taken, tokens-from}
-use Rattle.text.specs.TokenTable.{part, located, token-at}
+use Rattle.text.specs.TokenTable.{part, located, token-at, after, offset-after}
 use Rattle.text.proofs.RunLaws.{byte-at, run-yes, run-again, run-part}
 use Rattle.text.proofs.ItemLaws.{item-blank, item-comment, item-name, item-number, item-mark, mark-found, mark-none, Reaches, item-reaches}
 
@@ -134,3 +134,8 @@ module _ (text : List ℕ) (at : ℕ) where
       go false e =
           let h = ltb-false at (length text) e in
           rw (← at-end h) (h, rw (drop-of-length-le text {i = at} h))
+
+  -- the offset after an answer is the one after what begins here
+  pub after-answer : {a : Answer} → token-at text at ≡ a → after at a ≡ offset-after text at
+  unfolding offset-after
+  after-answer e = sym (ap (after at) e)

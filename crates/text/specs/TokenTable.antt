@@ -48,6 +48,17 @@ unfoldable pub token-at : List ℕ → ℕ → Answer
 unfolding begins
 token-at text at = begins at (drop at text)
 
+-- the offset after an answer about `at`: where the gap or token ends, else `at` itself
+abbrev pub after : ℕ → Answer → ℕ
+after at (Gap next) = next
+after at (Found c v next) = next
+after at Bad = at
+after at End = at
+
+-- the offset after what begins at an offset of a text
+unfoldable pub offset-after : List ℕ → ℕ → ℕ
+offset-after text at = after at (token-at text at)
+
 -- ---- tokens in columns
 
 -- the columns, a row for each token

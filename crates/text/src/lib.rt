@@ -2,6 +2,7 @@
 pub mod bytes; // which bytes tokens and gaps are made of
 pub mod classes; // the numbers of the tokens' classes
 pub mod grammar; // which token classes make a file
+pub mod reader; // a text with an offset, from which items are taken
 pub mod reading; // a text into columns of tokens that are a file
 pub mod tokens; // what begins at an offset, and all tokens as columns
 pub mod walks; // one step over a column
@@ -15,12 +16,12 @@ pub use bytes::is_name_byte;
 pub use bytes::mark_class;
 pub use grammar::Parsing;
 pub use grammar::parse;
+pub use reader::item_at;
 pub use reading::Syntax;
 pub use reading::read;
 pub use reading::text_read;
 pub use tokens::lex;
 pub use tokens::name_class;
-pub use tokens::token_at;
 
 // What begins at an offset: a gap or a token, with the offset after it, a byte that begins neither, or nothing, at the text's end.
 pub enum Item {

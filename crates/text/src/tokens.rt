@@ -6,7 +6,7 @@ ghost use Prim.Native.Nat.{_+_, _≤_, _<_};
 ghost use lib.ListN.{length, drop};
 ghost use Rattle.text.specs.Bytes.{run, is-digit};
 ghost use Rattle.text.specs.Tokens.{Fixed, spelled, reserved, class-in, NAME, name-item, number-item};
-ghost use Rattle.text.specs.TokenTable.{goes-on, of-length, part, located, token-at, columns-of, Lexes};
+ghost use Rattle.text.specs.TokenTable.{goes-on, of-length, part, located, token-at, offset-after, columns-of, Lexes};
 use crate::Item;
 use crate::Lexed;
 use crate::Run;
@@ -17,6 +17,7 @@ use crate::bytes::is_letter;
 use crate::bytes::is_name_byte;
 use crate::bytes::mark_class;
 use crate::classes;
+use crate::reader::item_at;
 use values::Number;
 use values::forms::scan;
 use values::slices::same_bytes;
@@ -175,7 +176,7 @@ fn number_at(text: &[u8], at: usize, end: usize) -> Item
 }
 
 // What begins at an offset.
-pub fn token_at(text: &[u8], at: usize) -> Item
+pub(crate) fn token_at(text: &[u8], at: usize) -> Item
     ensures { λ r. ⌜ r ≡ token-at (now (text .entry)) at ⌝ }
 {
     if text.len() <= at {
@@ -203,6 +204,19 @@ pub fn token_at(text: &[u8], at: usize) -> Item
         class: class,
         value: 0,
         next: next,
+    }
+}
+
+// The offset after what begins at an offset; the same where nothing does.
+pub(crate) fn offset_after(text: &[u8], at: usize) -> usize
+    ensures { λ r. ⌜ r ≡ offset-after (now (text .entry)) at ⌝ }
+{
+    let item = token_at(text, at);
+    match item {
+        Item::Gap(next) => next,
+        Item::Found { next, .. } => next,
+        Item::Bad => at,
+        Item::End => at,
     }
 }
 
@@ -237,7 +251,7 @@ pub fn lex(
     let mut at: usize = 0;
     let mut n: usize = 0;
     loop {
-        let item = token_at(text, at);
+        let item = item_at(text, at);
         match item {
             Item::Gap(next) => {
                 at = next;

@@ -44,8 +44,8 @@ loop-holds c =
     let offsets = c .before .before .if3 .left in
     going-start _ _ _ _ _ allowed classes offsets (c .before .if4 .left) (c .if5 .left)
 
-token-at-requires : tie.Need-token-at-requires Inv-loop μ-loop
-token-at-requires c κs = search needs
+item-at-requires : tie.Need-item-at-requires Inv-loop μ-loop
+item-at-requires c κs = search needs
 
 enum-known-item : tie.Need-enum-known-item Inv-loop μ-loop
 enum-known-item c = search needs
@@ -53,13 +53,13 @@ enum-known-item c = search needs
 loop-less : tie.Need-loop-less Inv-loop μ-loop
 loop-less c =
     let i = c .before .item .given in
-    let g = going-gap (c .before .before .before .before .loop .inv) (i .0 .0) (sym (c .before .before .before .token-at .ensures) ∙ i .1) in
+    let g = going-gap (c .before .before .before .before .loop .inv) (i .0 .0) (sym (c .before .before .before .item-at .ensures) ∙ i .1) in
     omega (arith, g .0, g .1)
 
 loop-again : tie.Need-loop-again Inv-loop μ-loop
 loop-again c =
     let i = c .before .item .given in
-    let g = going-gap (c .before .before .before .before .loop .inv) (i .0 .0) (sym (c .before .before .before .token-at .ensures) ∙ i .1) in
+    let g = going-gap (c .before .before .before .before .loop .inv) (i .0 .0) (sym (c .before .before .before .item-at .ensures) ∙ i .1) in
     g .2
 
 enum-known-item-2 : tie.Need-enum-known-item-2 Inv-loop μ-loop
@@ -73,7 +73,7 @@ storable : (c : tie.After-known-told2 Inv-loop μ-loop)
     Storable (now (s .args .text)) (l .classes) (l .offsets) (l .lengths) (l .values) (l .at) (l .n) (i .0 .1 .1 .0)
 storable c =
     let i = c .before .item2 .given in
-    let found = sym (c .before .before .before .token-at .ensures) ∙ i .1 in
+    let found = sym (c .before .before .before .item-at .ensures) ∙ i .1 in
     found-storable (c .before .before .before .before .loop .inv) (i .0 .0) (i .0 .1 .0) (i .0 .1 .1 .0) found
 
 slice-write-classes : tie.Need-slice-write-classes Inv-loop μ-loop
@@ -112,7 +112,7 @@ loop-less-2 c = let s = storable c in omega arith
 loop-again-2 : tie.Need-loop-again-2 Inv-loop μ-loop
 loop-again-2 c =
     let i = c .before .item2 .given in
-    let found = sym (c .before .before .before .token-at .ensures) ∙ i .1 in
+    let found = sym (c .before .before .before .item-at .ensures) ∙ i .1 in
     going-found (c .before .before .before .before .loop .inv) (i .0 .0) (i .0 .1 .0) (i .0 .1 .1 .0) found
 
 enum-told : tie.Need-enum-told Inv-loop μ-loop
@@ -131,7 +131,7 @@ same-length-4 : tie.Need-same-length-4 Inv-loop μ-loop
 same-length-4 c = c .before .before .before .loop .inv .kept-values
 
 returns-6 : tie.Need-returns-6 Inv-loop μ-loop
-returns-6 c = going-bad (c .before .before .before .loop .inv) (sym (c .before .before .token-at .ensures) ∙ c .enum-told .given .1)
+returns-6 c = going-bad (c .before .before .before .loop .inv) (sym (c .before .before .item-at .ensures) ∙ c .enum-told .given .1)
 
 enum-told-2 : tie.Need-enum-told-2 Inv-loop μ-loop
 enum-told-2 c = search needs
@@ -149,7 +149,7 @@ same-length-8 : tie.Need-same-length-8 Inv-loop μ-loop
 same-length-8 c = c .before .before .before .loop .inv .kept-values
 
 returns-7 : tie.Need-returns-7 Inv-loop μ-loop
-returns-7 c = going-end (c .before .before .before .loop .inv) (sym (c .before .before .token-at .ensures) ∙ c .enum-told2 .given .1)
+returns-7 c = going-end (c .before .before .before .loop .inv) (sym (c .before .before .item-at .ensures) ∙ c .enum-told2 .given .1)
 
 pub lex-spec : {M : Type 1} → statement M
 lex-spec =
@@ -163,7 +163,7 @@ lex-spec =
     returns-4
     returns-5
     loop-holds
-    token-at-requires
+    item-at-requires
     enum-known-item
     loop-less
     loop-again
