@@ -14,7 +14,7 @@ use Rattle.checking.specs.declared.check.Checked.{Checked}
 use Rattle.checking.specs.declared.check.Checked.the-variants as checked-as
 use Rattle.checking.specs.Verdict.{Verdict, verdict, verdict-answer, file-of, accepted-file, MOST-BYTES}
 use Rattle.checking.proofs.VerdictLaws.{accepted-length as text-length, accepted-is-file}
-use Rattle.checking.specs.CheckedBench.{Checked-bench, Accepts, Says, has-room, Checks}
+use Rattle.checking.specs.CheckedBench.{checked-answer, Checked-bench, Accepts, Says, has-room, Checks}
 use Rattle.checking.specs.Resolution.{Resolves}
 use Rattle.cycles.specs.StateMemory.{State-test}
 use Rattle.cycles.specs.FreshMemory.{Fresh-put}
@@ -129,7 +129,7 @@ module _ {text classes offsets lengths literals d state shown names values out :
 
 pub refused-served : (call : Call) (text : List ℕ) {state : List ℕ} (shown names values : List ℕ) {out : List ℕ} {code at r : ℕ} → verdict text ≡ Verdict.refused code at → r ≡ refusal call code at
     → record { answer = r; state = state; out = out } ≡ served call text state shown names values out
-unfolding served checked verdict-answer accepted-file file-of freshened line-on-bench line-refused header-on-bench row-on-bench refusal
+unfolding served checked verdict-answer accepted-file file-of freshened line-on-bench line-refused header-on-bench row-on-bench refusal checked-answer
 refused-served Check text shown names values v e = rw (v, e)
 refused-served Fresh text shown names values v e = rw (v, e)
 refused-served Line text shown names values v e = rw (v, e)

@@ -1,11 +1,12 @@
 -- The public calls by one function of what is lent to them, once the bench's text is known: this is what one piece of code with room for
 -- the text's columns serves.
-use Prim.Native.Nat.{ℕ, _+_, _*_, _≤_}
+use Prim.Native.Nat.{ℕ, _≤_}
 use mathlib.Core.Path.{_≡_}
 use mathlib.Core.List.{List}
 use lib.ListN.{length}
 use Rattle.checking.specs.Verdict.{verdict, accepted-file}
-use Rattle.checking.specs.CheckedBench.{Checked-bench}
+use Rattle.checking.specs.declared.check.Checked.the-variants.{Refused}
+use Rattle.checking.specs.CheckedBench.{checked-answer, Checked-bench}
 use Rattle.cycles.specs.StateImage.{STATE}
 use Rattle.engine.specs.declared.serve.Call.{Call}
 use Rattle.engine.specs.declared.serve.Call.the-variants.{Check, Fresh, Line, Header, Row}
@@ -60,7 +61,8 @@ Room Row state shown out = (STATE ≤ length shown) × (ROW ≤ length out)
 
 -- the answer of a call whose text is refused: "32: memory is no checked bench", but the check says why
 unfoldable pub refusal : Call → ℕ → ℕ → ℕ
-refusal Check code at = code + 256 * at
+unfolding checked-answer
+refusal Check code at = checked-answer (Refused code at)
 refusal Fresh code at = 32
 refusal Line code at = 32
 refusal Header code at = 32

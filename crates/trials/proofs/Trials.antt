@@ -7,7 +7,8 @@ use Rattle.text.specs.Bytes.{ascii}
 use Rattle.cycles.specs.StateImage.{STATE}
 use Rattle.engine.specs.BenchImage.{BENCH}
 use Rattle.engine.specs.Calls.{ROW, check-call, fresh-call, header-call, row-call, After-check, After-fresh, After-line, After-row}
-use Rattle.engine.specs.Runs.{Request, replies}
+use Rattle.engine.specs.Runs.{Request}
+use Rattle.engine.proofs.Replies.{replies}
 
 -- "Pedal bench (P)"
 unfoldable pub pedal : List ℕ

@@ -1,3 +1,4 @@
+use Rattle.checking.specs.CheckedBench.{checked-answer}
 use Rattle.engine.specs.Serving.{refusal}
 use borrow.Author.Needs.{needs}
 use Rattle.engine.proofs.serve.refusal.Statement.{statement}
@@ -25,7 +26,7 @@ enum-told-5 : tie.Need-enum-told-5
 enum-told-5 c = search needs
 
 returns : tie.Need-returns
-unfolding refusal
+unfolding refusal checked-answer
 returns c =
     let enum-told₀ = c .before .enum-told in
     let coded₀ = c .coded in
