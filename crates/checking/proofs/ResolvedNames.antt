@@ -12,6 +12,7 @@ use borrow.Author.Tests.{eq-eqb, eqb-true, eqb-false}
 use Rattle.text.specs.Tokens.{Token, NAME, WHEN}
 use Rattle.text.proofs.LanguageLaws.{is}
 use Rattle.text.proofs.SpotLaws.{spots-none}
+use Rattle.checking.specs.ClassSearch.{First-of}
 use Rattle.checking.specs.RuleParts.{Rule-world}
 use Rattle.checking.specs.Resolution.{Within, Owned, dotted, sourced, called, filtered, declared}
 use Rattle.checking.specs.Resolving.{Row-resolved, Names-resolved}
@@ -67,8 +68,13 @@ member-within (filtered x y z t) = t
 member-within (declared x y z t u v) = v
 
 module _ {text classes offsets lengths d refs : List ℕ} where
-  pub naming-none : Naming text classes offsets lengths d refs refs 0 0
-  naming-none = record { size = refl; last = λ s w. absurd (omega (arith, w .before)); rows = λ j h. absurd (omega arith) }
+  -- no rule begins before the first `when`
+  pub naming-first : {first : ℕ} → First-of classes WHEN 0 first → Naming text classes offsets lengths d refs refs 0 first
+  naming-first f = record {
+    size = refl;
+    last = λ s w. absurd (f .before s (w .before) (omega arith) (w .class));
+    rows = λ j h k s w. absurd (f .before s (omega (arith, w .before)) (omega arith) (w .class));
+  }
 
   module _ {new : List ℕ} {start i : ℕ} (n : Naming text classes offsets lengths d refs new start i) where
     module _ {class : ℕ} (e : class ≡ getD classes i 0) where

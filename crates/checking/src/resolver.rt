@@ -168,7 +168,7 @@ fn row_resolved(
     member_of(text, classes, offsets, lengths, d, start, owner, i) * 256 + low
 }
 
-// Fills the rows of all names; those before the first rule are of no use.
+// Fills the rows of all names from the first rule on; those before it are of no use.
 pub fn resolve_names(
     text: &[u8],
     classes: &[u8],
@@ -181,7 +181,7 @@ pub fn resolve_names(
     ensures { λ _. ⌜ Names-resolved (now (text .entry)) (now (classes .entry)) (now (offsets .entry)) (now (lengths .entry)) (now (d .entry)) (now (refs .entry)) (now (refs .exit)) ⌝ }
 {
     let mut start = 0;
-    let mut i = 0;
+    let mut i = first_of(classes, WHEN, 0);
     while i < classes.len() {
         let class = class_at(classes, i);
         let here = i;

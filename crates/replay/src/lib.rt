@@ -616,10 +616,10 @@ fn run_text(
     match checked {
         Checked::NoRoom => {}
         Checked::Refused { code, at } => show_refusal(code, at),
-        Checked::Accepted(_) => run_accepted(
+        Checked::Accepted(n) => run_accepted(
             readings,
             text,
-            classes,
+            &classes[0..n],
             offsets,
             lengths,
             literals,

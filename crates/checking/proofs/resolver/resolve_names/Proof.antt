@@ -2,7 +2,7 @@
 use Prim.Native.Nat.{_-_}
 use native.Mathlib.Omega.{arith}
 use lib.ListN.{length}
-use Rattle.checking.proofs.ResolvedNames.{Naming, naming-none, naming-when, naming-other, naming-name, naming-ends}
+use Rattle.checking.proofs.ResolvedNames.{Naming, naming-first, naming-when, naming-other, naming-name, naming-ends}
 use borrow.Author.Needs.{needs}
 use Rattle.checking.proofs.resolver.resolve_names.Statement.{statement}
 use Rattle.checking.proofs.resolver.resolve_names.Tie as tie
@@ -13,8 +13,11 @@ Inv-loop text classes offsets lengths d refs₀ start₀ i₀ refs start i = Nam
 abbrev μ-loop : tie.MeasureT-loop
 μ-loop text classes offsets lengths d refs₀ start₀ i₀ refs start i = length classes - i
 
+first-of-requires : tie.Need-first-of-requires Inv-loop μ-loop
+first-of-requires c κs = search needs
+
 loop-holds : tie.Need-loop-holds Inv-loop μ-loop
-loop-holds c = naming-none
+loop-holds c = naming-first (c .first-of .ensures)
 
 class-at-requires : tie.Need-class-at-requires Inv-loop μ-loop
 class-at-requires c κs = search needs
@@ -47,7 +50,7 @@ loop-less-3 : tie.Need-loop-less-3 Inv-loop μ-loop
 loop-less-3 c = search needs
 
 loop-again-3 : tie.Need-loop-again-3 Inv-loop μ-loop
-loop-again-3 c = naming-name (c .before .before .before .before .before .loop .inv) (c .before .before .before .class-at .ensures) (c .before .before .if1 .left) (c .before .before .before .before .before .before .before .before .before .before .before .before .pre) (c .before .before .before .before .loop-test .taken) (c .row-resolved .ensures)
+loop-again-3 c = naming-name (c .before .before .before .before .before .loop .inv) (c .before .before .before .class-at .ensures) (c .before .before .if1 .left) (c .before .before .before .before .before .before .before .before .before .before .before .before .before .pre) (c .before .before .before .before .loop-test .taken) (c .row-resolved .ensures)
 
 same-length : tie.Need-same-length Inv-loop μ-loop
 same-length c = c .before .loop .inv .size
@@ -61,6 +64,7 @@ resolve-names-spec =
     (tie.spec
     Inv-loop
     μ-loop
+    first-of-requires
     loop-holds
     class-at-requires
     add-i
