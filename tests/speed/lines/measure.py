@@ -1,0 +1,115 @@
+"""measure.py TESTS FOLDER RUNNER SECOND CALLS SECOND_CALLS [ROUNDS]: rows first, which must be equal, then CPU times, each program in turn."""
+import os
+import re
+import shutil
+import statistics
+import struct
+import subprocess
+import sys
+
+tests, folder, runner, second, calls, second_calls = (os.path.abspath(path) for path in sys.argv[1:7])
+rounds = int(sys.argv[7]) if len(sys.argv) > 7 else 7
+
+
+def opponents(bench):
+    """Name, command, and whether its reals are decimals."""
+    lua = os.path.join(tests, bench + ".lua")
+    batch = os.path.join(folder, bench, "batch.clp")
+    with open(batch, "w", encoding="utf-8") as file:
+        files = [os.path.join(tests, name) for name in ("lines.clp", bench + ".clp")]
+        if bench == "heavy":
+            files.append("rules.clp")
+        file.write("".join(f'(load* "{name}")\n' for name in files) + "(main)\n(exit)\n")
+    listed = [
+        ("runner", [runner], False),
+        ("second interpreter", [second, "."], False),
+        ("Lua 5.4", ["lua5.4", lua], False),
+        ("LuaJIT", ["luajit", lua], False),
+        ("LuaJIT, compiler off", ["luajit", "-joff", lua], False),
+        ("CLIPS", ["clips", "-f2", batch], True),
+    ]
+    if bench == "heavy":
+        listed += [
+            ("Lua 5.4, every choice", ["lua5.4", lua, "heavy_every"], False),
+            ("LuaJIT, every choice", ["luajit", lua, "heavy_every"], False),
+        ]
+    return [entry for entry in listed if shutil.which(entry[1][0])]
+
+
+def decimals(rows):
+    """Rows with their reals as decimals, the form that CLIPS prints."""
+    def form(match):
+        return b"%.17g" % struct.unpack(">d", bytes.fromhex(match[0].decode()))
+
+    return re.sub(rb"\b[0-9a-f]{16}\b", form, rows)
+
+
+def rows(command, cwd):
+    return subprocess.run(command, cwd=cwd, stdin=subprocess.DEVNULL, stdout=subprocess.PIPE, check=True).stdout
+
+
+def cpu_seconds(command, cwd):
+    """User and system time of one run that prints to nowhere."""
+    process = subprocess.Popen(command, cwd=cwd, stdin=subprocess.DEVNULL, stdout=subprocess.DEVNULL)
+    _, status, usage = os.wait4(process.pid, 0)
+    process.returncode = os.waitstatus_to_exitcode(status)
+    if process.returncode != 0:
+        sys.exit(f"{command[0]} ended with status {process.returncode}")
+    return usage.ru_utime + usage.ru_stime
+
+
+def short(number):
+    """Three digits, or all before the point."""
+    return f"{number:.3g}" if number < 1000 else f"{number:.0f}"
+
+
+def call_times():
+    """The archive's calls and the second interpreter's, in turn."""
+    found = {}
+    for _ in range(rounds):
+        both = [rows([program, folder], folder).decode().splitlines() for program in (calls, second_calls)]
+        for own, other in zip(*both):
+            name, own_time, *_, own_sum = own.split()
+            other_name, other_time, *_, other_sum = other.split()
+            if (name, own_sum) != (other_name, other_sum):
+                sys.exit(f"{name}: the rows of the archive and of the second interpreter differ")
+            found.setdefault(name, []).append((float(own_time), float(other_time)))
+    print(f"\nOne call, CPU time in microseconds, medians of {rounds} rounds; each round gives the median of 15.\n")
+    print("| call | archive | least to most | second interpreter | least to most | ratio | least to most |")
+    print("|---|---|---|---|---|---|---|")
+    for name, pairs in found.items():
+        own, other = [a for a, _ in pairs], [b for _, b in pairs]
+        ratios = [b / a for a, b in pairs]
+        spread = [f"{short(statistics.median(x))} | {short(min(x))} to {short(max(x))}" for x in (own, other)]
+        print(f"| {name} | {spread[0]} | {spread[1]} | {short(statistics.median(ratios))} | {short(min(ratios))} to {short(max(ratios))} |")
+
+
+def main():
+    table = []
+    for bench in ("pedal", "usual", "heavy"):
+        cwd = os.path.join(folder, bench)
+        listed = opponents(bench)
+        expected = rows([runner], cwd)
+        lines = expected.count(b"\n") - 1
+        for name, command, decimal in listed:
+            if rows(command, cwd) != (decimals(expected) if decimal else expected):
+                sys.exit(f"{bench}: the rows of {name} are not the runner's")
+        print(f"{bench}: {lines} lines, equal rows: {'; '.join(name for name, _, _ in listed)}", flush=True)
+        times = {name: [] for name, _, _ in listed}
+        for _ in range(rounds):
+            for name, command, _ in listed:
+                times[name].append(cpu_seconds(command, cwd))
+        for name, _, _ in listed:
+            # The ratio is taken in each round, so that what slows a whole round does not count.
+            ratios = [other / own for other, own in zip(times[name], times["runner"])]
+            per_line = [1e6 * seconds / lines for seconds in times[name]]
+            table.append((bench, name, statistics.median(per_line), min(per_line), max(per_line), statistics.median(ratios), min(ratios), max(ratios)))
+    print(f"\nCPU time, medians of {rounds} rounds, each program in turn; the ratio is to the runner (above 1: the runner is faster).\n")
+    print("| bench | program | µs a line | least to most | ratio | least to most |")
+    print("|---|---|---|---|---|---|")
+    for bench, name, middle, low, high, ratio, ratio_low, ratio_high in table:
+        print(f"| {bench} | {name} | {short(middle)} | {short(low)} to {short(high)} | {short(ratio)} | {short(ratio_low)} to {short(ratio_high)} |")
+
+
+main()
+call_times()

@@ -1,0 +1,41 @@
+; The pedal bench as a CLIPS rule.
+(deftemplate pedal (slot down) (slot was))
+(deftemplate stage (slot pos))
+(defglobal ?*keep* = -)
+
+(defrule press
+  (pedal (down true) (was ~true))
+  (stage (pos ?pos&~nil))
+  =>
+  (bind ?*keep* ?pos))
+
+(deffunction main ()
+  (open "decimal.txt" in "r")
+  (readline in)
+  (printout t "n k.keep" crlf)
+  (bind ?last 0) (bind ?last-line "") (bind ?row "")
+  (bind ?down nil) (bind ?pos nil)
+  (bind ?pedal (assert (pedal (down nil) (was nil))))
+  (bind ?stage (assert (stage (pos nil))))
+  (bind ?line (readline in))
+  (while (neq ?line EOF) do
+    (bind ?fields (explode$ ?line))
+    (bind ?n (nth$ 1 ?fields))
+    (if (and (= ?n ?last) (> ?n 0))
+      then (printout t (if (eq ?line ?last-line) then ?row else "refused 25") crlf)
+      else (if (<> ?n (+ ?last 1))
+        then (printout t "refused 24" crlf)
+        else
+          (bind ?was ?down)
+          (if (neq (nth$ 2 ?fields) -) then (bind ?down (nth$ 2 ?fields)))
+          (if (neq (nth$ 3 ?fields) -) then (bind ?pos (nth$ 3 ?fields)))
+          (retract ?pedal ?stage)
+          (bind ?pedal (assert (pedal (down ?down) (was ?was))))
+          (bind ?stage (assert (stage (pos ?pos))))
+          (bind ?*keep* -)
+          (run)
+          (bind ?last ?n)
+          (bind ?last-line ?line)
+          (bind ?row (str-cat ?n " " ?*keep*))
+          (printout t ?row crlf)))
+    (bind ?line (readline in))))
