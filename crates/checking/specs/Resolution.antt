@@ -16,7 +16,7 @@ use Rattle.checking.specs.RuleParts.{Rule-world, world-scope}
 abbrev pub NO-REFERENCE : ℕ
 NO-REFERENCE = 255
 
--- an entity by its number, or a variable, 32 for the first: "In a rule an entity comes before a variable"
+-- an entity by its number, or a variable, 32 for the first; in a rule an entity comes before a variable
 unfoldable pub reference-by : Option (Found Entity) → Option (Found Variable) → ℕ
 reference-by none none = NO-REFERENCE
 reference-by none (some v) = 32 + v .number

@@ -3,7 +3,19 @@ ghost use mathlib.Core.Path.{_≡_};
 ghost use Prim.Native.Nat.{_+_, _*_, _≤_};
 ghost use lib.Dec.{leb};
 ghost use lib.ListN.{length, set};
-ghost use Rattle.checking.specs.Resolving.{Variable-reference, Referred, Owner-of, Member-of, Row-resolved, Names-resolved, Declaration-number, present, Interface-at, Variables-held, Scopes-resolved};
+ghost use Rattle.checking.specs.Resolving.{
+  Variable-reference,
+  Referred,
+  Owner-of,
+  Member-of,
+  Row-resolved,
+  Names-resolved,
+  Declaration-number,
+  present,
+  Interface-at,
+  Variables-held,
+  Scopes-resolved,
+};
 ghost use Rattle.checking.specs.Resolution.{Resolves};
 use crate::meanings::declares;
 use crate::meanings::meaning_of;
@@ -141,7 +153,8 @@ fn member_of(
     owner: usize,
     i: usize,
 ) -> u16
-    ensures { λ r. ⌜ Member-of (now (text .entry)) (now (classes .entry)) (now (offsets .entry)) (now (lengths .entry)) (now (d .entry)) start owner i r ⌝ }
+    ensures { λ r. ⌜
+        Member-of (now (text .entry)) (now (classes .entry)) (now (offsets .entry)) (now (lengths .entry)) (now (d .entry)) start owner i r ⌝ }
 {
     let m = meaning_of(text, classes, offsets, lengths, d, start, owner);
     let face = m.face;

@@ -1,8 +1,11 @@
 -- A run, worked out: what the contracts leave is one list of replies, from one memory.
-use Prim.Native.Nat.{ℕ}
+use Prim.Native.Nat.{ℕ, _≤_}
 use mathlib.Core.Path.{_≡_, refl, ap, ap₂, _∙_}
 use mathlib.Core.List.{List, [], _∷_}
+use lib.ListN.{length}
 use Rattle.text.specs.Syntax.{File}
+use Rattle.cycles.specs.StateImage.{STATE}
+use Rattle.engine.specs.BenchImage.{BENCH}
 use Rattle.engine.specs.Calls.{After-check, check-call, After-fresh, fresh-call, After-line, line-call}
 use Rattle.engine.specs.Runs.{Request, Run, ends, goes-on, Taken, taken-lines}
 use Rattle.engine.specs.DemandThree.{Begins}
@@ -43,6 +46,26 @@ pub begins-state : {text bench state : List ℕ} (b : Begins text bench state) �
 unfolding start-state
 begins-state b =
     ap (λ (r : After-fresh). r .state) (b .is-fresh) ∙ ap (λ (m : List ℕ). fresh-call m (b .lent-state) .state) (begins-bench b)
+
+-- every text and memory has such a beginning, and every list of requests a run
+pub begins-so : (text bench state : List ℕ) → BENCH ≤ length bench → STATE ≤ length state
+    → Begins text (start-bench text bench) (start-state text bench state)
+unfolding start-bench start-state
+begins-so text bench state h g = record {
+  lent-bench = bench;
+  lent-state = state;
+  bench-size = h;
+  state-size = g;
+  check-answer = check-call text bench .answer;
+  fresh-answer = fresh-call (start-bench text bench) state .answer;
+  is-checked = refl;
+  is-fresh = refl;
+}
+
+pub replies-run : (bench state : List ℕ) (qs : List Request) → Run bench state qs (replies bench state qs)
+unfolding replies
+replies-run bench state [] = ends
+replies-run bench state (q ∷ qs) = goes-on refl (replies-run bench (line-call bench state (q .names) (q .values) (q .row) .state) qs)
 
 -- the replies of a run that begins so
 pub begun-replies : {text bench state : List ℕ} (b : Begins text bench state) {qs : List Request} {rs : List After-line} → Run bench state qs rs

@@ -45,7 +45,7 @@ Side-by-side R [] (y ∷ ys) = ⊥
 Side-by-side R (x ∷ xs) [] = ⊥
 Side-by-side R (x ∷ xs) (y ∷ ys) = R x y × Side-by-side R xs ys
 
--- how a run begins: a check that accepts the text, and a fresh state, as their contracts allow them, in memory of the stated sizes at least;
+-- how a run begins: a check of the text, and a fresh state, as their contracts allow them, in memory of the stated sizes at least;
 -- bench and state as they are left
 pub record Begins (text bench state : List ℕ) : Type 0 where
   pub lent-bench : List ℕ

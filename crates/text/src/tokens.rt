@@ -65,7 +65,8 @@ fn class_if(name: &[u8], word: &[u8], class: u8, other: u8) -> u8
 
 // The class of either of two words.
 fn class_of_two(name: &[u8], first: &[u8], class: u8, second: &[u8], other: u8) -> u8
-    ensures { λ r. ⌜ r ≡ Option·getD (class-in (spelled (now (first .entry)) class ∷ spelled (now (second .entry)) other ∷ []) (now (name .entry))) NAME ⌝ }
+    ensures { λ r. ⌜
+        r ≡ Option·getD (class-in (spelled (now (first .entry)) class ∷ spelled (now (second .entry)) other ∷ []) (now (name .entry))) NAME ⌝ }
 {
     let c = class_if(name, second, other, classes::NAME);
     class_if(name, first, class, c)
