@@ -1,5 +1,5 @@
 -- All rules for all bindings in memory: what the walk over a rule's variables and, for each of them, over the entities puts.
-use Prim.Native.Nat.{ℕ, zero, suc, _+_, _≤_, _<_}
+use Prim.Native.Nat.{ℕ, zero, suc, _+_, _*_, _%_, _≤_, _<_}
 use native.Mathlib.Numerals.{add-one}
 use native.Mathlib.Omega.{arith}
 use mathlib.Core.Path.{_≡_, refl, sym, ap, _∙_}
@@ -22,6 +22,7 @@ use Rattle.cycles.specs.declared.evaluate.Binding.{Binding}
 use Rattle.cycles.specs.Bindings.{bindings, rule-writes, all-writes}
 use Rattle.cycles.specs.Evaluation.{bound, puts, Rule-puts}
 use Rattle.cycles.specs.AllRules.{Rules-given, Gives, complete, candidate, Entity-added, Bindings-put, Rules-put}
+use Rattle.cycles.specs.Guards.{Guards-found}
 use Rattle.cycles.proofs.EvaluationLaws.{puts-append}
 use Rattle.cycles.proofs.ResolvedLaws.{rule-puts-binding}
 use Rattle.cycles.proofs.BindingWrites.{
@@ -67,42 +68,44 @@ module _ (d flags : List ℕ) (face e : ℕ) {p : Bool} (present : p ≡ eqb (ge
 
 -- ---- one more entity
 
-module _ {b : Binding} {level e : ℕ} where
-  pub added-first : level ≡ 0 → Entity-added b level e (record { first = e; second = b .second; third = b .third })
+module _ {b : Binding} {level e : ℕ} (byte : e < 256) where
+  pub added-first : level ≡ 0 → Entity-added b level e (record { entities = e })
   unfolding bound
   added-first l = record { gives = go }
     where
-      go : (es : List ℕ) → length es ≡ level → level < 3 → Gives b es
-          → Gives (record { first = e; second = b .second; third = b .third }) (es ++ e ∷ [])
-      go [] s m g zero x h = sym (some-injective h)
+      go : (es : List ℕ) → length es ≡ level → level < 3 → Gives b es → Gives (record { entities = e }) (es ++ e ∷ [])
+      go [] s m g zero x h = omega (arith, some-injective h)
       go [] s m g (suc v) x h = absurd (none-some h)
       go (a ∷ es) s m g v x h = absurd (omega arith)
 
-  pub added-second : level ≡ 1 → Entity-added b level e (record { first = b .first; second = e; third = b .third })
+  pub added-second : level ≡ 1 → Entity-added b level e (record { entities = b .entities % 256 + 256 * e })
   unfolding bound
   added-second l = record { gives = go }
     where
-      go : (es : List ℕ) → length es ≡ level → level < 3 → Gives b es
-          → Gives (record { first = b .first; second = e; third = b .third }) (es ++ e ∷ [])
+      go : (es : List ℕ) → length es ≡ level → level < 3 → Gives b es → Gives (record { entities = b .entities % 256 + 256 * e }) (es ++ e ∷ [])
       go [] s m g v x h = absurd (omega arith)
-      go (a ∷ []) s m g zero x h = g 0 x h
-      go (a ∷ []) s m g (suc zero) x h = sym (some-injective h)
+      go (a ∷ []) s m g zero x h = omega (arith, g 0 x h)
+      go (a ∷ []) s m g (suc zero) x h = omega (arith, some-injective h)
       go (a ∷ []) s m g (suc (suc v)) x h = absurd (none-some h)
       go (a ∷ c ∷ es) s m g v x h = absurd (omega arith)
 
-  pub added-third : (level ≡ 0 → ⊥) → (level ≡ 1 → ⊥) → Entity-added b level e (record { first = b .first; second = b .second; third = e })
+  pub added-third : (level ≡ 0 → ⊥) → (level ≡ 1 → ⊥) → Entity-added b level e (record { entities = b .entities % 65536 + 65536 * e })
   unfolding bound
   added-third n o = record { gives = go }
     where
-      go : (es : List ℕ) → length es ≡ level → level < 3 → Gives b es
-          → Gives (record { first = b .first; second = b .second; third = e }) (es ++ e ∷ [])
+      go : (es : List ℕ) → length es ≡ level → level < 3 → Gives b es → Gives (record { entities = b .entities % 65536 + 65536 * e }) (es ++ e ∷ [])
       go [] s m g v x h = absurd (n (sym s))
       go (a ∷ []) s m g v x h = absurd (o (sym s))
-      go (a ∷ c ∷ []) s m g zero x h = g 0 x h
-      go (a ∷ c ∷ []) s m g (suc zero) x h = g 1 x h
-      go (a ∷ c ∷ []) s m g (suc (suc zero)) x h = sym (some-injective h)
+      go (a ∷ c ∷ []) s m g zero x h = omega (arith, g 0 x h)
+      go (a ∷ c ∷ []) s m g (suc zero) x h = omega (arith, g 1 x h)
+      go (a ∷ c ∷ []) s m g (suc (suc zero)) x h = omega (arith, some-injective h)
       go (a ∷ c ∷ []) s m g (suc (suc (suc v))) x h = absurd (none-some h)
       go (a ∷ c ∷ i ∷ es) s m g v x h = absurd (omega arith)
+
+-- ---- no guards
+
+pub no-guards : {classes refs : List ℕ} {at : ℕ} {guards : List ℕ} → Guards-found classes refs at guards 0
+no-guards = record { found = λ w l start r n p h j q. absurd (omega arith) }
 
 -- ---- what one rule puts
 
@@ -112,7 +115,7 @@ module _ {classes values d refs scopes flags cells previous-flags previous-cells
   put-in p c =
       p .writes (c .text) (c .offsets) (c .lengths) (c .given) (c .rule) (c .stands) (c .entities) (c .size) (c .most) (c .gives) (c .binds)
 
-  in-each : {area after : List ℕ}
+  pub in-each : {area after : List ℕ}
       → ((c : Chosen classes values d refs scopes flags cells previous-flags previous-cells k level b) → after ≡ puts area (writes-after c))
       → Bindings-put classes values d refs scopes flags cells previous-flags previous-cells k level b area after
   in-each h = record {

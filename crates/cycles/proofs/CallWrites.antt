@@ -194,7 +194,7 @@ shift-read n (read b k) {a} {m} h =
 shift-read n (refused k) h = let z : _≡_ {A = ℕ} 0 1 = cc in absurd (omega arith)
 
 -- a rule that was read begins with its condition
-rule-condition : (start : Token) (ts : List Token) {r : Rule} {n : ℕ} → rule-after start ts ≡ read r n
+pub rule-condition : (start : Token) (ts : List Token) {r : Rule} {n : ℕ} → rule-after start ts ≡ read r n
     → (k : ℕ) × (condition-reader OPENERS ts ≡ read (r .condition) k) × (k ≤ n)
 unfolding rule-after
 rule-condition start ts {r} {n} h = go (condition-reader OPENERS ts) refl

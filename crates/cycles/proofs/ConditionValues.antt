@@ -123,28 +123,35 @@ module _ {classes values refs : List ℕ} {b : Binding} {flags cells previous-fl
       → In-store classes values refs b previous-flags previous-cells
   in-previous c = record { rule = c .rule; store = c .previous; stored = c .previous-stored }
 
-  module _ {at class e m : ℕ} {x y : Value} (left : ℕ) (is : class ≡ getD classes at 0) (k : Cell-read flags cells e m x)
-      (l : Cell-read previous-flags previous-cells e m y) where
-    pub test-is-changed : class ≡ CHANGED → {next : ℕ} {v : Bool} → Steps (length classes) at next → v ≡ differ x y
+  module _ {at class e m : ℕ} {x : Value} (left : ℕ) (is : class ≡ getD classes at 0) (k : Cell-read flags cells e m x) where
+    pub test-is-changed : class ≡ CHANGED → {next : ℕ} {y : Value} {v : Bool} → Cell-read previous-flags previous-cells e m y
+        → Steps (length classes) at next → v ≡ differ x y
         → Test-walk classes values refs b flags cells previous-flags previous-cells e m (test-reader left) at v next
     unfolding test-holds
-    test-is-changed q s ev = test-changed left (sym is ∙ q) s λ c. record {
+    test-is-changed q l s ev = test-changed left (sym is ∙ q) s λ c. record {
       tests = λ p h. ev ∙ ap₂ differ (k .reads (c .rule .count) (c .now) p (c .now-stored) h)
           (l .reads (c .rule .count) (c .previous) p (c .previous-stored) h);
     }
 
-    pub test-is-equals : (class ≡ CHANGED → ⊥) → {i next other : ℕ} {z w : Value} {d f v : Bool} → Steps (length classes) at i
-        → Expression-walk classes values refs b flags cells (expression-reader left) i z next
-        → Expression-walk classes values refs b previous-flags previous-cells (expression-reader left) i w other
-        → d ≡ equal x z → f ≡ equal y w → v ≡ (d && not f)
-        → Test-walk classes values refs b flags cells previous-flags previous-cells e m (test-reader left) at v next
-    unfolding test-holds
-    test-is-equals n s h g ed ef ev =
-        test-equals left (λ q. n (is ∙ q)) s (walk-both (walk-in in-now h) (walk-in in-previous g)) λ c a p u. record {
-          tests = λ o j. ev ∙ ap₂ (λ d f. d && not f)
-              (ed ∙ ap₂ equal (k .reads (c .rule .count) (c .now) o (c .now-stored) j) (u .0))
-              (ef ∙ ap₂ equal (l .reads (c .rule .count) (c .previous) o (c .previous-stored) j) (u .1));
-        }
+    module _ (n : class ≡ CHANGED → ⊥) {i next : ℕ} {z : Value} {d : Bool} (s : Steps (length classes) at i)
+        (h : Expression-walk classes values refs b flags cells (expression-reader left) i z next) (ed : d ≡ equal x z) where
+      -- whatever the values in the store before
+      pub test-is-unequal : d ≡ false → Test-walk classes values refs b flags cells previous-flags previous-cells e m (test-reader left) at false next
+      unfolding test-holds
+      test-is-unequal q = test-equals left (λ q. n (is ∙ q)) s (walk-in in-now h) λ c a p u. record {
+        tests = λ o j. ap₂ _&&_ (sym q ∙ ed ∙ ap₂ equal (k .reads (c .rule .count) (c .now) o (c .now-stored) j) u) refl;
+      }
+
+      pub test-is-equals : d ≡ true → {other : ℕ} {y w : Value} {f v : Bool} → Cell-read previous-flags previous-cells e m y
+          → Expression-walk classes values refs b previous-flags previous-cells (expression-reader left) i w other → f ≡ equal y w → v ≡ not f
+          → Test-walk classes values refs b flags cells previous-flags previous-cells e m (test-reader left) at v next
+      unfolding test-holds
+      test-is-equals q l g ef ev =
+          test-equals left (λ q. n (is ∙ q)) s (walk-both (walk-in in-now h) (walk-in in-previous g)) λ c a p u. record {
+            tests = λ o j. ev ∙ ap₂ (λ d f. d && not f)
+                (sym q ∙ ed ∙ ap₂ equal (k .reads (c .rule .count) (c .now) o (c .now-stored) j) (u .0))
+                (ef ∙ ap₂ equal (l .reads (c .rule .count) (c .previous) o (c .previous-stored) j) (u .1));
+          }
 
   -- ---- clauses
 

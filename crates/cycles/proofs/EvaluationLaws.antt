@@ -29,15 +29,15 @@ module _ (b : Binding) (r : ℕ) where
   unfolding bound
   bound-entity h = rw (lt-ltb r 32 h)
 
-  pub bound-first : r ≡ 32 → b .first ≡ bound b r
+  pub bound-first : r ≡ 32 → b .entities % 256 ≡ bound b r
   unfolding bound
   bound-first e = rw e
 
-  pub bound-second : r ≡ 33 → b .second ≡ bound b r
+  pub bound-second : r ≡ 33 → b .entities / 256 % 256 ≡ bound b r
   unfolding bound
   bound-second e = rw e
 
-  pub bound-third : 32 ≤ r → (r ≡ 32 → ⊥) → (r ≡ 33 → ⊥) → b .third ≡ bound b r
+  pub bound-third : 32 ≤ r → (r ≡ 32 → ⊥) → (r ≡ 33 → ⊥) → b .entities / 65536 % 256 ≡ bound b r
   unfolding bound
   bound-third h n m = rw (le-ltb r 32 h, ne-eqb r 32 n, ne-eqb r 33 m)
 

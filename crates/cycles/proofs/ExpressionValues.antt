@@ -3,6 +3,7 @@ use Prim.Native.Nat.{ℕ, _-_, _/_, _%_, _<_}
 use mathlib.Core.Path.{_≡_, refl, sym, ap, _∙_}
 use mathlib.Core.List.{List}
 use mathlib.Core.Bool.{Bool, true, false}
+use native.Mathlib.Omega.{arith}
 use lib.IntN.{pos}
 use lib.Ieee.{binary64, ofInt}
 use lib.Dec.{eqb}
@@ -16,7 +17,7 @@ use Rattle.values.specs.Value.{fitted, settled, operated, negated, as-real}
 use Rattle.text.specs.Tokens.{NAME, WHOLE-NUMBER, REAL-NUMBER, TRUE, FALSE, REAL, ROUND-OPEN, PLUS, MINUS, TIMES, DIVIDE}
 use Rattle.text.specs.Syntax.{Expression}
 use Rattle.text.specs.Readers.{Reader, halt, joined}
-use Rattle.text.specs.Grammar.{name-of, operator-of, apply-at, is-factor-operator, is-term-operator, simple-or, factor-reader, expression-reader}
+use Rattle.text.specs.Grammar.{name-of, operator-of, apply-at, is-factor-operator, is-term-operator, simple-or, factor-reader, term-reader, expression-reader}
 use Rattle.text.specs.Walks.{nth-token, Steps}
 use Rattle.text.proofs.WalkLaws.{row-class, walk-stops, chain-turns}
 use Rattle.text.proofs.ExpressionWalks.{
@@ -31,6 +32,8 @@ use Rattle.text.proofs.ExpressionWalks.{
   factor-real,
   factor-round,
   factor-minus,
+  term-begins,
+  expression-begins,
 }
 use Rattle.cycles.specs.declared.evaluate.Binding.{Binding}
 use Rattle.cycles.specs.Evaluate.{value}
@@ -71,6 +74,14 @@ module _ (c : ℕ) where
   pub other-term-operator : (c ≡ PLUS → ⊥) → {r : Bool} → r ≡ eqb c MINUS → r ≡ is-term-operator c
   unfolding is-term-operator
   other-term-operator n q = rw (ne-eqb c PLUS n) q
+
+  -- the operators' classes are PLUS and more
+  pub no-operator : c < PLUS → (is-factor-operator c ≡ false) × (is-term-operator c ≡ false)
+  unfolding is-factor-operator is-term-operator
+  no-operator h = (
+    rw (ne-eqb c TIMES (λ q. omega arith), ne-eqb c DIVIDE (λ q. omega arith)),
+    rw (ne-eqb c PLUS (λ q. omega arith), ne-eqb c MINUS (λ q. omega arith)),
+  )
 
 -- ---- what begins with no opener
 
@@ -164,3 +175,17 @@ module _ {classes values refs : List ℕ} {b : Binding} {flags cells : List ℕ}
         chain-turns (in-store-rows classes values refs b flags cells) (expression-yields classes values refs b flags cells) test apply-at item g z
         (ap test (sym ec) ∙ sym er ∙ e) s h (λ c y w p ey ew.
         rw (row-class (c .rule .rows) i (p .inside), ← ey, ← ew) k)
+
+-- ---- a leaf alone
+
+-- below the openers' classes, and before no operator: `class` is found at number `at`, and `after` at number `next`
+pub leaf-alone : {classes values refs : List ℕ} {b : Binding} {flags cells : List ℕ} {at class after : ℕ} (left : ℕ) → class ≡ getD classes at 0
+    → class < REAL → {v : Value} {next : ℕ} → Expression-walk classes values refs b flags cells (simple-or halt) at v next
+    → after ≡ getD classes next 0 → after < PLUS → Expression-walk classes values refs b flags cells (expression-reader left) at v next
+leaf-alone {after = after} left is l h e k =
+    operators-stop is-term-operator (term-reader left)
+    (expression-begins left
+    (operators-stop is-factor-operator (factor-reader left)
+    (term-begins left (factor-no-opener is left (λ q. omega arith) (λ q. omega arith) (λ q. omega arith) h))
+    e refl (no-operator after k .0)))
+    e refl (no-operator after k .1)

@@ -51,3 +51,7 @@ pub mod CycleMemoryLaws
 pub mod CandidateLaws
 pub mod BindingWrites
 pub mod BindingPuts
+pub mod GuardLaws
+pub mod GuardPuts
+pub mod GuardWalks
+pub mod RuleGuards

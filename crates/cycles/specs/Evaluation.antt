@@ -22,9 +22,12 @@ use Rattle.cycles.specs.Evaluate.{value-at, value, filter-holds, test-ho
 
 -- ---- references
 
--- the entity that a reference means: an entity below 32, or a variable, 32 for the first
+-- the entity that a reference means: an entity below 32, or a variable, 32 for the first. A binding has the variables' entities as the bytes of
+-- one number, the first variable's the lowest
 unfoldable pub bound : Binding → ℕ → ℕ
-bound b r = cond (ltb r 32) r (cond (eqb r 32) (b .first) (cond (eqb r 33) (b .second) (b .third)))
+bound b r =
+    cond (ltb r 32) r
+    (cond (eqb r 32) (b .entities % 256) (cond (eqb r 33) (b .entities / 256 % 256) (b .entities / 65536 % 256)))
 
 -- what a reference says of a look-up, among so many entities: member m of entity e, or nothing, where m is no member's number
 pub data Locates (count : ℕ) (p : Option Spot) (e m : ℕ) : Type 0 where

@@ -23,4 +23,7 @@ pub mod HeaderReads
 pub mod LineReads
 pub mod Judging
 pub mod AllRules
+pub mod Guards
+pub mod Failing
+pub mod Finding
 pub mod CycleMemory

@@ -1,11 +1,15 @@
 // All rules, each for every binding of its variables.
-ghost use Prim.Native.Nat.{_≤_};
+ghost use Prim.Native.Nat.{_+_, _≤_};
 ghost use mathlib.Core.Path.{_≡_};
-ghost use lib.ListN.{length};
+ghost use lib.ListN.{length, getD};
+ghost use Rattle.checking.specs.Directory.{rule-row};
 ghost use Rattle.cycles.specs.AllRules.{complete, candidate, Entity-added, Bindings-put, Rules-put};
+ghost use Rattle.cycles.specs.Guards.{Guards-found};
 use crate::calls::rule_at;
 use crate::evaluate::Binding;
 use crate::evaluate::is_present;
+use crate::finding::find_guards;
+use crate::guards::is_refuted;
 use checking::class_at;
 use checking::row;
 
@@ -14,23 +18,15 @@ fn with_entity(b: Binding, level: u8, e: u8) -> Binding
     ensures { λ r. ⌜ Entity-added b level e r ⌝ }
 {
     if level == 0 {
-        return Binding {
-            first: e,
-            second: b.second,
-            third: b.third,
-        };
+        return Binding { entities: e as u32 };
     }
     if level == 1 {
         return Binding {
-            first: b.first,
-            second: e,
-            third: b.third,
+            entities: b.entities % 256 + 256 * (e as u32),
         };
     }
     Binding {
-        first: b.first,
-        second: b.second,
-        third: e,
+        entities: b.entities % 65536 + 65536 * (e as u32),
     }
 }
 
@@ -54,7 +50,7 @@ fn is_candidate(d: &[u16], flags: &[u8], face: u8, e: u8) -> bool
     row(d, 323 + (e as usize)) == face as usize
 }
 
-// Rule number k, for every binding that has b's entities for the first `level` variables.
+// Rule number k, for every binding that has b's entities for the first `level` variables. Its guards save those that would write nothing.
 fn bind(
     classes: &[u8],
     values: &[u32],
@@ -65,12 +61,15 @@ fn bind(
     cells: &[u8],
     previous_flags: &[u8],
     previous_cells: &[u8],
+    guards: &[usize],
+    count: usize,
     k: u8,
     level: u8,
     b: Binding,
     area: &mut [u8],
 )
     requires { ⌜ 3456 ≤ length (now area) ⌝ }
+    requires { ⌜ Guards-found (now classes) (now refs) (getD (now d) (rule-row k) 0 + 1) (now guards) count ⌝ }
     ensures { λ _. ⌜
         Bindings-put (now (classes .entry)) (now (values .entry)) (now (d .entry)) (now (refs .entry)) (now (scopes .entry)) (now (flags .entry))
         (now (cells .entry)) (now («previous_flags» .entry)) (now («previous_cells» .entry)) k level b (now (area .entry)) (now (area .exit)) ⌝ }
@@ -103,6 +102,22 @@ fn bind(
         if !is_candidate(d, flags, face, e) {
             continue;
         }
+        let with = with_entity(b, level, e);
+        if is_refuted(
+            classes,
+            values,
+            refs,
+            with,
+            flags,
+            cells,
+            previous_flags,
+            previous_cells,
+            guards,
+            count,
+            level + 1,
+        ) {
+            continue;
+        }
         bind(
             classes,
             values,
@@ -113,12 +128,33 @@ fn bind(
             cells,
             previous_flags,
             previous_cells,
+            guards,
+            count,
             k,
             level + 1,
-            with_entity(b, level, e),
+            with,
             area,
         );
     }
+}
+
+// The guards of rule number k, if it has two variables or more; with one they would cost what they save.
+fn rule_guards(
+    classes: &[u8],
+    refs: &[u16],
+    scopes: &[u8],
+    d: &[u16],
+    k: u8,
+    guards: &mut [usize],
+) -> usize
+    requires { ⌜ 64 ≤ length (now guards) ⌝ }
+    ensures { λ r. ⌜
+        Guards-found (now (classes .entry)) (now (refs .entry)) (getD (now (d .entry)) (rule-row k) 0 + 1) (now (guards .exit)) r ⌝ }
+{
+    if class_at(scopes, 4 * (k as usize)) < 2 {
+        return 0;
+    }
+    find_guards(classes, refs, row(d, 259 + (k as usize)) + 1, guards)
 }
 
 // What all rules write goes into the area, of 384 cells.
@@ -143,13 +179,11 @@ pub fn all_rules(
     if 64 < n {
         return;
     }
-    let none = Binding {
-        first: 0,
-        second: 0,
-        third: 0,
-    };
+    let none = Binding { entities: 0 };
+    let mut guards: [usize; 64] = [0; 64];
     let mut k: u8 = 0;
     while (k as usize) < n {
+        let count = rule_guards(classes, refs, scopes, d, k, &mut guards);
         bind(
             classes,
             values,
@@ -160,6 +194,8 @@ pub fn all_rules(
             cells,
             previous_flags,
             previous_cells,
+            &guards,
+            count,
             k,
             0,
             none,

@@ -18,10 +18,8 @@ use crate::evaluate::put;
 use crate::expressions::expression;
 use checking::class_at;
 use text::classes::COMMA;
+use text::grammar::OPENERS;
 use text::walks::skip;
-
-// The openers that may enclose one another.
-const OPENERS: u32 = 16;
 
 // One call: what it writes goes into the area, of 384 cells. The number of the token after it.
 fn call(

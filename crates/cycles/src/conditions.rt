@@ -110,14 +110,23 @@ fn test(
 {
     let inside = skip(at, classes.len());
     let cell = read_cell(flags, cells, e, m);
-    let earlier = read_cell(previous_flags, previous_cells, e, m);
     if class_at(classes, at) == CHANGED {
+        let earlier = read_cell(previous_flags, previous_cells, e, m);
         return Holding {
             holds: values::differ(cell, earlier),
             next: inside,
         };
     }
     let x = expression(classes, values, refs, b, flags, cells, inside, depth);
+    let v = x.value;
+    // The store before matters only where the values are equal now.
+    if !values::equal(cell, v) {
+        return Holding {
+            holds: false,
+            next: x.next,
+        };
+    }
+    let earlier = read_cell(previous_flags, previous_cells, e, m);
     let y = expression(
         classes,
         values,
@@ -128,10 +137,9 @@ fn test(
         inside,
         depth,
     );
-    let v = x.value;
     let w = y.value;
     Holding {
-        holds: both(values::equal(cell, v), !values::equal(earlier, w)),
+        holds: !values::equal(earlier, w),
         next: x.next,
     }
 }
@@ -190,7 +198,7 @@ fn clause(
 }
 
 // `depth` openers may still come.
-fn atom(
+pub fn atom(
     classes: &[u8],
     values: &[u32],
     refs: &[u16],

@@ -9,11 +9,9 @@ use checking::class_at;
 use checking::row;
 use values::Value;
 
-// The entities of a rule's variables, at most three.
+// The entities of a rule's variables, at most three: a byte for each, the first variable's the lowest. One number goes in a register.
 pub struct Binding {
-    pub first: u8,
-    pub second: u8,
-    pub third: u8,
+    pub entities: u32,
 }
 
 // What token number i refers to, a name that means an entity or a variable: the low 8 bits of its row.
@@ -38,12 +36,12 @@ pub fn bound(b: Binding, r: u8) -> u8
         return r;
     }
     if r == 32 {
-        return b.first;
+        return (b.entities % 256) as u8;
     }
     if r == 33 {
-        return b.second;
+        return (b.entities / 256 % 256) as u8;
     }
-    b.third
+    (b.entities / 65536 % 256) as u8
 }
 
 pub fn is_present(flags: &[u8], e: u8) -> bool

@@ -172,7 +172,7 @@ fn factor(
     let class = class_at(classes, at);
     let inside = skip(at, size);
     if class == REAL {
-        let x = expression(
+        let x = sum(
             classes,
             values,
             refs,
@@ -189,7 +189,7 @@ fn factor(
         };
     }
     if class == ROUND_OPEN {
-        let x = expression(classes, values, refs, b, flags, cells, inside, depth - 1);
+        let x = sum(classes, values, refs, b, flags, cells, inside, depth - 1);
         let v = x.value;
         return Valued {
             value: v,
@@ -207,6 +207,7 @@ fn factor(
     leaf(classes, values, refs, b, flags, cells, at)
 }
 
+// Factors under `*` and `/`.
 fn term(
     classes: &[u8],
     values: &[u32],
@@ -246,7 +247,8 @@ fn term(
     }
 }
 
-pub fn expression(
+// Terms under `+` and `-`.
+fn sum(
     classes: &[u8],
     values: &[u32],
     refs: &[u16],
@@ -283,4 +285,29 @@ pub fn expression(
         value: left,
         next: i,
     }
+}
+
+// Most expressions are one leaf. No opener has a class below that of `real`, and no operator one below that of `+`.
+pub fn expression(
+    classes: &[u8],
+    values: &[u32],
+    refs: &[u16],
+    b: Binding,
+    flags: &[u8],
+    cells: &[u8],
+    at: usize,
+    depth: u32,
+) -> Valued
+    ensures { λ r. ⌜
+        Expression-walk (now (classes .entry)) (now (values .entry)) (now (refs .entry)) b (now (flags .entry)) (now (cells .entry))
+        (expression-reader depth) at (r .value) (r .next) ⌝ }
+{
+    if REAL <= class_at(classes, at) {
+        return sum(classes, values, refs, b, flags, cells, at, depth);
+    }
+    let x = leaf(classes, values, refs, b, flags, cells, at);
+    if PLUS <= class_at(classes, x.next) {
+        return sum(classes, values, refs, b, flags, cells, at, depth);
+    }
+    x
 }

@@ -28,3 +28,4 @@ pub mod FlatLaws
 pub mod WalkLaws
 pub mod ExpressionWalks
 pub mod ConditionWalks
+pub mod EndLaws

@@ -58,3 +58,13 @@ module _ {C A R : Type 0} {classes : List ℕ} (rows : C → Rows classes) (yiel
     pub rest : (c : C) → rows c .low ≤ at → (u : R) (next : ℕ)
         → ((a : A) → (i ≤ rows c .high → yields c a v) → Means-at (rows c) (yields c) (loop test step a 0) i u next)
         → Means-at (rows c) (yields c) whole at u next
+
+-- what stands at number `at` is read there, up to number `next`
+pub record Read-there {A : Type 0} {classes : List ℕ} (r : Reader A) (at next : ℕ) (w : Rows classes) (a : A) (u : Unit {0}) : Type 0 where
+  pub used : ℕ
+  pub reads : r (drop at (w .tokens)) ≡ read a used
+  pub ends : next ≡ at + used
+
+-- a walk that gives where a reading ends, and no more
+abbrev pub Ends : {A : Type 0} → List ℕ → Reader A → ℕ → ℕ → Type 0
+Ends classes r at next = Walks {C = Rows classes} (λ w. w) (Read-there r at next) r at tt next

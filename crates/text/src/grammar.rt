@@ -49,7 +49,7 @@ use crate::classes::WHOLE_NUMBER;
 use crate::classes::WITH;
 
 // How many openers may enclose one another.
-const OPENERS: u32 = 16;
+pub const OPENERS: u32 = 16;
 
 // Where a reading ended: the index of the next token, or of the first that fits nothing.
 pub enum Parsed {
@@ -356,7 +356,7 @@ fn term(classes: &[u8], from: Parsed, depth: u32) -> Parsed
 }
 
 // Terms under `+` and `-`.
-fn expression(classes: &[u8], from: Parsed, depth: u32) -> Parsed
+pub fn expression(classes: &[u8], from: Parsed, depth: u32) -> Parsed
     ensures { λ r. ⌜ Reads-as (now (classes .entry)) (expression-reader depth) from r ⌝ }
 {
     let mut p = term(classes, from, depth);
@@ -414,7 +414,7 @@ fn clause(classes: &[u8], from: Parsed, depth: u32) -> Parsed
 }
 
 // `(` condition `)`, while openers may come, or a clause.
-fn atom(classes: &[u8], from: Parsed, depth: u32) -> Parsed
+pub fn atom(classes: &[u8], from: Parsed, depth: u32) -> Parsed
     ensures { λ r. ⌜ Reads-as (now (classes .entry)) (atom-reader depth) from r ⌝ }
 {
     if depth == 0 {

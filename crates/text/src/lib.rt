@@ -5,7 +5,7 @@ pub mod grammar; // which token classes make a file
 pub mod reader; // a text with an offset, from which items are taken
 pub mod reading; // a text into columns of tokens that are a file
 pub mod tokens; // what begins at an offset, and all tokens as columns
-pub mod walks; // one step over a column
+pub mod walks; // steps over a column, and where a reading ends
 
 pub use bytes::is_between;
 pub use bytes::is_blank;

@@ -5,18 +5,9 @@ use mathlib.Core.Path.{_≡_, refl, _∙_}
 use lib.ListN.{length}
 use borrow.Author.Needs.{needs}
 use borrow.Author.Tests.{not-true, not-false}
+use Rattle.cycles.proofs.BindingPuts.{incomplete-few, bindings-complete, bindings-impossible, Turns-left, turns-begin, turn-skips, turn-takes, turns-end}
 use borrow.Fn.Kinds.{In}
 use borrow.Fn.PlainCycle.{Measures, is, falls, and}
-use Rattle.cycles.proofs.BindingPuts.{
-  incomplete-few,
-  bindings-complete,
-  bindings-impossible,
-  Turns-left,
-  turns-begin,
-  turn-skips,
-  turn-takes,
-  turns-end,
-}
 use Rattle.cycles.proofs.bindings.bind.Reads as bind
 use Rattle.cycles.proofs.bindings.bind.Kinds as bind-kinds
 use Rattle.cycles.proofs.bindings.+bind.Lts-bind as bind-lts
@@ -26,17 +17,26 @@ use Rattle.cycles.proofs.bindings.is_candidate.Reads as is-candidate-re
 use Rattle.cycles.proofs.bindings.is_complete.Reads as is-complete-reads
 use Rattle.cycles.proofs.bindings.with_entity.Reads as with-entity-reads
 use Rattle.cycles.proofs.calls.rule_at.Reads as rule-at-reads
+use Rattle.cycles.proofs.guards.is_refuted.Reads as is-refuted-reads
 use Rattle.cycles.proofs.bindings.+bind.{statement}
 use Rattle.cycles.proofs.bindings.+bind.Tie.{close}
 
-abbrev μ-bind : Measures 10 bind-kinds.ps ℕ
-μ-bind κs a = 3 - a .1 .1 .1 .1 .1 .1 .1 .1 .1 .1 .0
+abbrev μ-bind : Measures 11 bind-kinds.ps ℕ
+μ-bind κs a = 3 - a .1 .1 .1 .1 .1 .1 .1 .1 .1 .1 .1 .1 .0
 
-abbrev bind-at : ℕ → In 10 bind-kinds.ps
-bind-at t = and 10 bind-kinds.ps (is 10 bind-kinds.ps μ-bind t) bind.Pre
+abbrev bind-at : ℕ → In 11 bind-kinds.ps
+bind-at t = and 11 bind-kinds.ps (is 11 bind-kinds.ps μ-bind t) bind.Pre
 
-abbrev bind-below : ℕ → In 10 bind-kinds.ps
-bind-below t = and 10 bind-kinds.ps (falls 10 bind-kinds.ps _<_ μ-bind t) bind.Pre
+abbrev bind-below : ℕ → In 11 bind-kinds.ps
+bind-below t = and 11 bind-kinds.ps (falls 11 bind-kinds.ps _<_ μ-bind t) bind.Pre
+
+abbrev bind-Inv-loop : bind-lts.InvT-loop
+bind-Inv-loop classes values refs scopes d flags cells previous-flags previous-cells guards count k level b area₀ n face next₀ area next =
+    (next ≤ n) × Turns-left classes values d refs scopes flags cells previous-flags previous-cells k level b area₀ next area
+    × (length area ≡ length area₀)
+
+abbrev bind-μ-loop : bind-lts.MeasureT-loop
+bind-μ-loop classes values refs scopes d flags cells previous-flags previous-cells guards count k level b area₀ n face next₀ area next = n - next
 
 abbrev bind-claims : ℕ → bind-lts.Claims
 bind-claims t = (
@@ -52,23 +52,17 @@ bind-claims t = (
   is-candidate-reads.Learnt,
   with-entity-reads.Asked,
   with-entity-reads.Learnt,
+  is-refuted-reads.Asked,
+  is-refuted-reads.Learnt,
   bind-below t,
   bind.Post,
 )
 
-abbrev bind-Inv-loop : bind-lts.InvT-loop
-bind-Inv-loop classes values refs scopes d flags cells previous-flags previous-cells k level b area₀ n face next₀ area next =
-    (next ≤ n) × Turns-left classes values d refs scopes flags cells previous-flags previous-cells k level b area₀ next area
-    × (length area ≡ length area₀)
-
-abbrev bind-μ-loop : bind-lts.MeasureT-loop
-bind-μ-loop classes values refs scopes d flags cells previous-flags previous-cells k level b area₀ n face next₀ area next = n - next
-
 -- the variables that have entities are not all
 few-bound : (t : ℕ) (c : bind-lts.Else1 (bind-claims t) (bind-at t) bind.Post bind-Inv-loop bind-μ-loop)
-    → c .before .before .before .before .before .before .before .before .before .before .before .before .args .level < 3
+    → c .before .before .before .before .before .before .before .before .before .before .before .before .before .args .level < 3
 few-bound t c =
-    let a = c .before .before .before .before .before .before .before .before .before .before .before .before .args in
+    let a = c .before .before .before .before .before .before .before .before .before .before .before .before .before .args in
     incomplete-few (a .scopes .now) (a .k) (a .level) (c .before .is-complete .ensures) (c .if1 .left)
 
 bind-is-complete-requires : (t : ℕ) → bind-lts.Need-is-complete-requires (bind-claims t) (bind-at t) bind.Post bind-Inv-loop bind-μ-loop
@@ -84,7 +78,7 @@ bind-add-at : (t : ℕ) → bind-lts.Need-add-at (bind-claims t) (bind-at t) bin
 bind-add-at t c = search needs
 
 bind-rule-at-requires : (t : ℕ) → bind-lts.Need-rule-at-requires (bind-claims t) (bind-at t) bind.Post bind-Inv-loop bind-μ-loop
-bind-rule-at-requires t c κs = c .before .before .before .before .before .before .before .before .before .before .before .before .before .before .pre .1
+bind-rule-at-requires t c κs = c .before .before .before .before .before .before .before .before .before .before .before .before .before .before .before .pre .1 .0
 
 bind-same-length : (t : ℕ) → bind-lts.Need-same-length (bind-claims t) (bind-at t) bind.Post bind-Inv-loop bind-μ-loop
 bind-same-length t c = c .before .before .rule-at .kept .1 .1 .1 .1 .1 .1 .1 .1 .1 .0
@@ -139,36 +133,61 @@ bind-loop-again t c = (
   c .before .before .before .loop .inv .2,
 )
 
-bind-add-bind : (t : ℕ) → bind-lts.Need-add-bind (bind-claims t) (bind-at t) bind.Post bind-Inv-loop bind-μ-loop
-bind-add-bind t c = search (needs, few-bound t (c .before .before .before .before .before .before .before))
-
 bind-with-entity-requires : (t : ℕ) → bind-lts.Need-with-entity-requires (bind-claims t) (bind-at t) bind.Post bind-Inv-loop bind-μ-loop
 bind-with-entity-requires t c κs = search needs
 
-bind-bind-requires : (t : ℕ) → bind-lts.Need-bind-requires (bind-claims t) (bind-at t) bind.Post bind-Inv-loop bind-μ-loop
-bind-bind-requires t c κs =
-    let s = c .before .before .before .before .before in
-    let start = s .before .before .before .before .before .before .before .before .before .before .before .before .before .before .before .before in (
-      omega (arith, start .pre .0, few-bound t (s .before .before .before .before)),
-      omega (arith, start .pre .1, s .loop .inv .2),
-    )
+bind-add-is-refuted : (t : ℕ) → bind-lts.Need-add-is-refuted (bind-claims t) (bind-at t) bind.Post bind-Inv-loop bind-μ-loop
+bind-add-is-refuted t c = search (needs, few-bound t (c .before .before .before .before .before .before .before .before))
+
+bind-is-refuted-requires : (t : ℕ) → bind-lts.Need-is-refuted-requires (bind-claims t) (bind-at t) bind.Post bind-Inv-loop bind-μ-loop
+bind-is-refuted-requires t c κs = search needs
 
 bind-loop-less-2 : (t : ℕ) → bind-lts.Need-loop-less-2 (bind-claims t) (bind-at t) bind.Post bind-Inv-loop bind-μ-loop
 bind-loop-less-2 t c = search needs
 
 bind-loop-again-2 : (t : ℕ) → bind-lts.Need-loop-again-2 (bind-claims t) (bind-at t) bind.Post bind-Inv-loop bind-μ-loop
-bind-loop-again-2 t c = (
-  omega (arith, c .before .before .before .before .before .before .before .loop-test .taken),
-  turn-takes (c .before .before .before .before .before .before .before .before .loop .inv .1)
-      (c .before .before .before .before .before .before .before .before .before .before .before .row2 .ensures .0)
-      (c .before .before .before .before .before .before .before .loop-test .taken)
-      (c .before .before .before .before .before .before .before .before .before .class-at .ensures)
-      (c .before .before .before .before .before .before .is-candidate .ensures)
-      (not-false _ (c .before .before .before .before .before .if3 .left))
-      (few-bound t (c .before .before .before .before .before .before .before .before .before .before .before .before))
-      (c .before .before .before .before .with-entity .ensures)
+bind-loop-again-2 t c =
+    let start = c .before .before .before .before .before .before .before .before .before .before .before .before .before .before .before .before .before .before .before .before .before .before .before in (
+      omega (arith, c .before .before .before .before .before .loop-test .taken),
+      turn-takes (c .before .before .before .before .before .before .loop .inv .1)
+          (c .before .before .before .before .before .before .before .before .before .row2 .ensures .0)
+          (c .before .before .before .before .before .loop-test .taken)
+          (c .before .before .before .before .before .before .before .class-at .ensures)
+          (c .before .before .before .before .is-candidate .ensures)
+          (not-false _ (c .before .before .before .if3 .left))
+          (few-bound t (c .before .before .before .before .before .before .before .before .before .before))
+          (c .before .before .with-entity .ensures)
+          (c .before .is-refuted .ensures .refutes (c .if4 .taken) (start .args .d .now) (start .args .scopes .now) (start .args .k) (start .pre .1 .1) _),
+      c .before .before .before .before .before .before .loop .inv .2,
+    )
+
+bind-add-bind : (t : ℕ) → bind-lts.Need-add-bind (bind-claims t) (bind-at t) bind.Post bind-Inv-loop bind-μ-loop
+bind-add-bind t c = search (needs, few-bound t (c .before .before .before .before .before .before .before .before .before .before))
+
+bind-bind-requires : (t : ℕ) → bind-lts.Need-bind-requires (bind-claims t) (bind-at t) bind.Post bind-Inv-loop bind-μ-loop
+bind-bind-requires t c κs =
+    let s = c .before .before .before .before .before .before .before in
+    let start = c .before .before .before .before .before .before .before .before .before .before .before .before .before .before .before .before .before .before .before .before .before .before .before .before in (
+      omega (arith, start .pre .0, few-bound t (c .before .before .before .before .before .before .before .before .before .before .before)),
+      (omega (arith, start .pre .1 .0, s .loop .inv .2), start .pre .1 .1),
+    )
+
+bind-loop-less-3 : (t : ℕ) → bind-lts.Need-loop-less-3 (bind-claims t) (bind-at t) bind.Post bind-Inv-loop bind-μ-loop
+bind-loop-less-3 t c = search needs
+
+bind-loop-again-3 : (t : ℕ) → bind-lts.Need-loop-again-3 (bind-claims t) (bind-at t) bind.Post bind-Inv-loop bind-μ-loop
+bind-loop-again-3 t c = (
+  omega (arith, c .before .before .before .before .before .before .before .before .before .loop-test .taken),
+  turn-takes (c .before .before .before .before .before .before .before .before .before .before .loop .inv .1)
+      (c .before .before .before .before .before .before .before .before .before .before .before .before .before .row2 .ensures .0)
+      (c .before .before .before .before .before .before .before .before .before .loop-test .taken)
+      (c .before .before .before .before .before .before .before .before .before .before .before .class-at .ensures)
+      (c .before .before .before .before .before .before .before .before .is-candidate .ensures)
+      (not-false _ (c .before .before .before .before .before .before .before .if3 .left))
+      (few-bound t (c .before .before .before .before .before .before .before .before .before .before .before .before .before .before))
+      (c .before .before .before .before .before .before .with-entity .ensures)
       (c .before .before .bind .ensures),
-  c .before .before .bind .kept .1 .1 .1 .1 .1 .1 .1 .1 .1 .1 .1 .1 .0 ∙ c .before .before .before .before .before .before .before .before .loop .inv .2,
+  c .before .before .bind .kept .1 .1 .1 .1 .1 .1 .1 .1 .1 .1 .1 .1 .1 .1 .0 ∙ c .before .before .before .before .before .before .before .before .before .before .loop .inv .2,
 )
 
 bind-same-length-2 : (t : ℕ) → bind-lts.Need-same-length-2 (bind-claims t) (bind-at t) bind.Post bind-Inv-loop bind-μ-loop
@@ -204,10 +223,14 @@ pub +bind-spec : {M : Type 1} → statement M
     (bind-is-candidate-requires t)
     (bind-loop-less t)
     (bind-loop-again t)
-    (bind-add-bind t)
     (bind-with-entity-requires t)
-    (bind-bind-requires t)
+    (bind-add-is-refuted t)
+    (bind-is-refuted-requires t)
     (bind-loop-less-2 t)
     (bind-loop-again-2 t)
+    (bind-add-bind t)
+    (bind-bind-requires t)
+    (bind-loop-less-3 t)
+    (bind-loop-again-3 t)
     (bind-same-length-2 t)
     (bind-returns-3 t)

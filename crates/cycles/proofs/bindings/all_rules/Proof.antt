@@ -9,11 +9,12 @@ use Rattle.cycles.proofs.bindings.all_rules.Statement.{statement}
 use Rattle.cycles.proofs.bindings.all_rules.Tie as tie
 
 abbrev Inv-loop : tie.InvT-loop
-Inv-loop classes values refs scopes d flags cells previous-flags previous-cells area₀ n none k₀ area k =
+Inv-loop classes values refs scopes d flags cells previous-flags previous-cells area₀ n none guards₀ k₀ area guards k =
     (k ≤ n) × Rules-left classes values d refs scopes flags cells previous-flags previous-cells area₀ k area × (length area ≡ length area₀)
+    × (length guards ≡ 64)
 
 abbrev μ-loop : tie.MeasureT-loop
-μ-loop classes values refs scopes d flags cells previous-flags previous-cells area₀ n none k₀ area k = n - k
+μ-loop classes values refs scopes d flags cells previous-flags previous-cells area₀ n none guards₀ k₀ area guards k = n - k
 
 row-requires : tie.Need-row-requires Inv-loop μ-loop
 row-requires c κs = search needs
@@ -22,13 +23,22 @@ returns : tie.Need-returns Inv-loop μ-loop
 returns c = rules-impossible (c .before .row .ensures .0) (c .if1 .taken)
 
 loop-holds : tie.Need-loop-holds Inv-loop μ-loop
-loop-holds c = (omega arith, rules-begin, refl)
+loop-holds c = (omega arith, rules-begin, refl, refl)
 
 cast-loop : tie.Need-cast-loop Inv-loop μ-loop
 cast-loop c = search needs
 
+slice-aggregate-rule-guards : tie.Need-slice-aggregate-rule-guards Inv-loop μ-loop
+slice-aggregate-rule-guards c = search needs
+
+rule-guards-requires : tie.Need-rule-guards-requires Inv-loop μ-loop
+rule-guards-requires c κs = omega (arith, c .before .before .loop .inv .3)
+
+slice-aggregate-bind : tie.Need-slice-aggregate-bind Inv-loop μ-loop
+slice-aggregate-bind c = search needs
+
 bind-requires : tie.Need-bind-requires Inv-loop μ-loop
-bind-requires c κs = omega (arith, c .before .before .loop .inv .2)
+bind-requires c κs = (omega (arith, c .before .before .before .before .before .before .loop .inv .2), c .before .before .before .rule-guards .ensures)
 
 add-k : tie.Need-add-k Inv-loop μ-loop
 add-k c = search needs
@@ -39,9 +49,10 @@ loop-less c = search needs
 loop-again : tie.Need-loop-again Inv-loop μ-loop
 loop-again c = (
   omega arith,
-  rule-turns (c .before .before .before .before .before .loop .inv .1) (c .before .before .before .before .before .before .before .row .ensures .0)
-      (c .before .before .before .before .loop-test .taken) (c .before .before .bind .ensures),
-  c .before .before .bind .kept .1 .1 .1 .1 .1 .1 .1 .1 .1 .1 .1 .1 .0 ∙ c .before .before .before .before .before .loop .inv .2,
+  rule-turns (c .before .before .before .before .before .before .before .before .before .loop .inv .1) (c .before .before .before .before .before .before .before .before .before .before .before .row .ensures .0)
+      (c .before .before .before .before .before .before .before .before .loop-test .taken) (c .before .before .bind .ensures),
+  c .before .before .bind .kept .1 .1 .1 .1 .1 .1 .1 .1 .1 .1 .1 .1 .1 .1 .0 ∙ c .before .before .before .before .before .before .before .before .before .loop .inv .2,
+  c .before .before .before .before .before .before .rule-guards .kept .1 .1 .1 .1 .1 .0 ∙ c .before .before .before .before .before .before .before .before .before .loop .inv .3,
 )
 
 same-length : tie.Need-same-length Inv-loop μ-loop
@@ -60,6 +71,9 @@ all-rules-spec =
     returns
     loop-holds
     cast-loop
+    slice-aggregate-rule-guards
+    rule-guards-requires
+    slice-aggregate-bind
     bind-requires
     add-k
     loop-less

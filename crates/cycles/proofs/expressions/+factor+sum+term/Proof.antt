@@ -1,4 +1,4 @@
--- `expression`, `factor` and `term` meet their contracts.
+-- `factor`, `sum` and `term` meet their contracts.
 -- The measures: each call leaves fewer openers to come, or as many and has a lower rank.
 use Prim.Native.Nat.{ℕ, _<_, _+_, _*_, _-_}
 use lib.ListN.{length}
@@ -20,15 +20,15 @@ use Rattle.cycles.proofs.ExpressionValues.{
   operator-turns,
 }
 use Rattle.cycles.proofs.EvaluationLaws.{turn-falls}
-use Rattle.cycles.proofs.expressions.expression.Reads as expression
-use Rattle.cycles.proofs.expressions.expression.Kinds as expression-kinds
-use Rattle.cycles.proofs.expressions.+expression+factor+term.Lts-expression as expression-lts
 use Rattle.cycles.proofs.expressions.factor.Reads as factor
 use Rattle.cycles.proofs.expressions.factor.Kinds as factor-kinds
-use Rattle.cycles.proofs.expressions.+expression+factor+term.Lts-factor as factor-lts
+use Rattle.cycles.proofs.expressions.+factor+sum+term.Lts-factor as factor-lts
+use Rattle.cycles.proofs.expressions.sum.Reads as sum
+use Rattle.cycles.proofs.expressions.sum.Kinds as sum-kinds
+use Rattle.cycles.proofs.expressions.+factor+sum+term.Lts-sum as sum-lts
 use Rattle.cycles.proofs.expressions.term.Reads as term
 use Rattle.cycles.proofs.expressions.term.Kinds as term-kinds
-use Rattle.cycles.proofs.expressions.+expression+factor+term.Lts-term as term-lts
+use Rattle.cycles.proofs.expressions.+factor+sum+term.Lts-term as term-lts
 use Rattle.checking.proofs.class_at.Reads as class-at-reads
 use Rattle.cycles.proofs.expressions.is_factor_operator.Reads as is-factor-operator-reads
 use Rattle.cycles.proofs.expressions.is_term_operator.Reads as is-term-operator-reads
@@ -38,25 +38,17 @@ use Rattle.text.proofs.walks.skip.Reads as skip-reads
 use Rattle.values.proofs.as_real.Reads as as-real-reads
 use Rattle.values.proofs.negate.Reads as negate-reads
 use Rattle.values.proofs.operate.Reads as operate-reads
-use Rattle.cycles.proofs.expressions.+expression+factor+term.{statement}
-use Rattle.cycles.proofs.expressions.+expression+factor+term.Tie.{close}
-
-abbrev μ-expression : Measures 5 expression-kinds.ps ℕ
-μ-expression κs a = a .1 .1 .1 .1 .1 .1 .1 .0 * 3 + 2
+use Rattle.cycles.proofs.expressions.+factor+sum+term.{statement}
+use Rattle.cycles.proofs.expressions.+factor+sum+term.Tie.{close}
 
 abbrev μ-factor : Measures 5 factor-kinds.ps ℕ
 μ-factor κs a = a .1 .1 .1 .1 .1 .1 .1 .0 * 3
 
+abbrev μ-sum : Measures 5 sum-kinds.ps ℕ
+μ-sum κs a = a .1 .1 .1 .1 .1 .1 .1 .0 * 3 + 2
+
 abbrev μ-term : Measures 5 term-kinds.ps ℕ
 μ-term κs a = a .1 .1 .1 .1 .1 .1 .1 .0 * 3 + 1
-
-abbrev expression-at : ℕ → In 5 expression-kinds.ps
-expression-at t =
-    and 5 expression-kinds.ps (is 5 expression-kinds.ps μ-expression t) expression.Pre
-
-abbrev expression-below : ℕ → In 5 expression-kinds.ps
-expression-below t =
-    and 5 expression-kinds.ps (falls 5 expression-kinds.ps _<_ μ-expression t) expression.Pre
 
 abbrev factor-at : ℕ → In 5 factor-kinds.ps
 factor-at t = and 5 factor-kinds.ps (is 5 factor-kinds.ps μ-factor t) factor.Pre
@@ -64,94 +56,19 @@ factor-at t = and 5 factor-kinds.ps (is 5 factor-kinds.ps μ-factor t) factor.Pr
 abbrev factor-below : ℕ → In 5 factor-kinds.ps
 factor-below t = and 5 factor-kinds.ps (falls 5 factor-kinds.ps _<_ μ-factor t) factor.Pre
 
+abbrev sum-at : ℕ → In 5 sum-kinds.ps
+sum-at t =
+    and 5 sum-kinds.ps (is 5 sum-kinds.ps μ-sum t) sum.Pre
+
+abbrev sum-below : ℕ → In 5 sum-kinds.ps
+sum-below t =
+    and 5 sum-kinds.ps (falls 5 sum-kinds.ps _<_ μ-sum t) sum.Pre
+
 abbrev term-at : ℕ → In 5 term-kinds.ps
 term-at t = and 5 term-kinds.ps (is 5 term-kinds.ps μ-term t) term.Pre
 
 abbrev term-below : ℕ → In 5 term-kinds.ps
 term-below t = and 5 term-kinds.ps (falls 5 term-kinds.ps _<_ μ-term t) term.Pre
-
-abbrev expression-claims : ℕ → expression-lts.Claims
-expression-claims t = (
-  term-below t,
-  term.Post,
-  class-at-reads.Asked,
-  class-at-reads.Learnt,
-  is-term-operator-reads.Asked,
-  is-term-operator-reads.Learnt,
-  operator-of-reads.Asked,
-  operator-of-reads.Learnt,
-  skip-reads.Asked,
-  skip-reads.Learnt,
-  operate-reads.Asked,
-  operate-reads.Learnt,
-)
-
-abbrev expression-Inv-loop : expression-lts.InvT-loop
-expression-Inv-loop classes values refs b flags cells at depth left₀ i₀ left i =
-    Expression-loop classes values refs b flags cells (expression-reader depth) is-term-operator (joined (term-reader depth) apply-at) at left i
-
-abbrev expression-μ-loop : expression-lts.MeasureT-loop
-expression-μ-loop classes values refs b flags cells at depth left₀ i₀ left i = length classes - i
-
-expression-term-requires : (t : ℕ) → expression-lts.Need-term-requires
-    (expression-claims t) (expression-at t) expression.Post expression-Inv-loop expression-μ-loop
-expression-term-requires t c κs = search needs
-
-expression-loop-holds : (t : ℕ) → expression-lts.Need-loop-holds
-    (expression-claims t) (expression-at t) expression.Post expression-Inv-loop expression-μ-loop
-expression-loop-holds t c = expression-begins _ (c .term .ensures)
-
-expression-class-at-requires : (t : ℕ) → expression-lts.Need-class-at-requires
-    (expression-claims t) (expression-at t) expression.Post expression-Inv-loop expression-μ-loop
-expression-class-at-requires t c κs = search needs
-
-expression-is-term-operator-requires : (t : ℕ) → expression-lts.Need-is-term-operator-requires
-    (expression-claims t) (expression-at t) expression.Post expression-Inv-loop expression-μ-loop
-expression-is-term-operator-requires t c κs = search needs
-
-expression-class-at-requires-2 : (t : ℕ) → expression-lts.Need-class-at-requires-2
-    (expression-claims t) (expression-at t) expression.Post expression-Inv-loop expression-μ-loop
-expression-class-at-requires-2 t c κs = search needs
-
-expression-operator-of-requires : (t : ℕ) → expression-lts.Need-operator-of-requires
-    (expression-claims t) (expression-at t) expression.Post expression-Inv-loop expression-μ-loop
-expression-operator-of-requires t c κs = search needs
-
-expression-skip-requires : (t : ℕ) → expression-lts.Need-skip-requires
-    (expression-claims t) (expression-at t) expression.Post expression-Inv-loop expression-μ-loop
-expression-skip-requires t c κs = search needs
-
-expression-term-requires-2 : (t : ℕ) → expression-lts.Need-term-requires-2
-    (expression-claims t) (expression-at t) expression.Post expression-Inv-loop expression-μ-loop
-expression-term-requires-2 t c κs = search needs
-
-expression-operate-requires : (t : ℕ) → expression-lts.Need-operate-requires
-    (expression-claims t) (expression-at t) expression.Post expression-Inv-loop expression-μ-loop
-expression-operate-requires t c κs = search needs
-
-expression-loop-less : (t : ℕ) → expression-lts.Need-loop-less
-    (expression-claims t) (expression-at t) expression.Post expression-Inv-loop expression-μ-loop
-expression-loop-less t c =
-    turn-falls is-term-operator term-operator-none
-    (c .before .before .before .before .before .before .before .before .before .before .before .before .before .before .before .args .classes .now)
-    (c .before .before .before .before .before .before .before .class-at .ensures)
-    (c .before .before .before .before .before .before .is-term-operator .ensures) (c .before .before .before .before .before .if1 .taken)
-    (c .before .before .skip .ensures) (c .before .term2 .ensures .onward)
-
-expression-loop-again : (t : ℕ) → expression-lts.Need-loop-again
-    (expression-claims t) (expression-at t) expression.Post expression-Inv-loop expression-μ-loop
-expression-loop-again t c =
-    operator-turns is-term-operator _ (c .before .before .before .before .before .before .before .before .loop .inv)
-    (c .before .before .before .before .before .before .before .class-at .ensures)
-    (c .before .before .before .before .before .before .is-term-operator .ensures) term-operator-none
-    (c .before .before .before .before .before .if1 .taken) (c .before .before .before .before .class-at2 .ensures)
-    (c .before .before .before .operator-of .ensures) (c .before .before .skip .ensures) (c .before .term2 .ensures) (c .operate .ensures)
-
-expression-returns : (t : ℕ) → expression-lts.Need-returns
-    (expression-claims t) (expression-at t) expression.Post expression-Inv-loop expression-μ-loop
-expression-returns t c =
-    operators-stop is-term-operator _ (c .before .before .before .loop .inv) (c .before .before .class-at .ensures)
-    (c .before .is-term-operator .ensures) (c .if1 .left)
 
 abbrev factor-claims : ℕ → factor-lts.Claims
 factor-claims t = (
@@ -161,8 +78,8 @@ factor-claims t = (
   class-at-reads.Learnt,
   skip-reads.Asked,
   skip-reads.Learnt,
-  expression-below t,
-  expression.Post,
+  sum-below t,
+  sum.Post,
   as-real-reads.Asked,
   as-real-reads.Learnt,
   factor-below t,
@@ -186,11 +103,11 @@ factor-skip-requires t c κs = search needs
 factor-skip-requires-2 : (t : ℕ) → factor-lts.Need-skip-requires-2 (factor-claims t) (factor-at t) factor.Post
 factor-skip-requires-2 t c κs = search needs
 
-factor-sub-expression : (t : ℕ) → factor-lts.Need-sub-expression (factor-claims t) (factor-at t) factor.Post
-factor-sub-expression t c = search needs
+factor-sub-sum : (t : ℕ) → factor-lts.Need-sub-sum (factor-claims t) (factor-at t) factor.Post
+factor-sub-sum t c = search needs
 
-factor-expression-requires : (t : ℕ) → factor-lts.Need-expression-requires (factor-claims t) (factor-at t) factor.Post
-factor-expression-requires t c κs = search needs
+factor-sum-requires : (t : ℕ) → factor-lts.Need-sum-requires (factor-claims t) (factor-at t) factor.Post
+factor-sum-requires t c κs = search needs
 
 factor-as-real-requires : (t : ℕ) → factor-lts.Need-as-real-requires (factor-claims t) (factor-at t) factor.Post
 factor-as-real-requires t c κs = search needs
@@ -202,14 +119,14 @@ factor-returns-2 : (t : ℕ) → factor-lts.Need-returns-2 (factor-claims t) (fa
 factor-returns-2 t c =
     factor-to-real (c .before .before .before .before .before .before .class-at .ensures) _
     (c .before .before .before .before .before .before .before .if1 .left) (c .before .before .before .before .if2 .taken)
-    (c .before .before .before .before .before .skip .ensures) (c .before .before .before .skip2 .ensures) (c .before .before .expression .ensures)
+    (c .before .before .before .before .before .skip .ensures) (c .before .before .before .skip2 .ensures) (c .before .before .sum .ensures)
     (c .before .as-real .ensures) (c .skip3 .ensures)
 
-factor-sub-expression-2 : (t : ℕ) → factor-lts.Need-sub-expression-2 (factor-claims t) (factor-at t) factor.Post
-factor-sub-expression-2 t c = search needs
+factor-sub-sum-2 : (t : ℕ) → factor-lts.Need-sub-sum-2 (factor-claims t) (factor-at t) factor.Post
+factor-sub-sum-2 t c = search needs
 
-factor-expression-requires-2 : (t : ℕ) → factor-lts.Need-expression-requires-2 (factor-claims t) (factor-at t) factor.Post
-factor-expression-requires-2 t c κs = search needs
+factor-sum-requires-2 : (t : ℕ) → factor-lts.Need-sum-requires-2 (factor-claims t) (factor-at t) factor.Post
+factor-sum-requires-2 t c κs = search needs
 
 factor-skip-requires-4 : (t : ℕ) → factor-lts.Need-skip-requires-4 (factor-claims t) (factor-at t) factor.Post
 factor-skip-requires-4 t c κs = search needs
@@ -217,7 +134,7 @@ factor-skip-requires-4 t c κs = search needs
 factor-returns-3 : (t : ℕ) → factor-lts.Need-returns-3 (factor-claims t) (factor-at t) factor.Post
 factor-returns-3 t c =
     factor-inside (c .before .before .before .before .before .class-at .ensures) _ (c .before .before .before .before .before .before .if1 .left)
-    (c .before .before .if3 .taken) (c .before .before .before .before .skip .ensures) (c .before .expression2 .ensures) (c .skip4 .ensures)
+    (c .before .before .if3 .taken) (c .before .before .before .before .skip .ensures) (c .before .sum2 .ensures) (c .skip4 .ensures)
 
 factor-sub-factor : (t : ℕ) → factor-lts.Need-sub-factor (factor-claims t) (factor-at t) factor.Post
 factor-sub-factor t c = search needs
@@ -241,6 +158,89 @@ factor-returns-5 : (t : ℕ) → factor-lts.Need-returns-5 (factor-claims t) (fa
 factor-returns-5 t c =
     factor-no-opener (c .before .before .before .before .before .class-at .ensures) _ (c .before .before .before .if2 .left)
     (c .before .before .if3 .left) (c .before .if4 .left) (c .leaf2 .ensures)
+
+abbrev sum-claims : ℕ → sum-lts.Claims
+sum-claims t = (
+  term-below t,
+  term.Post,
+  class-at-reads.Asked,
+  class-at-reads.Learnt,
+  is-term-operator-reads.Asked,
+  is-term-operator-reads.Learnt,
+  operator-of-reads.Asked,
+  operator-of-reads.Learnt,
+  skip-reads.Asked,
+  skip-reads.Learnt,
+  operate-reads.Asked,
+  operate-reads.Learnt,
+)
+
+abbrev sum-Inv-loop : sum-lts.InvT-loop
+sum-Inv-loop classes values refs b flags cells at depth left₀ i₀ left i =
+    Expression-loop classes values refs b flags cells (expression-reader depth) is-term-operator (joined (term-reader depth) apply-at) at left i
+
+abbrev sum-μ-loop : sum-lts.MeasureT-loop
+sum-μ-loop classes values refs b flags cells at depth left₀ i₀ left i = length classes - i
+
+sum-term-requires : (t : ℕ) → sum-lts.Need-term-requires
+    (sum-claims t) (sum-at t) sum.Post sum-Inv-loop sum-μ-loop
+sum-term-requires t c κs = search needs
+
+sum-loop-holds : (t : ℕ) → sum-lts.Need-loop-holds
+    (sum-claims t) (sum-at t) sum.Post sum-Inv-loop sum-μ-loop
+sum-loop-holds t c = expression-begins _ (c .term .ensures)
+
+sum-class-at-requires : (t : ℕ) → sum-lts.Need-class-at-requires
+    (sum-claims t) (sum-at t) sum.Post sum-Inv-loop sum-μ-loop
+sum-class-at-requires t c κs = search needs
+
+sum-is-term-operator-requires : (t : ℕ) → sum-lts.Need-is-term-operator-requires
+    (sum-claims t) (sum-at t) sum.Post sum-Inv-loop sum-μ-loop
+sum-is-term-operator-requires t c κs = search needs
+
+sum-class-at-requires-2 : (t : ℕ) → sum-lts.Need-class-at-requires-2
+    (sum-claims t) (sum-at t) sum.Post sum-Inv-loop sum-μ-loop
+sum-class-at-requires-2 t c κs = search needs
+
+sum-operator-of-requires : (t : ℕ) → sum-lts.Need-operator-of-requires
+    (sum-claims t) (sum-at t) sum.Post sum-Inv-loop sum-μ-loop
+sum-operator-of-requires t c κs = search needs
+
+sum-skip-requires : (t : ℕ) → sum-lts.Need-skip-requires
+    (sum-claims t) (sum-at t) sum.Post sum-Inv-loop sum-μ-loop
+sum-skip-requires t c κs = search needs
+
+sum-term-requires-2 : (t : ℕ) → sum-lts.Need-term-requires-2
+    (sum-claims t) (sum-at t) sum.Post sum-Inv-loop sum-μ-loop
+sum-term-requires-2 t c κs = search needs
+
+sum-operate-requires : (t : ℕ) → sum-lts.Need-operate-requires
+    (sum-claims t) (sum-at t) sum.Post sum-Inv-loop sum-μ-loop
+sum-operate-requires t c κs = search needs
+
+sum-loop-less : (t : ℕ) → sum-lts.Need-loop-less
+    (sum-claims t) (sum-at t) sum.Post sum-Inv-loop sum-μ-loop
+sum-loop-less t c =
+    turn-falls is-term-operator term-operator-none
+    (c .before .before .before .before .before .before .before .before .before .before .before .before .before .before .before .args .classes .now)
+    (c .before .before .before .before .before .before .before .class-at .ensures)
+    (c .before .before .before .before .before .before .is-term-operator .ensures) (c .before .before .before .before .before .if1 .taken)
+    (c .before .before .skip .ensures) (c .before .term2 .ensures .onward)
+
+sum-loop-again : (t : ℕ) → sum-lts.Need-loop-again
+    (sum-claims t) (sum-at t) sum.Post sum-Inv-loop sum-μ-loop
+sum-loop-again t c =
+    operator-turns is-term-operator _ (c .before .before .before .before .before .before .before .before .loop .inv)
+    (c .before .before .before .before .before .before .before .class-at .ensures)
+    (c .before .before .before .before .before .before .is-term-operator .ensures) term-operator-none
+    (c .before .before .before .before .before .if1 .taken) (c .before .before .before .before .class-at2 .ensures)
+    (c .before .before .before .operator-of .ensures) (c .before .before .skip .ensures) (c .before .term2 .ensures) (c .operate .ensures)
+
+sum-returns : (t : ℕ) → sum-lts.Need-returns
+    (sum-claims t) (sum-at t) sum.Post sum-Inv-loop sum-μ-loop
+sum-returns t c =
+    operators-stop is-term-operator _ (c .before .before .before .loop .inv) (c .before .before .class-at .ensures)
+    (c .before .is-term-operator .ensures) (c .if1 .left)
 
 abbrev term-claims : ℕ → term-lts.Claims
 term-claims t = (
@@ -313,25 +313,8 @@ term-returns t c =
     operators-stop is-factor-operator _ (c .before .before .before .loop .inv) (c .before .before .class-at .ensures)
     (c .before .is-factor-operator .ensures) (c .if1 .left)
 
-pub +expression+factor+term-spec : {M : Type 1} → statement M
-+expression+factor+term-spec = close μ-expression μ-factor μ-term (λ t. expression-lts.spec (expression-claims t)
-    (expression-at t)
-    expression.Post
-    expression-Inv-loop
-    expression-μ-loop
-    (expression-term-requires t)
-    (expression-loop-holds t)
-    (expression-class-at-requires t)
-    (expression-is-term-operator-requires t)
-    (expression-class-at-requires-2 t)
-    (expression-operator-of-requires t)
-    (expression-skip-requires t)
-    (expression-term-requires-2 t)
-    (expression-operate-requires t)
-    (expression-loop-less t)
-    (expression-loop-again t)
-    (expression-returns t))
-    (λ t. factor-lts.spec (factor-claims t)
+pub +factor+sum+term-spec : {M : Type 1} → statement M
++factor+sum+term-spec = close μ-factor μ-sum μ-term (λ t. factor-lts.spec (factor-claims t)
     (factor-at t)
     factor.Post
     (factor-leaf-requires t)
@@ -339,13 +322,13 @@ pub +expression+factor+term-spec : {M : Type 1} → statement M
     (factor-class-at-requires t)
     (factor-skip-requires t)
     (factor-skip-requires-2 t)
-    (factor-sub-expression t)
-    (factor-expression-requires t)
+    (factor-sub-sum t)
+    (factor-sum-requires t)
     (factor-as-real-requires t)
     (factor-skip-requires-3 t)
     (factor-returns-2 t)
-    (factor-sub-expression-2 t)
-    (factor-expression-requires-2 t)
+    (factor-sub-sum-2 t)
+    (factor-sum-requires-2 t)
     (factor-skip-requires-4 t)
     (factor-returns-3 t)
     (factor-sub-factor t)
@@ -354,6 +337,23 @@ pub +expression+factor+term-spec : {M : Type 1} → statement M
     (factor-returns-4 t)
     (factor-leaf-requires-2 t)
     (factor-returns-5 t))
+    (λ t. sum-lts.spec (sum-claims t)
+    (sum-at t)
+    sum.Post
+    sum-Inv-loop
+    sum-μ-loop
+    (sum-term-requires t)
+    (sum-loop-holds t)
+    (sum-class-at-requires t)
+    (sum-is-term-operator-requires t)
+    (sum-class-at-requires-2 t)
+    (sum-operator-of-requires t)
+    (sum-skip-requires t)
+    (sum-term-requires-2 t)
+    (sum-operate-requires t)
+    (sum-loop-less t)
+    (sum-loop-again t)
+    (sum-returns t))
     λ t. term-lts.spec (term-claims t)
     (term-at t)
     term.Post

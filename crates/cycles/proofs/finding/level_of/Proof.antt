@@ -1,0 +1,50 @@
+-- `level_of` meets its contract. The invariant: the level covers the tokens before number i.
+use Prim.Native.Nat.{_-_}
+use Rattle.cycles.specs.Guards.{Covered}
+use Rattle.cycles.proofs.GuardPuts.{covered-none, covered-fewer, covered-more, covered-append}
+use borrow.Author.Needs.{needs}
+use Rattle.cycles.proofs.finding.level_of.Statement.{statement}
+use Rattle.cycles.proofs.finding.level_of.Tie as tie
+
+abbrev Inv-loop : tie.InvT-loop
+Inv-loop refs from to level₀ i₀ level i = Covered refs level from i
+
+abbrev μ-loop : tie.MeasureT-loop
+μ-loop refs from to level₀ i₀ level i = to - i
+
+loop-holds : tie.Need-loop-holds Inv-loop μ-loop
+loop-holds c = covered-none _ _
+
+level-at-requires : tie.Need-level-at-requires Inv-loop μ-loop
+level-at-requires c κs = search needs
+
+greater-requires : tie.Need-greater-requires Inv-loop μ-loop
+greater-requires c κs = search needs
+
+add-i : tie.Need-add-i Inv-loop μ-loop
+add-i c = search needs
+
+loop-less : tie.Need-loop-less Inv-loop μ-loop
+loop-less c = search needs
+
+loop-again : tie.Need-loop-again Inv-loop μ-loop
+loop-again c =
+    covered-append (covered-more (c .greater .ensures .0) (c .before .before .before .loop .inv))
+    (covered-more (c .greater .ensures .1) (c .before .level-at .ensures))
+
+returns : tie.Need-returns Inv-loop μ-loop
+returns c = covered-fewer (c .loop-test .left) (c .before .loop .inv)
+
+pub level-of-spec : {M : Type 1} → statement M
+level-of-spec =
+    tie.close
+    (tie.spec
+    Inv-loop
+    μ-loop
+    loop-holds
+    level-at-requires
+    greater-requires
+    add-i
+    loop-less
+    loop-again
+    returns)

@@ -1,0 +1,21 @@
+-- `guard_row` meets its contract.
+use mathlib.Core.Path.{sym}
+use lib.ListN.{List·getD-eq-default}
+use borrow.Author.Needs.{needs}
+use Rattle.cycles.proofs.guards.guard_row.Statement.{statement}
+use Rattle.cycles.proofs.guards.guard_row.Tie as tie
+
+returns : tie.Need-returns
+returns c = sym (List·getD-eq-default (c .before .args .guards .now) 0 (c .if1 .taken))
+
+mul-result : tie.Need-mul-result
+mul-result c = search needs
+
+shared-slice-read-result : tie.Need-shared-slice-read-result
+shared-slice-read-result c = search needs
+
+returns-2 : tie.Need-returns-2
+returns-2 c = search needs
+
+pub guard-row-spec : {M : Type 1} → statement M
+guard-row-spec = tie.close (tie.spec returns mul-result shared-slice-read-result returns-2)

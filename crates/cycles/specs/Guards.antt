@@ -1,0 +1,90 @@
+-- Guards of a rule: what must hold at a binding for the rule to write anything there. They are found in the rule's tokens, once for all bindings,
+-- and stand in memory with the tokens that they speak of. A binding that fails one is given up before its later variables get entities.
+use Prim.Native.Nat.{ℕ, _+_, _*_, _/_, _%_, _<_, _≤_}
+use mathlib.Core.Path.{_≡_}
+use mathlib.Core.List.{List, []}
+use mathlib.Core.Bool.{Bool, true, false}
+use mathlib.Core.Option.{Option}
+use mathlib.Core.Logic.{_⊎_}
+use lib.ListN.{getD, drop}
+use Rattle.values.specs.Value.{equal, differ}
+use Rattle.text.specs.Tokens.{Token, NAME, EVENT, FROM, WITH, ON}
+use Rattle.text.specs.Syntax.{Expression, Condition, Rule}
+use Rattle.text.specs.Readers.{Reader, read}
+use Rattle.text.specs.Grammar.{OPENERS, expression-reader, atom-reader, rule-after}
+use Rattle.text.specs.Walks.{nth-token, Rows, Stands}
+use Rattle.checking.specs.Directory.{rule-row}
+use Rattle.cycles.specs.declared.evaluate.Binding.{Binding}
+use Rattle.cycles.specs.Store.{Store}
+use Rattle.cycles.specs.Spots.{Spot, Spots}
+use Rattle.cycles.specs.Evaluate.{value-at, value, holds, binding-writes}
+use Rattle.cycles.specs.Evaluation.{Targeted}
+use Rattle.cycles.specs.AllRules.{Bindings-put}
+
+-- the variables that tokens from `low` up to `high` refer to are among the first `level`
+pub record Covered (refs : List ℕ) (level low high : ℕ) : Type 0 where
+  pub covers : (i v : ℕ) → low ≤ i → i < high → getD refs i 0 % 256 ≡ 32 + v → v < 3 → v < level
+
+-- token number n names an entity or a variable, and token number m a member of it
+pub data Names {classes : List ℕ} (w : Rows classes) : ℕ → ℕ → Type 0 where
+  -- `event` name `from` target
+  source : {i : ℕ} → Stands w i EVENT → Stands w (i + 1) NAME → Stands w (i + 1 + 1) FROM → Stands w (i + 1 + 1 + 1) NAME
+      → Names w (i + 1 + 1 + 1) (i + 1)
+  -- `from` or `on`, target, `with` attribute
+  attribute : {k i : ℕ} → Stands w k FROM ⊎ Stands w k ON → Targeted w (k + 1) i → Stands w i WITH → Stands w (i + 1) NAME
+      → Names w (k + 1) (i + 1)
+
+abbrev pub spot-named : {classes : List ℕ} → Rows classes → Spots → ℕ → ℕ → Option Spot
+spot-named w sp n m = sp (nth-token (w .tokens) n .bytes) (nth-token (w .tokens) m .bytes)
+
+-- what a reader reads at number `at`, of the first `level` variables
+pub record Part {A : Type 0} {classes : List ℕ} (reader : Reader A) (w : Rows classes) (refs : List ℕ) (level at : ℕ) (a : A) : Type 0 where
+  pub used : ℕ
+  pub reads : reader (drop at (w .tokens)) ≡ read a used
+  pub from : w .low ≤ at
+  pub before : at + used ≤ w .high
+  pub covered : Covered refs level at (at + used)
+
+-- a guard of this kind, for tokens number n, m and `at`: where it fails, there is silence
+pub data Guard {classes : List ℕ} (w : Rows classes) (refs : List ℕ) (silence : Spots → Store → Store → Type 0) (level kind n m at : ℕ) : Type 0 where
+  equals-now : kind ≡ 0 → Names w n m → Covered refs level n (n + 1) → {x : Expression} → Part (expression-reader OPENERS) w refs level at x
+      → ((sp : Spots) (now previous : Store) → equal (value-at now (spot-named w sp n m)) (value sp now x) ≡ false → silence sp now previous)
+      → Guard w refs silence level kind n m at
+  equals-before : kind ≡ 1 → Names w n m → Covered refs level n (n + 1) → {x : Expression} → Part (expression-reader OPENERS) w refs level at x
+      → ((sp : Spots) (now previous : Store) → equal (value-at previous (spot-named w sp n m)) (value sp previous x) ≡ false → silence sp now previous)
+      → Guard w refs silence level kind n m at
+  differs-before : kind ≡ 2 → Names w n m → Covered refs level n (n + 1) → {x : Expression} → Part (expression-reader OPENERS) w refs level at x
+      → ((sp : Spots) (now previous : Store) → equal (value-at previous (spot-named w sp n m)) (value sp previous x) ≡ true → silence sp now previous)
+      → Guard w refs silence level kind n m at
+  changes : kind ≡ 3 → Names w n m → Covered refs level n (n + 1)
+      → ((sp : Spots) (now previous : Store) → differ (value-at now (spot-named w sp n m)) (value-at previous (spot-named w sp n m)) ≡ false
+      → silence sp now previous)
+      → Guard w refs silence level kind n m at
+  group : kind ≡ 4 → {a : Condition} → Part (atom-reader OPENERS) w refs level at a
+      → ((sp : Spots) (now previous : Store) → holds sp now previous a ≡ false → silence sp now previous)
+      → Guard w refs silence level kind n m at
+
+-- guard number j in memory has four rows: its kind and level, and three tokens
+module _ (guards : List ℕ) (j : ℕ) where
+  abbrev pub guard-kind : ℕ
+  guard-kind = getD guards (4 * j) 0 % 8
+
+  abbrev pub guard-level : ℕ
+  guard-level = getD guards (4 * j) 0 / 8
+
+-- so many guards
+abbrev pub Guarded : {classes : List ℕ} → Rows classes → List ℕ → (Spots → Store → Store → Type 0) → List ℕ → ℕ → Type 0
+Guarded w refs silence guards count =
+    (j : ℕ) → j < count
+    → Guard w refs silence (guard-level guards j) (guard-kind guards j) (getD guards (4 * j + 1) 0) (getD guards (4 * j + 2) 0) (getD guards (4 * j + 3) 0)
+
+-- they are those of the rule whose tokens after `when` begin at number `at`: where one fails, the rule writes nothing
+pub record Guards-found (classes refs : List ℕ) (at : ℕ) (guards : List ℕ) (count : ℕ) : Type 0 where
+  pub found : (w : Rows classes) → w .low ≤ at → (start : Token) (r : Rule) (used : ℕ) → rule-after start (drop at (w .tokens)) ≡ read r used
+      → at + used ≤ w .high → Guarded w refs (λ sp now previous. binding-writes sp now previous r ≡ []) guards count
+
+-- an answer `true`: no binding that begins with entities for the first `level` variables writes anything
+pub record Refutes (classes values refs flags cells previous-flags previous-cells : List ℕ) (b : Binding) (guards : List ℕ) (count level : ℕ) (r : Bool)
+    : Type 0 where
+  pub refutes : r ≡ true → (d scopes : List ℕ) (k : ℕ) → Guards-found classes refs (getD d (rule-row k) 0 + 1) guards count
+      → (area : List ℕ) → Bindings-put classes values d refs scopes flags cells previous-flags previous-cells k level b area area
