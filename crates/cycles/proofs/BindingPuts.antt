@@ -3,13 +3,14 @@ use Prim.Native.Nat.{ℕ, zero, suc, _+_, _*_, _%_, _≤_, _<_}
 use native.Mathlib.Numerals.{add-one}
 use native.Mathlib.Omega.{arith}
 use mathlib.Core.Path.{_≡_, refl, sym, ap, _∙_}
-use mathlib.Core.Bool.{Bool, true, false, _&&_, _||_}
+use mathlib.Core.Bool.{Bool, true, false, true≢false, _&&_, _||_}
 use mathlib.Core.List.{List, [], _∷_, _++_, flatMap}
 use mathlib.Core.Option.{some}
-use lib.Dec.{T, leb, eqb}
+use lib.Dec.{T, leb, ltb, eqb}
 use lib.Ieee.Fits.{and-r}
-use lib.ListN.{length, getD, getElem?, drop, drop-of-length-le}
-use borrow.Author.Tests.{leb-true, leb-false, eqb-true, eqb-false, le-leb, lt-leb}
+use lib.ListN.{length, getD, getElem?, drop, drop-of-length-le, set, length-set}
+use lib.Seq.{getD-set-same, getD-set-other}
+use borrow.Author.Tests.{leb-true, leb-false, ltb-true, ltb-false, eqb-true, eqb-false, le-leb, lt-leb}
 use Rattle.values.specs.Bytes.{same-bytes}
 use Rattle.text.specs.Syntax.{Entity, Rule}
 use Rattle.text.proofs.ListLaws.{some-injective, none-some}
@@ -21,7 +22,7 @@ use Rattle.checking.proofs.DirectoryLaws.{number-inside}
 use Rattle.cycles.specs.declared.evaluate.Binding.{Binding}
 use Rattle.cycles.specs.Bindings.{bindings, rule-writes, all-writes}
 use Rattle.cycles.specs.Evaluation.{bound, puts, Rule-puts}
-use Rattle.cycles.specs.AllRules.{Rules-given, Gives, complete, candidate, Entity-added, Bindings-put, Rules-put}
+use Rattle.cycles.specs.AllRules.{Rules-given, Gives, complete, candidate, Ranged, Ranges, Entity-added, Bindings-put, Rules-put}
 use Rattle.cycles.specs.Guards.{Guards-found}
 use Rattle.cycles.proofs.EvaluationLaws.{puts-append}
 use Rattle.cycles.proofs.ResolvedLaws.{rule-puts-binding}
@@ -33,6 +34,7 @@ use Rattle.cycles.proofs.BindingWrites.{
   few,
   variable-count,
   entity-count,
+  face-below,
   next-variable,
   candidate-is,
   with-entity,
@@ -65,6 +67,65 @@ module _ (d flags : List ℕ) (face e : ℕ) {p : Bool} (present : p ≡ eqb (ge
 
   pub candidate-present : p ≡ true → {r : ℕ} → r ≡ getD d (entity-interface-row e) 0 → eqb r face ≡ candidate d flags face e
   candidate-present f g = rw (sym present ∙ f, g)
+
+-- ---- ranges of candidates
+
+module _ {d flags : List ℕ} {face : ℕ} where
+  pub range-begins : Ranged d flags 0 face 0 0
+  range-begins = record { most = omega arith; among = λ e l c. absurd (omega arith) }
+
+  -- one entity more
+  module _ {e first end : ℕ} (r : Ranged d flags e face first end) {t : Bool} (is : t ≡ candidate d flags face e) where
+    pub range-skips : t ≡ false → Ranged d flags (e + 1) face first end
+    range-skips f = record { most = omega (arith, r .most); among = λ x l c. go x l c (ltb x e) refl }
+      where
+        go : (x : ℕ) → x < e + 1 → candidate d flags face x ≡ true → (b : Bool) → ltb x e ≡ b → (first ≤ x) × (x < end)
+        go x l c true q = r .among x (ltb-true x e q) c
+        go x l c false q =
+            let h : e ≡ x = omega (arith, ltb-false x e q) in
+            absurd (true≢false (sym c ∙ ap (candidate d flags face) (sym h) ∙ sym is ∙ f))
+
+    pub range-takes : {start : ℕ} → start ≤ e → (end ≡ 0 → start ≡ e) → ((end ≡ 0 → ⊥) → start ≡ first) → Ranged d flags (e + 1) face start (e + 1)
+    range-takes {start} s y n = record { most = omega arith; among = λ x l c. go x l c (ltb x e) refl }
+      where
+        go : (x : ℕ) → x < e + 1 → candidate d flags face x ≡ true → (b : Bool) → ltb x e ≡ b → (start ≤ x) × (x < e + 1)
+        go x l c true q =
+            let p = r .among x (ltb-true x e q) c in
+            (omega (arith, p .0, p .1, n (λ z. omega (arith, p .1))), l)
+        go x l c false q = (omega (arith, ltb-false x e q), l)
+
+-- the ranges of the interfaces before number `face`
+abbrev pub Ranges-before : List ℕ → List ℕ → ℕ → List ℕ → ℕ → Type 0
+Ranges-before d flags n ranges face = (f : ℕ) → f < face → Ranged d flags n f (getD ranges (2 * f) 0) (getD ranges (2 * f + 1) 0)
+
+module _ {d flags : List ℕ} {n face first end : ℕ} (rows : List ℕ) (before : Ranges-before d flags n rows face) (room : 2 * face + 1 < length rows)
+    (range : Ranged d flags n face first end) where
+  abbrev two : List ℕ
+  two = set (set rows (2 * face) first) (2 * face + 1) end
+
+  two-first : getD two (2 * face) 0 ≡ first
+  two-first =
+      getD-set-other (set rows (2 * face) first) (2 * face + 1) (2 * face) end 0 (λ z. omega arith)
+      ∙ getD-set-same rows (2 * face) first 0 (omega arith)
+
+  two-second : getD two (2 * face + 1) 0 ≡ end
+  two-second = getD-set-same (set rows (2 * face) first) (2 * face + 1) end 0 (rw (length-set rows (2 * face) first) room)
+
+  two-below : (i : ℕ) → i < 2 * face → getD two i 0 ≡ getD rows i 0
+  two-below i h =
+      getD-set-other (set rows (2 * face) first) (2 * face + 1) i end 0 (λ z. omega arith)
+      ∙ getD-set-other rows (2 * face) i first 0 (λ z. omega arith)
+
+  pub range-put : Ranges-before d flags n two (face + 1)
+  range-put f h = go (ltb f face) refl
+    where
+      go : (t : Bool) → ltb f face ≡ t → Ranged d flags n f (getD two (2 * f) 0) (getD two (2 * f + 1) 0)
+      go true q =
+          let l = ltb-true f face q in
+          rw (two-below (2 * f) (omega arith), two-below (2 * f + 1) (omega arith)) (before f l)
+      go false q =
+          let e : face ≡ f = omega (arith, ltb-false f face q) in
+          rw (← e, two-first, two-second) range
 
 -- ---- one more entity
 
@@ -157,66 +218,107 @@ module _ {classes values d refs scopes flags cells previous-flags previous-cells
           (c .given .now-stored) (c .given .previous-stored) (rw n at p)
           ∙ ap (puts area) (sym (complete-writes c h))
 
-  -- no checked bench has so many entities
-  pub bindings-impossible : {n : ℕ} → n ≡ getD d 1 0 → 32 < n → {area after : List ℕ}
-      → Bindings-put classes values d refs scopes flags cells previous-flags previous-cells k level b area after
-  bindings-impossible e h = in-each (λ c. absurd (omega (arith, entity-count c, c .given .checked .few .entities)))
-
 -- the entities before number e have had their turns for the next variable: the writes of the others are left
 pub record Turns-left (classes values d refs scopes flags cells previous-flags previous-cells : List ℕ) (k level : ℕ) (b : Binding)
     (area : List ℕ) (e : ℕ) (after : List ℕ) : Type 0 where
   pub left : (c : Chosen classes values d refs scopes flags cells previous-flags previous-cells k level b)
       (v : Variable) → getElem? (variables (c .rule)) level ≡ some v → puts after (writes-from c v e) ≡ puts area (writes-after c)
 
-module _ {classes values d refs scopes flags cells previous-flags previous-cells : List ℕ} {k level : ℕ} {b : Binding} {area : List ℕ} where
-  pub turns-begin : Turns-left classes values d refs scopes flags cells previous-flags previous-cells k level b area 0 area
-  turns-begin = record { left = λ c v h. ap (puts area) (sym (first-writes c h)) }
+-- where no candidate stands, nothing is written
+module _ {classes values d refs scopes flags cells previous-flags previous-cells : List ℕ} {k level : ℕ} {b : Binding}
+    (c : Chosen classes values d refs scopes flags cells previous-flags previous-cells k level b)
+    {v : Variable} (declared : getElem? (variables (c .rule)) level ≡ some v) where
+  writes-between : (m e : ℕ) → ((x : ℕ) → e ≤ x → x < e + m → x < getD d 1 0 → candidate d flags (getD scopes (scope-row k + 1 + level) 0) x ≡ false)
+      → writes-from c v e ≡ writes-from c v (e + m)
+  writes-between zero e none = let h : e ≡ e + zero = omega arith in ap (writes-from c v) h
+  writes-between (suc m) e none =
+      go (ltb e (getD d 1 0)) refl (writes-between m (e + 1) (λ x l u i. none x (omega arith) (omega arith) i))
+    where
+      go : (t : Bool) → ltb e (getD d 1 0) ≡ t → writes-from c v (e + 1) ≡ writes-from c v (e + 1 + m) → writes-from c v e ≡ writes-from c v (e + suc m)
+      go true q later =
+          let (x, g) = number-inside (file c .entities) e (omega (arith, entity-count c, ltb-true e (getD d 1 0) q)) in
+          let h : e + 1 + m ≡ e + suc m = omega arith in
+          skipped-writes c declared e g (none e (omega arith) (omega arith) (ltb-true e (getD d 1 0) q))
+          ∙ later ∙ ap (writes-from c v) h
+      go false q later =
+          last-writes c declared (ltb-false e (getD d 1 0) q) ∙ sym (last-writes c declared {e = e + suc m} (omega (arith, ltb-false e (getD d 1 0) q)))
 
-  module _ {e : ℕ} {after : List ℕ} (turns : Turns-left classes values d refs scopes flags cells previous-flags previous-cells k level b area e after) where
-    -- an entity that is not to be chosen
-    pub turn-skips : {n : ℕ} → n ≡ getD d 1 0 → e < n → {face : ℕ} → face ≡ getD scopes (scope-row k + 1 + level) 0
-        → {t : Bool} → t ≡ candidate d flags face e → t ≡ false
-        → Turns-left classes values d refs scopes flags cells previous-flags previous-cells k level b area (e + 1) after
-    turn-skips i l j y n = record {
+module _ {classes values d refs scopes flags cells previous-flags previous-cells : List ℕ} {k level : ℕ} {b : Binding} (ranges : List ℕ)
+    (ranged : Ranges d flags (getD d 1 0) ranges) {face : ℕ} (face-is : face ≡ getD scopes (scope-row k + 1 + level) 0) where
+  range-in : (c : Chosen classes values d refs scopes flags cells previous-flags previous-cells k level b) {v : Variable}
+      → getElem? (variables (c .rule)) level ≡ some v
+      → Ranged d flags (getD d 1 0) (getD scopes (scope-row k + 1 + level) 0) (getD ranges (2 * face) 0) (getD ranges (2 * face + 1) 0)
+  range-in c h = rw face-is (ranged (getD scopes (scope-row k + 1 + level) 0) (face-below c h))
+
+  module _ (c : Chosen classes values d refs scopes flags cells previous-flags previous-cells k level b) {v : Variable}
+      (h : getElem? (variables (c .rule)) level ≡ some v) where
+    outside : (x : ℕ) → x < getD d 1 0 → ((getD ranges (2 * face) 0 ≤ x) × (x < getD ranges (2 * face + 1) 0) → ⊥)
+        → candidate d flags (getD scopes (scope-row k + 1 + level) 0) x ≡ false
+    outside x i n = go (candidate d flags (getD scopes (scope-row k + 1 + level) 0) x) refl
+      where
+        go : (t : Bool) → candidate d flags (getD scopes (scope-row k + 1 + level) 0) x ≡ t → t ≡ false
+        go true q = absurd (n (range-in c h .among x i q))
+        go false q = refl
+
+  module _ {area : List ℕ} where
+    pub turns-begin : {first : ℕ} → first ≡ getD ranges (2 * face) 0
+        → Turns-left classes values d refs scopes flags cells previous-flags previous-cells k level b area first area
+    turns-begin {first} e = record {
       left = λ c v h.
-          let (x, g) = number-inside (file c .entities) e (omega (arith, entity-count c)) in
-          ap (puts after) (sym (skipped-writes c h e g (rw j at (sym y ∙ n)))) ∙ turns .left c v h;
+          let z : 0 + first ≡ first = omega arith in
+          ap (puts area) (sym (first-writes c h ∙ writes-between c h first 0 (λ x l u i. outside c h x i (λ p. omega (arith, p .0)))
+          ∙ ap (writes-from c v) z));
     }
 
-    pub turn-takes : {n : ℕ} → n ≡ getD d 1 0 → e < n → {face : ℕ} → face ≡ getD scopes (scope-row k + 1 + level) 0
-        → {t : Bool} → t ≡ candidate d flags face e → t ≡ true → level < 3
-        → {r : Binding} {next : List ℕ} → Entity-added b level e r
-        → Bindings-put classes values d refs scopes flags cells previous-flags previous-cells k (level + 1) r after next
-        → Turns-left classes values d refs scopes flags cells previous-flags previous-cells k level b area (e + 1) next
-    turn-takes i l j y n m {r} {next} a p = record {
-      left = λ c v h.
-          let (x, g) = number-inside (file c .entities) e (omega (arith, entity-count c)) in
-          one c v h x g (rw j at (sym y ∙ n));
-    }
-      where
-        one : (c : Chosen classes values d refs scopes flags cells previous-flags previous-cells k level b) (v : Variable)
-            → (h : getElem? (variables (c .rule)) level ≡ some v) (x : Entity) (g : getElem? (file c .entities) e ≡ some x)
-            → candidate d flags (getD scopes (scope-row k + 1 + level) 0) e ≡ true
-            → puts next (writes-from c v (e + 1)) ≡ puts area (writes-after c)
-        one c v h x g q =
-            let t : T (same-bytes (x .interface .bytes) (v .interface .bytes)) =
-            and-r (c .given .now .present e) (same-bytes (x .interface .bytes) (v .interface .bytes)) (rw (candidate-is c h e g, q) tt) in
-            ap (λ area. puts area (writes-from c v (e + 1))) (put-in p (with-entity c h e g a m t))
-            ∙ sym (puts-append after (writes-after (with-entity c h e g a m t)) (writes-from c v (e + 1)))
-            ∙ ap (puts after) (sym (taken-writes c h e g q (bindings (file c) (c .given .now) (drop (level + 1) (variables (c .rule))))
-            (ap (λ n. bindings (file c) (c .given .now) (drop n (variables (c .rule)))) (add-one level))))
-            ∙ turns .left c v h
+    module _ {end : ℕ} (end-is : end ≡ getD ranges (2 * face + 1) 0) {e : ℕ} {after : List ℕ}
+        (turns : Turns-left classes values d refs scopes flags cells previous-flags previous-cells k level b area e after) where
+      inside : e < end → (c : Chosen classes values d refs scopes flags cells previous-flags previous-cells k level b) {v : Variable}
+          → getElem? (variables (c .rule)) level ≡ some v → (x : Entity) × (getElem? (file c .entities) e ≡ some x)
+      inside l c h = number-inside (file c .entities) e (omega (arith, entity-count c, range-in c h .most))
 
-    pub turns-end : {t : Bool} → t ≡ complete scopes k level → t ≡ false → {n : ℕ} → n ≡ getD d 1 0 → n ≤ e
-        → Bindings-put classes values d refs scopes flags cells previous-flags previous-cells k level b area after
-    unfolding puts
-    turns-end y n i l = in-each (λ c.
-        let (v, h) = next-variable c (λ p. go (leb 3 level) p (sym y ∙ n)) in
-        ap (puts after) (sym (last-writes c h (omega arith))) ∙ turns .left c v h)
-      where
-        go : (t : Bool) → getD scopes (scope-row k) 0 ≡ level → (t || eqb (getD scopes (scope-row k) 0) level) ≡ false → ⊥
-        go true n h = let z : _≡_ {A = ℕ} 0 1 = cc in omega arith
-        go false n h = absurd (eqb-false (getD scopes (scope-row k) 0) level h n)
+      -- an entity that is not to be chosen
+      pub turn-skips : e < end → {t : Bool} → t ≡ candidate d flags face e → t ≡ false
+          → Turns-left classes values d refs scopes flags cells previous-flags previous-cells k level b area (e + 1) after
+      turn-skips l y n = record {
+        left = λ c v h.
+            let (x, g) = inside l c h in
+            ap (puts after) (sym (skipped-writes c h e g (rw face-is at (sym y ∙ n)))) ∙ turns .left c v h;
+      }
+
+      pub turn-takes : e < end → {t : Bool} → t ≡ candidate d flags face e → t ≡ true → level < 3
+          → {r : Binding} {next : List ℕ} → Entity-added b level e r
+          → Bindings-put classes values d refs scopes flags cells previous-flags previous-cells k (level + 1) r after next
+          → Turns-left classes values d refs scopes flags cells previous-flags previous-cells k level b area (e + 1) next
+      turn-takes l y n m {r} {next} a p = record {
+        left = λ c v h.
+            let (x, g) = inside l c h in
+            one c v h x g (rw face-is at (sym y ∙ n));
+      }
+        where
+          one : (c : Chosen classes values d refs scopes flags cells previous-flags previous-cells k level b) (v : Variable)
+              → (h : getElem? (variables (c .rule)) level ≡ some v) (x : Entity) (g : getElem? (file c .entities) e ≡ some x)
+              → candidate d flags (getD scopes (scope-row k + 1 + level) 0) e ≡ true
+              → puts next (writes-from c v (e + 1)) ≡ puts area (writes-after c)
+          one c v h x g q =
+              let t : T (same-bytes (x .interface .bytes) (v .interface .bytes)) =
+              and-r (c .given .now .present e) (same-bytes (x .interface .bytes) (v .interface .bytes)) (rw (candidate-is c h e g, q) tt) in
+              ap (λ area. puts area (writes-from c v (e + 1))) (put-in p (with-entity c h e g a m t))
+              ∙ sym (puts-append after (writes-after (with-entity c h e g a m t)) (writes-from c v (e + 1)))
+              ∙ ap (puts after) (sym (taken-writes c h e g q (bindings (file c) (c .given .now) (drop (level + 1) (variables (c .rule))))
+              (ap (λ n. bindings (file c) (c .given .now) (drop n (variables (c .rule)))) (add-one level))))
+              ∙ turns .left c v h
+
+      pub turns-end : {t : Bool} → t ≡ complete scopes k level → t ≡ false → end ≤ e
+          → Bindings-put classes values d refs scopes flags cells previous-flags previous-cells k level b area after
+      unfolding puts
+      turns-end y n l = in-each (λ c.
+          let (v, h) = next-variable c (λ p. go (leb 3 level) p (sym y ∙ n)) in
+          let last = last-writes c h {e = e + getD d 1 0} (omega arith) in
+          ap (puts after) (sym (writes-between c h (getD d 1 0) e (λ x from u i. outside c h x i (λ p. omega (arith, p .1))) ∙ last)) ∙ turns .left c v h)
+        where
+          go : (t : Bool) → getD scopes (scope-row k) 0 ≡ level → (t || eqb (getD scopes (scope-row k) 0) level) ≡ false → ⊥
+          go true n h = let z : _≡_ {A = ℕ} 0 1 = cc in omega arith
+          go false n h = absurd (eqb-false (getD scopes (scope-row k) 0) level h n)
 
 -- ---- all rules
 
@@ -237,6 +339,13 @@ module _ {classes values d refs scopes flags cells previous-flags previous-cells
   pub rules-impossible : {n : ℕ} → n ≡ getD d 2 0 → 64 < n → {after : List ℕ}
       → Rules-put classes values d refs scopes flags cells previous-flags previous-cells area after
   rules-impossible e h = record { writes = λ text offsets lengths g. absurd (omega (arith, g .checked .bench .directory .rules, g .checked .few-rules)) }
+
+  -- nor so many entities
+  pub entities-impossible : {n : ℕ} → n ≡ getD d 1 0 → 32 < n → {after : List ℕ}
+      → Rules-put classes values d refs scopes flags cells previous-flags previous-cells area after
+  entities-impossible e h = record {
+    writes = λ text offsets lengths g. absurd (omega (arith, g .checked .bench .directory .entities, g .checked .few .entities));
+  }
 
   module _ {k : ℕ} {after : List ℕ} (rules : Rules-left classes values d refs scopes flags cells previous-flags previous-cells area k after) where
     pub rule-turns : {n : ℕ} → n ≡ getD d 2 0 → k < n → {b : Binding} {next : List ℕ}

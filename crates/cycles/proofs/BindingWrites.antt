@@ -25,7 +25,7 @@ use Rattle.cycles.specs.Bindings.{number-if, candidates, bindings}
 use Rattle.cycles.specs.ClosedSet.{is-of}
 use Rattle.cycles.specs.AllRules.{Rules-given, Binds, Gives, candidate, Entity-added}
 use Rattle.cycles.proofs.AmongLaws.{flatMap-same}
-use Rattle.cycles.proofs.CandidateLaws.{same-interface, few-variables, variable-interface}
+use Rattle.cycles.proofs.CandidateLaws.{same-interface, known-number, few-variables, variable-interface}
 
 -- one more entity, of its variable's interface
 binds-more : (f : File) (vs : List Variable) (es : List ℕ) (v : Variable) (e : ℕ) → Binds f vs es → getElem? vs (length es) ≡ some v
@@ -135,6 +135,12 @@ module _ {classes values d refs scopes flags cells previous-flags previous-cells
   face-is : {v : Variable} → getElem? (variables (c .rule)) level ≡ some v
       → getD scopes (scope-row k + 1 + level) 0 ≡ interface-number file (v .interface .bytes)
   face-is {v} h = c .given .scopes-are .interface k rule-below rule-few world few level v h
+
+  -- a variable's interface has one of the 16 numbers
+  pub face-below : {v : Variable} → getElem? (variables (c .rule)) level ≡ some v → getD scopes (scope-row k + 1 + level) 0 < 16
+  face-below {v} h =
+      let (i, p) = variable-interface (c .text) file (c .given .checked .accepts) k (c .rule) (c .stands) level v h in
+      rw (face-is h) (known-number file (c .given .checked .few .interfaces) (v .interface .bytes) p)
 
   pub next-variable : (getD scopes (scope-row k) 0 ≡ level → ⊥) → (v : Variable) × (getElem? (variables (c .rule)) level ≡ some v)
   next-variable n = number-inside (variables (c .rule)) level (omega (arith, variable-count, c .most))

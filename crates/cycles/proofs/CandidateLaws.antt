@@ -1,5 +1,5 @@
 -- The candidates for a rule's variable by numbers: in an accepted file an entity is of the variable's interface if both have that interface's number.
-use Prim.Native.Nat.{ℕ, _≤_}
+use Prim.Native.Nat.{ℕ, _≤_, _<_}
 use native.Mathlib.Omega.{arith}
 use mathlib.Core.Path.{_≡_, refl, sym, ap, _∙_}
 use mathlib.Core.Bool.{Bool, true, false}
@@ -62,6 +62,15 @@ same-interface f most a b {i} h = found (look-up (λ i. i .name) b (f .interface
         → eqb (number-or 16 (look-up (λ i. i .name) a (f .interfaces))) (number-or 16 o) ≡ same-bytes a b
     found none e h = absurd (none-some h)
     found (some q) e h = go q e (same-bytes a b) refl
+
+-- its number is one of the 16
+pub known-number : (f : File) → length (f .interfaces) ≤ 16 → (b : List ℕ) {i : Interface} → interface-named f b ≡ some i → interface-number f b < 16
+unfolding interface-number interface-named number-or
+known-number f most b {i} h = go (look-up (λ (i : Interface). i .name) b (f .interfaces)) refl h
+  where
+    go : (o : Option (Found Interface)) → look-up (λ (i : Interface). i .name) b (f .interfaces) ≡ o → item-of o ≡ some i → number-or 16 o < 16
+    go none e h = absurd (none-some h)
+    go (some q) e h = omega (arith, most, stands-below (f .interfaces) (q .number) (found-at (λ (i : Interface). i .name) b (f .interfaces) e))
 
 -- ---- an accepted file's rules
 

@@ -1,8 +1,8 @@
 -- What all rules of a bench write, each for every binding of its variables: of a checked bench in columns, and two stores in memory.
-use Prim.Native.Nat.{ℕ, _+_, _≤_, _<_}
+use Prim.Native.Nat.{ℕ, _+_, _*_, _≤_, _<_}
 use mathlib.Core.Path.{_≡_}
 use mathlib.Core.List.{List, [], _∷_, _++_, flatMap}
-use mathlib.Core.Bool.{Bool, _&&_, _||_}
+use mathlib.Core.Bool.{Bool, true, _&&_, _||_}
 use mathlib.Core.Option.{some}
 use lib.Dec.{T, leb, eqb}
 use lib.ListN.{length, getD, getElem?, drop}
@@ -44,6 +44,15 @@ complete scopes k level = leb 3 level || eqb (getD scopes (scope-row k) 0) level
 -- is entity number e present, and of interface number `face`?
 abbrev pub candidate : List ℕ → List ℕ → ℕ → ℕ → Bool
 candidate d flags face e = eqb (getD flags e 0) 1 && eqb (getD d (entity-interface-row e) 0) face
+
+-- among n entities the candidates for interface number `face` have numbers from `first` on, below `end`
+pub record Ranged (d flags : List ℕ) (n face first end : ℕ) : Type 0 where
+  pub most : end ≤ n
+  pub among : (e : ℕ) → e < n → candidate d flags face e ≡ true → (first ≤ e) × (e < end)
+
+-- the same for each interface, in two rows
+abbrev pub Ranges : List ℕ → List ℕ → ℕ → List ℕ → Type 0
+Ranges d flags n ranges = (face : ℕ) → face < 16 → Ranged d flags n face (getD ranges (2 * face) 0) (getD ranges (2 * face + 1) 0)
 
 -- r is b with entity e for variable number `level`, the next one
 pub record Entity-added (b : Binding) (level e : ℕ) (r : Binding) : Type 0 where

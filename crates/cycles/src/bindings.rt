@@ -3,7 +3,7 @@ ghost use Prim.Native.Nat.{_+_, _≤_};
 ghost use mathlib.Core.Path.{_≡_};
 ghost use lib.ListN.{length, getD};
 ghost use Rattle.checking.specs.Directory.{rule-row};
-ghost use Rattle.cycles.specs.AllRules.{complete, candidate, Entity-added, Bindings-put, Rules-put};
+ghost use Rattle.cycles.specs.AllRules.{complete, candidate, Ranged, Ranges, Entity-added, Bindings-put, Rules-put};
 ghost use Rattle.cycles.specs.Guards.{Guards-found};
 use crate::calls::rule_at;
 use crate::evaluate::Binding;
@@ -50,6 +50,47 @@ fn is_candidate(d: &[u16], flags: &[u8], face: u8, e: u8) -> bool
     row(d, 323 + (e as usize)) == face as usize
 }
 
+// Where among the entities the candidates for an interface stand: from `first` on, below `end`.
+struct Range {
+    first: u8,
+    end: u8,
+}
+
+fn range_of(d: &[u16], flags: &[u8], n: u8, face: u8) -> Range
+    ensures { λ r. ⌜ Ranged (now (d .entry)) (now (flags .entry)) n face (r .first) (r .end) ⌝ }
+{
+    let mut first: u8 = 0;
+    let mut end: u8 = 0;
+    let mut e: u8 = 0;
+    while e < n {
+        let is = is_candidate(d, flags, face, e);
+        e += 1;
+        if !is {
+            continue;
+        }
+        if end == 0 {
+            first = e - 1;
+        }
+        end = e;
+    }
+    Range { first, end }
+}
+
+// The ranges of all interfaces, in two rows each.
+fn find_ranges(d: &[u16], flags: &[u8], n: u8, ranges: &mut [u8])
+    requires { ⌜ 32 ≤ length (now ranges) ⌝ }
+    ensures { λ _. ⌜ Ranges (now (d .entry)) (now (flags .entry)) n (now (ranges .exit)) ⌝ }
+{
+    let mut face: u8 = 0;
+    while face < 16 {
+        let range = range_of(d, flags, n, face);
+        let row = 2 * (face as usize);
+        ranges[row] = range.first;
+        ranges[row + 1] = range.end;
+        face += 1;
+    }
+}
+
 // Rule number k, for every binding that has b's entities for the first `level` variables. Its guards save those that would write nothing.
 fn bind(
     classes: &[u8],
@@ -61,6 +102,7 @@ fn bind(
     cells: &[u8],
     previous_flags: &[u8],
     previous_cells: &[u8],
+    ranges: &[u8],
     guards: &[usize],
     count: usize,
     k: u8,
@@ -69,6 +111,7 @@ fn bind(
     area: &mut [u8],
 )
     requires { ⌜ 3456 ≤ length (now area) ⌝ }
+    requires { ⌜ Ranges (now d) (now flags) (getD (now d) 1 0) (now ranges) ⌝ }
     requires { ⌜ Guards-found (now classes) (now refs) (getD (now d) (rule-row k) 0 + 1) (now guards) count ⌝ }
     ensures { λ _. ⌜
         Bindings-put (now (classes .entry)) (now (values .entry)) (now (d .entry)) (now (refs .entry)) (now (scopes .entry)) (now (flags .entry))
@@ -90,13 +133,11 @@ fn bind(
         );
         return;
     }
-    let n = row(d, 1);
-    if 32 < n {
-        return;
-    }
     let face = class_at(scopes, 4 * (k as usize) + 1 + (level as usize));
-    let mut next: u8 = 0;
-    while (next as usize) < n {
+    let range = 2 * (face as usize);
+    let end = class_at(ranges, range + 1);
+    let mut next = class_at(ranges, range);
+    while next < end {
         let e = next;
         next += 1;
         if !is_candidate(d, flags, face, e) {
@@ -128,6 +169,7 @@ fn bind(
             cells,
             previous_flags,
             previous_cells,
+            ranges,
             guards,
             count,
             k,
@@ -180,6 +222,12 @@ pub fn all_rules(
         return;
     }
     let none = Binding { entities: 0 };
+    let entities = row(d, 1);
+    if 32 < entities {
+        return;
+    }
+    let mut ranges: [u8; 32] = [0; 32];
+    find_ranges(d, flags, entities as u8, &mut ranges);
     let mut guards: [usize; 64] = [0; 64];
     let mut k: u8 = 0;
     while (k as usize) < n {
@@ -194,6 +242,7 @@ pub fn all_rules(
             cells,
             previous_flags,
             previous_cells,
+            &ranges,
             &guards,
             count,
             k,

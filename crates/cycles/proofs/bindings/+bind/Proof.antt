@@ -1,11 +1,12 @@
 -- `bind` meets its contract. The measure is how many variables may still get an entity; the loop's invariant says which writes are left.
-use Prim.Native.Nat.{ℕ, _<_, _≤_, _-_}
+use Prim.Native.Nat.{_-_, _≤_}
 use native.Mathlib.Omega.{arith}
 use mathlib.Core.Path.{_≡_, refl, _∙_}
 use lib.ListN.{length}
-use borrow.Author.Needs.{needs}
 use borrow.Author.Tests.{not-true, not-false}
-use Rattle.cycles.proofs.BindingPuts.{incomplete-few, bindings-complete, bindings-impossible, Turns-left, turns-begin, turn-skips, turn-takes, turns-end}
+use Rattle.cycles.proofs.BindingPuts.{incomplete-few, bindings-complete, Turns-left, turns-begin, turn-skips, turn-takes, turns-end}
+use borrow.Author.Needs.{needs}
+use Prim.Native.Nat.{ℕ, _<_}
 use borrow.Fn.Kinds.{In}
 use borrow.Fn.PlainCycle.{Measures, is, falls, and}
 use Rattle.cycles.proofs.bindings.bind.Reads as bind
@@ -21,22 +22,21 @@ use Rattle.cycles.proofs.guards.is_refuted.Reads as is-refuted-reads
 use Rattle.cycles.proofs.bindings.+bind.{statement}
 use Rattle.cycles.proofs.bindings.+bind.Tie.{close}
 
-abbrev μ-bind : Measures 11 bind-kinds.ps ℕ
-μ-bind κs a = 3 - a .1 .1 .1 .1 .1 .1 .1 .1 .1 .1 .1 .1 .0
+abbrev μ-bind : Measures 12 bind-kinds.ps ℕ
+μ-bind κs a = 3 - a .1 .1 .1 .1 .1 .1 .1 .1 .1 .1 .1 .1 .1 .0
 
-abbrev bind-at : ℕ → In 11 bind-kinds.ps
-bind-at t = and 11 bind-kinds.ps (is 11 bind-kinds.ps μ-bind t) bind.Pre
+abbrev bind-at : ℕ → In 12 bind-kinds.ps
+bind-at t = and 12 bind-kinds.ps (is 12 bind-kinds.ps μ-bind t) bind.Pre
 
-abbrev bind-below : ℕ → In 11 bind-kinds.ps
-bind-below t = and 11 bind-kinds.ps (falls 11 bind-kinds.ps _<_ μ-bind t) bind.Pre
+abbrev bind-below : ℕ → In 12 bind-kinds.ps
+bind-below t = and 12 bind-kinds.ps (falls 12 bind-kinds.ps _<_ μ-bind t) bind.Pre
 
 abbrev bind-Inv-loop : bind-lts.InvT-loop
-bind-Inv-loop classes values refs scopes d flags cells previous-flags previous-cells guards count k level b area₀ n face next₀ area next =
-    (next ≤ n) × Turns-left classes values d refs scopes flags cells previous-flags previous-cells k level b area₀ next area
-    × (length area ≡ length area₀)
+bind-Inv-loop classes values refs scopes d flags cells previous-flags previous-cells ranges guards count k level b area₀ face range end next₀ area next =
+    Turns-left classes values d refs scopes flags cells previous-flags previous-cells k level b area₀ next area × (length area ≡ length area₀)
 
 abbrev bind-μ-loop : bind-lts.MeasureT-loop
-bind-μ-loop classes values refs scopes d flags cells previous-flags previous-cells guards count k level b area₀ n face next₀ area next = n - next
+bind-μ-loop classes values refs scopes d flags cells previous-flags previous-cells ranges guards count k level b area₀ face range end next₀ area next = end - next
 
 abbrev bind-claims : ℕ → bind-lts.Claims
 bind-claims t = (
@@ -60,9 +60,10 @@ bind-claims t = (
 
 -- the variables that have entities are not all
 few-bound : (t : ℕ) (c : bind-lts.Else1 (bind-claims t) (bind-at t) bind.Post bind-Inv-loop bind-μ-loop)
-    → c .before .before .before .before .before .before .before .before .before .before .before .before .before .args .level < 3
+    → c .before .before .before .before .before .before .before .before .before .before .before .before .before .before .args .level < 3
 few-bound t c =
-    let a = c .before .before .before .before .before .before .before .before .before .before .before .before .before .args in
+    let start = c .before .before .before .before .before .before .before .before .before .before .before .before .before .before in
+    let a = start .args in
     incomplete-few (a .scopes .now) (a .k) (a .level) (c .before .is-complete .ensures) (c .if1 .left)
 
 bind-is-complete-requires : (t : ℕ) → bind-lts.Need-is-complete-requires (bind-claims t) (bind-at t) bind.Post bind-Inv-loop bind-μ-loop
@@ -78,21 +79,15 @@ bind-add-at : (t : ℕ) → bind-lts.Need-add-at (bind-claims t) (bind-at t) bin
 bind-add-at t c = search needs
 
 bind-rule-at-requires : (t : ℕ) → bind-lts.Need-rule-at-requires (bind-claims t) (bind-at t) bind.Post bind-Inv-loop bind-μ-loop
-bind-rule-at-requires t c κs = c .before .before .before .before .before .before .before .before .before .before .before .before .before .before .before .pre .1 .0
+bind-rule-at-requires t c κs =
+    let start = c .before .before .before .before .before .before .before .before .before .before .before .before .before .before .before .before in
+    start .pre .1 .0
 
 bind-same-length : (t : ℕ) → bind-lts.Need-same-length (bind-claims t) (bind-at t) bind.Post bind-Inv-loop bind-μ-loop
 bind-same-length t c = c .before .before .rule-at .kept .1 .1 .1 .1 .1 .1 .1 .1 .1 .0
 
 bind-returns : (t : ℕ) → bind-lts.Need-returns (bind-claims t) (bind-at t) bind.Post bind-Inv-loop bind-μ-loop
-bind-returns t c =
-    bindings-complete (c .before .before .before .before .before .before .is-complete .ensures) (c .before .before .before .before .before .if1 .taken)
-    (c .before .before .before .before .row .ensures .0) (c .before .before .rule-at .ensures)
-
-bind-row-requires-2 : (t : ℕ) → bind-lts.Need-row-requires-2 (bind-claims t) (bind-at t) bind.Post bind-Inv-loop bind-μ-loop
-bind-row-requires-2 t c κs = search needs
-
-bind-returns-2 : (t : ℕ) → bind-lts.Need-returns-2 (bind-claims t) (bind-at t) bind.Post bind-Inv-loop bind-μ-loop
-bind-returns-2 t c = bindings-impossible (c .before .row2 .ensures .0) (c .if2 .taken)
+bind-returns t c = bindings-complete (c .before .before .before .before .before .before .is-complete .ensures) (c .before .before .before .before .before .if1 .taken) (c .before .before .before .before .row .ensures .0) (c .before .before .rule-at .ensures)
 
 bind-mul-class-at : (t : ℕ) → bind-lts.Need-mul-class-at (bind-claims t) (bind-at t) bind.Post bind-Inv-loop bind-μ-loop
 bind-mul-class-at t c = search needs
@@ -106,11 +101,25 @@ bind-add-class-at-2 t c = search needs
 bind-class-at-requires : (t : ℕ) → bind-lts.Need-class-at-requires (bind-claims t) (bind-at t) bind.Post bind-Inv-loop bind-μ-loop
 bind-class-at-requires t c κs = search needs
 
-bind-loop-holds : (t : ℕ) → bind-lts.Need-loop-holds (bind-claims t) (bind-at t) bind.Post bind-Inv-loop bind-μ-loop
-bind-loop-holds t c = (omega arith, turns-begin, refl)
+bind-cast-range : (t : ℕ) → bind-lts.Need-cast-range (bind-claims t) (bind-at t) bind.Post bind-Inv-loop bind-μ-loop
+bind-cast-range t c = search needs
 
-bind-cast-loop : (t : ℕ) → bind-lts.Need-cast-loop (bind-claims t) (bind-at t) bind.Post bind-Inv-loop bind-μ-loop
-bind-cast-loop t c = search needs
+bind-mul-range : (t : ℕ) → bind-lts.Need-mul-range (bind-claims t) (bind-at t) bind.Post bind-Inv-loop bind-μ-loop
+bind-mul-range t c = search needs
+
+bind-add-class-at-3 : (t : ℕ) → bind-lts.Need-add-class-at-3 (bind-claims t) (bind-at t) bind.Post bind-Inv-loop bind-μ-loop
+bind-add-class-at-3 t c = search needs
+
+bind-class-at-requires-2 : (t : ℕ) → bind-lts.Need-class-at-requires-2 (bind-claims t) (bind-at t) bind.Post bind-Inv-loop bind-μ-loop
+bind-class-at-requires-2 t c κs = search needs
+
+bind-class-at-requires-3 : (t : ℕ) → bind-lts.Need-class-at-requires-3 (bind-claims t) (bind-at t) bind.Post bind-Inv-loop bind-μ-loop
+bind-class-at-requires-3 t c κs = search needs
+
+bind-loop-holds : (t : ℕ) → bind-lts.Need-loop-holds (bind-claims t) (bind-at t) bind.Post bind-Inv-loop bind-μ-loop
+bind-loop-holds t c =
+    let start = c .before .before .before .before .before .before .before .before .before .before .before .before .before .before .before .before .before in
+    (turns-begin (start .args .ranges .now) (start .pre .1 .1 .0) (c .before .before .class-at .ensures) (c .class-at3 .ensures), refl)
 
 bind-add-next : (t : ℕ) → bind-lts.Need-add-next (bind-claims t) (bind-at t) bind.Post bind-Inv-loop bind-μ-loop
 bind-add-next t c = search needs
@@ -122,16 +131,9 @@ bind-loop-less : (t : ℕ) → bind-lts.Need-loop-less (bind-claims t) (bind-at 
 bind-loop-less t c = search needs
 
 bind-loop-again : (t : ℕ) → bind-lts.Need-loop-again (bind-claims t) (bind-at t) bind.Post bind-Inv-loop bind-μ-loop
-bind-loop-again t c = (
-  omega arith,
-  turn-skips (c .before .before .before .loop .inv .1)
-      (c .before .before .before .before .before .before .row2 .ensures .0)
-      (c .before .before .loop-test .taken)
-      (c .before .before .before .before .class-at .ensures)
-      (c .before .is-candidate .ensures)
-      (not-true _ (c .if3 .taken)),
-  c .before .before .before .loop .inv .2,
-)
+bind-loop-again t c =
+    let start = c .before .before .before .before .before .before .before .before .before .before .before .before .before .before .before .before .before .before .before .before .before in
+    (turn-skips (start .args .ranges .now) (start .pre .1 .1 .0) (c .before .before .before .before .before .before .class-at .ensures) (c .before .before .before .before .before .class-at2 .ensures) (c .before .before .before .loop .inv .0) (c .before .before .loop-test .taken) (c .before .is-candidate .ensures) (not-true _ (c .if2 .taken)), c .before .before .before .loop .inv .1)
 
 bind-with-entity-requires : (t : ℕ) → bind-lts.Need-with-entity-requires (bind-claims t) (bind-at t) bind.Post bind-Inv-loop bind-μ-loop
 bind-with-entity-requires t c κs = search needs
@@ -147,18 +149,15 @@ bind-loop-less-2 t c = search needs
 
 bind-loop-again-2 : (t : ℕ) → bind-lts.Need-loop-again-2 (bind-claims t) (bind-at t) bind.Post bind-Inv-loop bind-μ-loop
 bind-loop-again-2 t c =
-    let start = c .before .before .before .before .before .before .before .before .before .before .before .before .before .before .before .before .before .before .before .before .before .before .before in (
-      omega (arith, c .before .before .before .before .before .loop-test .taken),
-      turn-takes (c .before .before .before .before .before .before .loop .inv .1)
-          (c .before .before .before .before .before .before .before .before .before .row2 .ensures .0)
+    let start = c .before .before .before .before .before .before .before .before .before .before .before .before .before .before .before .before .before .before .before .before .before .before .before .before in (
+      turn-takes (start .args .ranges .now) (start .pre .1 .1 .0) (c .before .before .before .before .before .before .before .before .before .class-at .ensures) (c .before .before .before .before .before .before .before .before .class-at2 .ensures) (c .before .before .before .before .before .before .loop .inv .0)
           (c .before .before .before .before .before .loop-test .taken)
-          (c .before .before .before .before .before .before .before .class-at .ensures)
           (c .before .before .before .before .is-candidate .ensures)
-          (not-false _ (c .before .before .before .if3 .left))
+          (not-false _ (c .before .before .before .if2 .left))
           (few-bound t (c .before .before .before .before .before .before .before .before .before .before))
           (c .before .before .with-entity .ensures)
-          (c .before .is-refuted .ensures .refutes (c .if4 .taken) (start .args .d .now) (start .args .scopes .now) (start .args .k) (start .pre .1 .1) _),
-      c .before .before .before .before .before .before .loop .inv .2,
+          (c .before .is-refuted .ensures .refutes (c .if3 .taken) (start .args .d .now) (start .args .scopes .now) (start .args .k) (start .pre .1 .1 .1) _),
+      c .before .before .before .before .before .before .loop .inv .1,
     )
 
 bind-add-bind : (t : ℕ) → bind-lts.Need-add-bind (bind-claims t) (bind-at t) bind.Post bind-Inv-loop bind-μ-loop
@@ -166,37 +165,34 @@ bind-add-bind t c = search (needs, few-bound t (c .before .before .before .befor
 
 bind-bind-requires : (t : ℕ) → bind-lts.Need-bind-requires (bind-claims t) (bind-at t) bind.Post bind-Inv-loop bind-μ-loop
 bind-bind-requires t c κs =
-    let s = c .before .before .before .before .before .before .before in
-    let start = c .before .before .before .before .before .before .before .before .before .before .before .before .before .before .before .before .before .before .before .before .before .before .before .before in (
+    let start = c .before .before .before .before .before .before .before .before .before .before .before .before .before .before .before .before .before .before .before .before .before .before .before .before .before in (
       omega (arith, start .pre .0, few-bound t (c .before .before .before .before .before .before .before .before .before .before .before)),
-      (omega (arith, start .pre .1 .0, s .loop .inv .2), start .pre .1 .1),
+      (omega (arith, start .pre .1 .0, c .before .before .before .before .before .before .before .loop .inv .1), (start .pre .1 .1 .0, start .pre .1 .1 .1)),
     )
 
 bind-loop-less-3 : (t : ℕ) → bind-lts.Need-loop-less-3 (bind-claims t) (bind-at t) bind.Post bind-Inv-loop bind-μ-loop
 bind-loop-less-3 t c = search needs
 
 bind-loop-again-3 : (t : ℕ) → bind-lts.Need-loop-again-3 (bind-claims t) (bind-at t) bind.Post bind-Inv-loop bind-μ-loop
-bind-loop-again-3 t c = (
-  omega (arith, c .before .before .before .before .before .before .before .before .before .loop-test .taken),
-  turn-takes (c .before .before .before .before .before .before .before .before .before .before .loop .inv .1)
-      (c .before .before .before .before .before .before .before .before .before .before .before .before .before .row2 .ensures .0)
-      (c .before .before .before .before .before .before .before .before .before .loop-test .taken)
-      (c .before .before .before .before .before .before .before .before .before .before .before .class-at .ensures)
-      (c .before .before .before .before .before .before .before .before .is-candidate .ensures)
-      (not-false _ (c .before .before .before .before .before .before .before .if3 .left))
-      (few-bound t (c .before .before .before .before .before .before .before .before .before .before .before .before .before .before))
-      (c .before .before .before .before .before .before .with-entity .ensures)
-      (c .before .before .bind .ensures),
-  c .before .before .bind .kept .1 .1 .1 .1 .1 .1 .1 .1 .1 .1 .1 .1 .1 .1 .0 ∙ c .before .before .before .before .before .before .before .before .before .before .loop .inv .2,
-)
+bind-loop-again-3 t c =
+    let start = c .before .before .before .before .before .before .before .before .before .before .before .before .before .before .before .before .before .before .before .before .before .before .before .before .before .before .before .before in (
+      turn-takes (start .args .ranges .now) (start .pre .1 .1 .0) (c .before .before .before .before .before .before .before .before .before .before .before .before .before .class-at .ensures) (c .before .before .before .before .before .before .before .before .before .before .before .before .class-at2 .ensures) (c .before .before .before .before .before .before .before .before .before .before .loop .inv .0)
+          (c .before .before .before .before .before .before .before .before .before .loop-test .taken)
+          (c .before .before .before .before .before .before .before .before .is-candidate .ensures)
+          (not-false _ (c .before .before .before .before .before .before .before .if2 .left))
+          (few-bound t (c .before .before .before .before .before .before .before .before .before .before .before .before .before .before))
+          (c .before .before .before .before .before .before .with-entity .ensures)
+          (c .before .before .bind .ensures),
+      c .before .before .bind .kept .1 .1 .1 .1 .1 .1 .1 .1 .1 .1 .1 .1 .1 .1 .1 .0 ∙ c .before .before .before .before .before .before .before .before .before .before .loop .inv .1,
+    )
 
 bind-same-length-2 : (t : ℕ) → bind-lts.Need-same-length-2 (bind-claims t) (bind-at t) bind.Post bind-Inv-loop bind-μ-loop
-bind-same-length-2 t c = c .before .loop .inv .2
+bind-same-length-2 t c = c .before .loop .inv .1
 
-bind-returns-3 : (t : ℕ) → bind-lts.Need-returns-3 (bind-claims t) (bind-at t) bind.Post bind-Inv-loop bind-μ-loop
-bind-returns-3 t c =
-    turns-end (c .before .loop .inv .1) (c .before .before .before .before .before .before .is-complete .ensures)
-    (c .before .before .before .before .before .if1 .left) (c .before .before .before .before .row2 .ensures .0) (c .loop-test .left)
+bind-returns-2 : (t : ℕ) → bind-lts.Need-returns-2 (bind-claims t) (bind-at t) bind.Post bind-Inv-loop bind-μ-loop
+bind-returns-2 t c =
+    let start = c .before .before .before .before .before .before .before .before .before .before .before .before .before .before .before .before .before .before .before in
+    turns-end (start .args .ranges .now) (start .pre .1 .1 .0) (c .before .before .before .before .class-at .ensures) (c .before .before .before .class-at2 .ensures) (c .before .loop .inv .0) (c .before .before .before .before .before .before .is-complete .ensures) (c .before .before .before .before .before .if1 .left) (c .loop-test .left)
 
 pub +bind-spec : {M : Type 1} → statement M
 +bind-spec = close μ-bind λ t. bind-lts.spec (bind-claims t)
@@ -211,14 +207,16 @@ pub +bind-spec : {M : Type 1} → statement M
     (bind-rule-at-requires t)
     (bind-same-length t)
     (bind-returns t)
-    (bind-row-requires-2 t)
-    (bind-returns-2 t)
     (bind-mul-class-at t)
     (bind-add-class-at t)
     (bind-add-class-at-2 t)
     (bind-class-at-requires t)
+    (bind-cast-range t)
+    (bind-mul-range t)
+    (bind-add-class-at-3 t)
+    (bind-class-at-requires-2 t)
+    (bind-class-at-requires-3 t)
     (bind-loop-holds t)
-    (bind-cast-loop t)
     (bind-add-next t)
     (bind-is-candidate-requires t)
     (bind-loop-less t)
@@ -233,4 +231,4 @@ pub +bind-spec : {M : Type 1} → statement M
     (bind-loop-less-3 t)
     (bind-loop-again-3 t)
     (bind-same-length-2 t)
-    (bind-returns-3 t)
+    (bind-returns-2 t)
