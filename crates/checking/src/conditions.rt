@@ -16,7 +16,6 @@ use crate::meanings::cell_of;
 use crate::meanings::declared;
 use crate::meanings::meaning_of;
 use crate::meanings::offset;
-use crate::table::class_at;
 use text::classes::ACTION;
 use text::classes::AND;
 use text::classes::ATTRIBUTE;
@@ -27,6 +26,7 @@ use text::classes::EVENT;
 use text::classes::OR;
 use text::classes::ROUND_OPEN;
 use text::classes::WITH;
+use text::walks::class_at;
 use text::walks::skip;
 
 // A part of a rule up to token number `next`: its earliest faults.

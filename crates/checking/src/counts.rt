@@ -9,7 +9,6 @@ ghost use Rattle.checking.specs.CountScan.{past, declared-scan, ruled-sc
 ghost use Rattle.checking.specs.CountChecked.{Count-checked};
 use crate::faults::Found;
 use crate::faults::earlier;
-use crate::table::class_at;
 use crate::table::first_of;
 use crate::table::row;
 use text::classes::ACTION;
@@ -20,6 +19,7 @@ use text::classes::EVENT;
 use text::classes::INTERFACE;
 use text::classes::RULES;
 use text::classes::WHEN;
+use text::walks::class_at;
 
 fn one_less(n: usize) -> usize
     ensures { λ r. ⌜ r ≡ n - 1 ⌝ }

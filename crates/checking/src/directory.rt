@@ -3,7 +3,6 @@ ghost use mathlib.Core.Path.{_≡_};
 ghost use lib.ListN.{set};
 ghost use Rattle.checking.specs.TokenPlaces.{Marked, Members-marked};
 ghost use Rattle.checking.specs.DirectoryItems.{Directory-built};
-use crate::table::class_at;
 use crate::table::first_of;
 use crate::table::row;
 use text::classes::ACTION;
@@ -12,6 +11,7 @@ use text::classes::BRACE_CLOSE;
 use text::classes::ENTITY;
 use text::classes::INTERFACE;
 use text::classes::WHEN;
+use text::walks::class_at;
 
 // Puts a number into a row, if there is that row.
 fn put(d: &mut [u16], at: usize, n: u16)

@@ -18,7 +18,6 @@ use crate::faults::Found;
 use crate::faults::earlier;
 use crate::faults::unless;
 use crate::interfaces::repeated;
-use crate::table::class_at;
 use crate::table::first_named;
 use crate::table::member_at;
 use crate::table::member_kind;
@@ -27,6 +26,7 @@ use crate::table::member_sort;
 use crate::table::row;
 use crate::table::same_name;
 use text::classes;
+use text::walks::class_at;
 
 // Writes the interface of each entity into the directory, by its number; 16 if the file has none of that name.
 pub fn link_entities(text: &[u8], offsets: &[u16], lengths: &[u8], d: &mut [u16])

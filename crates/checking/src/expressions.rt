@@ -10,7 +10,6 @@ use crate::faults::unless;
 use crate::meanings::cell_of;
 use crate::meanings::meaning_of;
 use crate::meanings::offset;
-use crate::table::class_at;
 use text::classes::BOOL;
 use text::classes::DIVIDE;
 use text::classes::FALSE;
@@ -24,6 +23,7 @@ use text::classes::TIMES;
 use text::classes::TRUE;
 use text::classes::WHOLE;
 use text::classes::WHOLE_NUMBER;
+use text::walks::class_at;
 use text::walks::skip;
 
 // Openers that may enclose one another.

@@ -32,7 +32,6 @@ pub use interfaces::interface_faults;
 pub use names::entity_name;
 pub use resolver::resolve;
 pub use rules::rule_faults;
-pub use table::class_at;
 pub use table::entity_number;
 pub use table::first_of;
 pub use table::interface_number;

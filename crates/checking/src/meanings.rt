@@ -10,7 +10,6 @@ ghost use Rattle.checking.specs.RuleParts.{Declaration, Repeated-at, Rep
 use crate::faults::Found;
 use crate::faults::earlier;
 use crate::faults::unless;
-use crate::table::class_at;
 use crate::table::entity_number;
 use crate::table::interface_number;
 use crate::table::member_kind;
@@ -23,6 +22,7 @@ use text::classes::COLON;
 use text::classes::END;
 use text::classes::EVENT;
 use text::classes::NAME;
+use text::walks::class_at;
 use text::walks::skip;
 
 // Numbers for none, and the directory's first row for the interfaces of entities.

@@ -19,7 +19,6 @@ ghost use Rattle.checking.specs.Resolving.{
 ghost use Rattle.checking.specs.Resolution.{Resolves};
 use crate::meanings::declares;
 use crate::meanings::meaning_of;
-use crate::table::class_at;
 use crate::table::entity_number;
 use crate::table::first_of;
 use crate::table::interface_number;
@@ -34,6 +33,7 @@ use text::classes::NAME;
 use text::classes::ON;
 use text::classes::WHEN;
 use text::classes::WITH;
+use text::walks::class_at;
 use text::walks::skip;
 
 const NO_ENTITY: usize = 32;

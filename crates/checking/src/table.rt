@@ -6,6 +6,7 @@ ghost use Rattle.values.specs.Bytes.{same-bytes};
 ghost use Rattle.checking.specs.Directory.{name-in, sort-class, kind-class, interface-number, entity-number, member-number};
 ghost use Rattle.checking.specs.ClassSearch.{First-of};
 ghost use Rattle.checking.specs.DirectoryReads.{First-named, Number-of, Member-row, Member-class, few-members};
+use text::walks::class_at;
 
 // A row of the directory, or of the offsets.
 pub fn row(d: &[u16], i: usize) -> usize
@@ -15,16 +16,6 @@ pub fn row(d: &[u16], i: usize) -> usize
         return 0;
     }
     d[i] as usize
-}
-
-// A row of the classes, or of the lengths.
-pub fn class_at(classes: &[u8], i: usize) -> u8
-    ensures { λ r. ⌜ r ≡ getD (now (classes .entry)) i 0 ⌝ }
-{
-    if classes.len() <= i {
-        return 0;
-    }
-    classes[i]
 }
 
 // The first token of a class from number `from` on; the count of tokens if there is none.

@@ -3,7 +3,7 @@ use Prim.Native.Nat.{ℕ, zero, suc, _+_, _*_, _%_, _≤_, _<_}
 use native.Mathlib.Numerals.{add-one}
 use native.Mathlib.Omega.{arith}
 use mathlib.Core.Path.{_≡_, refl, sym, ap, _∙_}
-use mathlib.Core.Bool.{Bool, true, false, true≢false, _&&_, _||_}
+use mathlib.Core.Bool.{Bool, true, false, true≢false, cond, _&&_, _||_}
 use mathlib.Core.List.{List, [], _∷_, _++_, flatMap}
 use mathlib.Core.Option.{some}
 use lib.Dec.{T, leb, ltb, eqb}
@@ -23,7 +23,7 @@ use Rattle.cycles.specs.declared.evaluate.Binding.{Binding}
 use Rattle.cycles.specs.Bindings.{bindings, rule-writes, all-writes}
 use Rattle.cycles.specs.Evaluation.{bound, puts, Rule-puts}
 use Rattle.cycles.specs.AllRules.{Rules-given, Gives, complete, candidate, Ranged, Ranges, Entity-added, Bindings-put, Rules-put}
-use Rattle.cycles.specs.Guards.{Guards-found}
+use Rattle.cycles.specs.Guards.{Guards-found, Needless, no-candidate, silent, Marked, Marks-set}
 use Rattle.cycles.proofs.EvaluationLaws.{puts-append}
 use Rattle.cycles.proofs.ResolvedLaws.{rule-puts-binding}
 use Rattle.cycles.proofs.BindingWrites.{
@@ -60,6 +60,13 @@ module _ (scopes : List ℕ) (k level : ℕ) where
       go : (t : Bool) → leb 3 level ≡ t → (t || eqb (getD scopes (scope-row k) 0) level) ≡ false → level < 3
       go true e f = let z : _≡_ {A = ℕ} 0 1 = cc in absurd (omega arith)
       go false e f = leb-false 3 level e
+
+  pub incomplete-more : {t : Bool} → t ≡ complete scopes k level → t ≡ false → getD scopes (scope-row k) 0 ≡ level → ⊥
+  incomplete-more e f n = go (leb 3 level) (sym e ∙ f)
+    where
+      go : (t : Bool) → (t || eqb (getD scopes (scope-row k) 0) level) ≡ false → ⊥
+      go true h = let z : _≡_ {A = ℕ} 0 1 = cc in omega arith
+      go false h = absurd (eqb-false (getD scopes (scope-row k) 0) level h n)
 
 module _ (d flags : List ℕ) (face e : ℕ) {p : Bool} (present : p ≡ eqb (getD flags e 0) 1) where
   pub candidate-absent : p ≡ false → false ≡ candidate d flags face e
@@ -132,7 +139,7 @@ module _ {d flags : List ℕ} {n face first end : ℕ} (rows : List ℕ) (before
 module _ {b : Binding} {level e : ℕ} (byte : e < 256) where
   pub added-first : level ≡ 0 → Entity-added b level e (record { entities = e })
   unfolding bound
-  added-first l = record { gives = go }
+  added-first l = record { gives = go; keeps = λ v h m. absurd (omega arith) }
     where
       go : (es : List ℕ) → length es ≡ level → level < 3 → Gives b es → Gives (record { entities = e }) (es ++ e ∷ [])
       go [] s m g zero x h = omega (arith, some-injective h)
@@ -141,8 +148,12 @@ module _ {b : Binding} {level e : ℕ} (byte : e < 256) where
 
   pub added-second : level ≡ 1 → Entity-added b level e (record { entities = b .entities % 256 + 256 * e })
   unfolding bound
-  added-second l = record { gives = go }
+  added-second l = record { gives = go; keeps = same }
     where
+      same : (v : ℕ) → v < level → level < 3 → bound (record { entities = b .entities % 256 + 256 * e }) (32 + v) ≡ bound b (32 + v)
+      same zero h m = omega arith
+      same (suc v) h m = absurd (omega arith)
+
       go : (es : List ℕ) → length es ≡ level → level < 3 → Gives b es → Gives (record { entities = b .entities % 256 + 256 * e }) (es ++ e ∷ [])
       go [] s m g v x h = absurd (omega arith)
       go (a ∷ []) s m g zero x h = omega (arith, g 0 x h)
@@ -152,8 +163,13 @@ module _ {b : Binding} {level e : ℕ} (byte : e < 256) where
 
   pub added-third : (level ≡ 0 → ⊥) → (level ≡ 1 → ⊥) → Entity-added b level e (record { entities = b .entities % 65536 + 65536 * e })
   unfolding bound
-  added-third n o = record { gives = go }
+  added-third n o = record { gives = go; keeps = same }
     where
+      same : (v : ℕ) → v < level → level < 3 → bound (record { entities = b .entities % 65536 + 65536 * e }) (32 + v) ≡ bound b (32 + v)
+      same zero h m = omega arith
+      same (suc zero) h m = omega arith
+      same (suc (suc v)) h m = absurd (omega arith)
+
       go : (es : List ℕ) → length es ≡ level → level < 3 → Gives b es → Gives (record { entities = b .entities % 65536 + 65536 * e }) (es ++ e ∷ [])
       go [] s m g v x h = absurd (n (sym s))
       go (a ∷ []) s m g v x h = absurd (o (sym s))
@@ -218,6 +234,36 @@ module _ {classes values d refs scopes flags cells previous-flags previous-cells
           (c .given .now-stored) (c .given .previous-stored) (rw n at p)
           ∙ ap (puts area) (sym (complete-writes c h))
 
+-- ---- marks of candidates
+
+module _ {d flags : List ℕ} {face first e : ℕ} (marks : List ℕ) (before : Marks-set d flags face first e marks) (room : e < length marks)
+    {t : Bool} (is : t ≡ candidate d flags face e) {v : ℕ} (mark : v ≡ cond t 1 0) where
+  pub marks-more : Marks-set d flags face first (e + 1) (set marks e v)
+  marks-more = record { sets = λ x l h. go x l h (ltb x e) refl }
+    where
+      go : (x : ℕ) → first ≤ x → x < e + 1 → (b : Bool) → ltb x e ≡ b → getD (set marks e v) x 0 ≡ cond (candidate d flags face x) 1 0
+      go x l h true q = let below = ltb-true x e q in getD-set-other marks e x v 0 (λ z. omega arith) ∙ before .sets x l below
+      go x l h false q =
+          let same : e ≡ x = omega (arith, ltb-false x e q) in
+          rw (← same) (getD-set-same marks e v 0 room ∙ mark ∙ ap (λ t. cond t 1 0) is)
+
+module _ {classes values d refs scopes flags cells previous-flags previous-cells : List ℕ} {k level : ℕ} {b : Binding} {face first end : ℕ}
+    {marks : List ℕ} where
+  pub marks-mean : Marks-set d flags face first end marks
+      → Marked classes values d refs scopes flags cells previous-flags previous-cells k level b face first end marks
+  marks-mean m = record {
+    unmarked = λ e l h z. no-candidate (not-one (candidate d flags face e) (sym (m .sets e l h) ∙ z));
+    marked = λ e l h n. one (candidate d flags face e) (λ z. n (m .sets e l h ∙ z));
+  }
+    where
+      not-one : (t : Bool) → _≡_ {A = ℕ} (cond t 1 0) 0 → t ≡ false
+      not-one true z = absurd (omega arith)
+      not-one false z = refl
+
+      one : (t : Bool) → (_≡_ {A = ℕ} (cond t 1 0) 0 → ⊥) → t ≡ true
+      one true n = refl
+      one false n = absurd (n refl)
+
 -- the entities before number e have had their turns for the next variable: the writes of the others are left
 pub record Turns-left (classes values d refs scopes flags cells previous-flags previous-cells : List ℕ) (k level : ℕ) (b : Binding)
     (area : List ℕ) (e : ℕ) (after : List ℕ) : Type 0 where
@@ -259,6 +305,13 @@ module _ {classes values d refs scopes flags cells previous-flags previous-cells
         go : (t : Bool) → candidate d flags (getD scopes (scope-row k + 1 + level) 0) x ≡ t → t ≡ false
         go true q = absurd (n (range-in c h .among x i q))
         go false q = refl
+
+  -- no checked bench has so many entities
+  pub bindings-impossible : {end : ℕ} → end ≡ getD ranges (2 * face + 1) 0 → 32 < end → {t : Bool} → t ≡ complete scopes k level → t ≡ false
+      → {area after : List ℕ} → Bindings-put classes values d refs scopes flags cells previous-flags previous-cells k level b area after
+  bindings-impossible e l y n = in-each (λ c.
+      let (v, h) = next-variable c (incomplete-more scopes k level y n) in
+      absurd (omega (arith, range-in c h .most, entity-count c, c .given .checked .few .entities)))
 
   module _ {area : List ℕ} where
     pub turns-begin : {first : ℕ} → first ≡ getD ranges (2 * face) 0
@@ -308,17 +361,25 @@ module _ {classes values d refs scopes flags cells previous-flags previous-cells
               (ap (λ n. bindings (file c) (c .given .now) (drop n (variables (c .rule)))) (add-one level))))
               ∙ turns .left c v h
 
+      -- an entity that needs no turn
+      pub turn-saved : e < end → level < 3 → {r : Binding} → Entity-added b level e r
+          → Needless classes values d refs scopes flags cells previous-flags previous-cells k level b face e
+          → Turns-left classes values d refs scopes flags cells previous-flags previous-cells k level b area (e + 1) after
+      turn-saved l m a (no-candidate n) = turn-skips l refl n
+      turn-saved l m {r} a (silent s) = go (candidate d flags face e) refl
+        where
+          go : (t : Bool) → candidate d flags face e ≡ t
+              → Turns-left classes values d refs scopes flags cells previous-flags previous-cells k level b area (e + 1) after
+          go true q = turn-takes l refl q m a (s r a after)
+          go false q = turn-skips l refl q
+
       pub turns-end : {t : Bool} → t ≡ complete scopes k level → t ≡ false → end ≤ e
           → Bindings-put classes values d refs scopes flags cells previous-flags previous-cells k level b area after
       unfolding puts
       turns-end y n l = in-each (λ c.
-          let (v, h) = next-variable c (λ p. go (leb 3 level) p (sym y ∙ n)) in
+          let (v, h) = next-variable c (incomplete-more scopes k level y n) in
           let last = last-writes c h {e = e + getD d 1 0} (omega arith) in
           ap (puts after) (sym (writes-between c h (getD d 1 0) e (λ x from u i. outside c h x i (λ p. omega (arith, p .1))) ∙ last)) ∙ turns .left c v h)
-        where
-          go : (t : Bool) → getD scopes (scope-row k) 0 ≡ level → (t || eqb (getD scopes (scope-row k) 0) level) ≡ false → ⊥
-          go true n h = let z : _≡_ {A = ℕ} 0 1 = cc in omega arith
-          go false n h = absurd (eqb-false (getD scopes (scope-row k) 0) level h n)
 
 -- ---- all rules
 

@@ -1,9 +1,8 @@
 -- The value of an expression by a walk over its tokens: one law for each place where the walk returns, and two for its loops.
-use Prim.Native.Nat.{ℕ, _-_, _/_, _%_, _<_}
+use Prim.Native.Nat.{ℕ, _-_, _/_, _%_}
 use mathlib.Core.Path.{_≡_, refl, sym, ap, _∙_}
 use mathlib.Core.List.{List}
 use mathlib.Core.Bool.{Bool, true, false}
-use native.Mathlib.Omega.{arith}
 use lib.IntN.{pos}
 use lib.Ieee.{binary64, ofInt}
 use lib.Dec.{eqb}
@@ -17,7 +16,7 @@ use Rattle.values.specs.Value.{fitted, settled, operated, negated, as-real}
 use Rattle.text.specs.Tokens.{NAME, WHOLE-NUMBER, REAL-NUMBER, TRUE, FALSE, REAL, ROUND-OPEN, PLUS, MINUS, TIMES, DIVIDE}
 use Rattle.text.specs.Syntax.{Expression}
 use Rattle.text.specs.Readers.{Reader, halt, joined}
-use Rattle.text.specs.Grammar.{name-of, operator-of, apply-at, is-factor-operator, is-term-operator, simple-or, factor-reader, term-reader, expression-reader}
+use Rattle.text.specs.Grammar.{name-of, operator-of, apply-at, is-factor-operator, is-term-operator, simple-or, factor-reader, expression-reader}
 use Rattle.text.specs.Walks.{nth-token, Steps}
 use Rattle.text.proofs.WalkLaws.{row-class, walk-stops, chain-turns}
 use Rattle.text.proofs.ExpressionWalks.{
@@ -32,8 +31,6 @@ use Rattle.text.proofs.ExpressionWalks.{
   factor-real,
   factor-round,
   factor-minus,
-  term-begins,
-  expression-begins,
 }
 use Rattle.cycles.specs.declared.evaluate.Binding.{Binding}
 use Rattle.cycles.specs.Evaluate.{value}
@@ -75,27 +72,22 @@ module _ (c : ℕ) where
   unfolding is-term-operator
   other-term-operator n q = rw (ne-eqb c PLUS n) q
 
-  -- the operators' classes are PLUS and more
-  pub no-operator : c < PLUS → (is-factor-operator c ≡ false) × (is-term-operator c ≡ false)
-  unfolding is-factor-operator is-term-operator
-  no-operator h = (
-    rw (ne-eqb c TIMES (λ q. omega arith), ne-eqb c DIVIDE (λ q. omega arith)),
-    rw (ne-eqb c PLUS (λ q. omega arith), ne-eqb c MINUS (λ q. omega arith)),
-  )
-
 -- ---- what begins with no opener
+
+-- a cell by other names
+pub cell-same : {flags cells : List ℕ} {e f m n : ℕ} {v : Value} → e ≡ f → m ≡ n → Cell-read flags cells e m v → Cell-read flags cells f n v
+cell-same p q h = rw (p, q) at h
 
 -- `class` is what the walk found at number `at`
 module _ {classes values refs : List ℕ} {b : Binding} {flags cells : List ℕ} {at class : ℕ} (is : class ≡ getD classes at 0) where
-  pub leaf-cell : at < length classes → class ≡ NAME → {dot name next r e m : ℕ} {v : Value}
+  pub leaf-cell : class ≡ NAME → {dot name next : ℕ} {v : Value}
       → Steps (length classes) at dot → Steps (length classes) dot name → Steps (length classes) name next
-      → r ≡ getD refs at 0 % 256 → e ≡ bound b r → m ≡ getD refs name 0 / 256 → Cell-read flags cells e m v
+      → Cell-read flags cells (bound b (getD refs at 0 % 256)) (getD refs name 0 / 256) v
       → Expression-walk classes values refs b flags cells (simple-or halt) at v next
   unfolding value name-of
-  leaf-cell h q {dot} {name} {next} {r} {e} {m} {v} s t u er ee em k =
-      let f : Cell-read flags cells (bound b (getD refs at 0 % 256)) (getD refs name 0 / 256) v = rw (ee ∙ ap (bound b) er, em) at k in
-      leaf-member h (sym is ∙ q) (member-walk s t u λ c p₁ p₂ p₃.
-      f .reads (c .rule .count) (c .store) (c .rule .spots (nth-token (c .rule .rows .tokens) at .bytes) (nth-token (c .rule .rows .tokens) name .bytes))
+  leaf-cell q {name = name} s t u k =
+      leaf-member (sym is ∙ q) (member-walk s t u λ c p₁ p₂ p₃.
+      k .reads (c .rule .count) (c .store) (c .rule .spots (nth-token (c .rule .rows .tokens) at .bytes) (nth-token (c .rule .rows .tokens) name .bytes))
       (c .stored) (dotted-at (c .rule) s t p₁ p₂ p₃))
 
   pub leaf-is-true : class ≡ TRUE → {next : ℕ} → Steps (length classes) at next
@@ -175,17 +167,3 @@ module _ {classes values refs : List ℕ} {b : Binding} {flags cells : List ℕ}
         chain-turns (in-store-rows classes values refs b flags cells) (expression-yields classes values refs b flags cells) test apply-at item g z
         (ap test (sym ec) ∙ sym er ∙ e) s h (λ c y w p ey ew.
         rw (row-class (c .rule .rows) i (p .inside), ← ey, ← ew) k)
-
--- ---- a leaf alone
-
--- below the openers' classes, and before no operator: `class` is found at number `at`, and `after` at number `next`
-pub leaf-alone : {classes values refs : List ℕ} {b : Binding} {flags cells : List ℕ} {at class after : ℕ} (left : ℕ) → class ≡ getD classes at 0
-    → class < REAL → {v : Value} {next : ℕ} → Expression-walk classes values refs b flags cells (simple-or halt) at v next
-    → after ≡ getD classes next 0 → after < PLUS → Expression-walk classes values refs b flags cells (expression-reader left) at v next
-leaf-alone {after = after} left is l h e k =
-    operators-stop is-term-operator (term-reader left)
-    (expression-begins left
-    (operators-stop is-factor-operator (factor-reader left)
-    (term-begins left (factor-no-opener is left (λ q. omega arith) (λ q. omega arith) (λ q. omega arith) h))
-    e refl (no-operator after k .0)))
-    e refl (no-operator after k .1)

@@ -11,7 +11,7 @@ use borrow.Author.Tests.{ltb-true, ltb-false, eqb-true, eqb-false}
 use Rattle.text.specs.Walks.{Rows}
 use Rattle.cycles.specs.Store.{Store}
 use Rattle.cycles.specs.Spots.{Spots}
-use Rattle.cycles.specs.Guards.{Covered, Guard, equals-now, equals-before, differs-before, changes, group, Guarded}
+use Rattle.cycles.specs.Guards.{Covered, Guard, equals-now, equals-before, differs-before, changes, group, guard-kind, guard-level, guard-inner, Guarded}
 use Rattle.cycles.specs.Finding.{Growth, Guard-put, none-put, one-put, Part-put, Extends}
 
 -- ---- levels
@@ -84,24 +84,25 @@ module _ (rows : List ℕ) (p a n m at : ℕ) where
 
 module _ {classes : List ℕ} {w : Rows classes} {refs : List ℕ} {silence : Spots → Store → Store → Type 0} where
   -- the same guard by other names of its numbers
-  same-guard : {a b k l n m o p at i : ℕ} → b ≡ a → l ≡ k → m ≡ n → p ≡ o → i ≡ at → Guard w refs silence a k n o at → Guard w refs silence b l m p i
-  same-guard ea ek en eo ei g = rw (ea, ek, en, eo, ei) g
+  same-guard : {a b c d k l n m o p at i : ℕ} → b ≡ a → d ≡ c → l ≡ k → m ≡ n → p ≡ o → i ≡ at
+      → Guard w refs silence a c k n o at → Guard w refs silence b d l m p i
+  same-guard ea ec ek en eo ei g = rw (ea, ec, ek, en, eo, ei) g
 
   -- a guard of what is silent holds where that silences more
-  pub guard-along : {other : Spots → Store → Store → Type 0} {level kind n m at : ℕ}
+  pub guard-along : {other : Spots → Store → Store → Type 0} {level inner kind n m at : ℕ}
       → ((sp : Spots) (now previous : Store) → silence sp now previous → other sp now previous)
-      → Guard w refs silence level kind n m at → Guard w refs other level kind n m at
-  guard-along f (equals-now k names own part q) = equals-now k names own part (λ sp now previous e. f sp now previous (q sp now previous e))
-  guard-along f (equals-before k names own part q) = equals-before k names own part (λ sp now previous e. f sp now previous (q sp now previous e))
-  guard-along f (differs-before k names own part q) = differs-before k names own part (λ sp now previous e. f sp now previous (q sp now previous e))
+      → Guard w refs silence level inner kind n m at → Guard w refs other level inner kind n m at
+  guard-along f (equals-now k names own h part q) = equals-now k names own h part (λ sp now previous e. f sp now previous (q sp now previous e))
+  guard-along f (equals-before k names own h part q) = equals-before k names own h part (λ sp now previous e. f sp now previous (q sp now previous e))
+  guard-along f (differs-before k names own h part q) = differs-before k names own h part (λ sp now previous e. f sp now previous (q sp now previous e))
   guard-along f (changes k names own q) = changes k names own (λ sp now previous e. f sp now previous (q sp now previous e))
   guard-along f (group k part q) = group k part (λ sp now previous e. f sp now previous (q sp now previous e))
 
   -- guards in memory, and one more
-  pub guarded-more : {level kind n m at : ℕ} {g : Growth} → Guard-put level kind n m at g → kind < 8 → Guard w refs silence level kind n m at
-      → Guarded w refs silence (g .before) (g .count) → Guarded w refs silence (g .after) (g .total)
-  guarded-more (none-put ea et) few x all = rw (ea, et) all
-  guarded-more {level} {kind} {n} {m} {at} {g} (one-put room ea et) few x all = rw (ea, et) (λ j h. go j h (eqb j (g .count)) refl)
+  pub guarded-more : {level inner kind n m at : ℕ} {g : Growth} → Guard-put level inner kind n m at g → kind < 8 → level < 4
+      → Guard w refs silence level inner kind n m at → Guarded w refs silence (g .before) (g .count) → Guarded w refs silence (g .after) (g .total)
+  guarded-more (none-put ea et) hk hl x all = rw (ea, et) all
+  guarded-more {level} {inner} {kind} {n} {m} {at} {g} (one-put room ea et) hk hl x all = rw (ea, et) (λ j h. go j h (eqb j (g .count)) refl)
     where
       rows : List ℕ
       rows = g .before
@@ -110,29 +111,40 @@ module _ {classes : List ℕ} {w : Rows classes} {refs : List ℕ} {silence : Sp
       p = 4 * g .count
 
       a : ℕ
-      a = kind + 8 * level
+      a = kind + 8 * level + 32 * inner
 
       go : (j : ℕ) → j < g .count + 1 → (t : Bool) → eqb j (g .count) ≡ t
-          → Guard w refs silence (getD (four rows p a n m at) (4 * j) 0 / 8) (getD (four rows p a n m at) (4 * j) 0 % 8)
+          → Guard w refs silence (guard-level (four rows p a n m at) j) (guard-inner (four rows p a n m at) j) (guard-kind (four rows p a n m at) j)
           (getD (four rows p a n m at) (4 * j + 1) 0) (getD (four rows p a n m at) (4 * j + 2) 0) (getD (four rows p a n m at) (4 * j + 3) 0)
       go j h true q =
           let e : j ≡ g .count = eqb-true j (g .count) q in
-          let above : (kind + 8 * level) / 8 ≡ level = omega arith in
-          let low : (kind + 8 * level) % 8 ≡ kind = omega arith in
+          let low : (kind + 8 * level + 32 * inner) % 8 ≡ kind = omega arith in
+          let levels : (kind + 8 * level + 32 * inner) / 8 ≡ level + 4 * inner = omega arith in
+          let rest : (level + 4 * inner) % 4 ≡ level = omega arith in
+          let above : (kind + 8 * level + 32 * inner) / 32 ≡ inner = omega arith in
           let first = four-first rows p a n m at room in
-          rw e (same-guard (ap (λ i. i / 8) first ∙ above) (ap (λ i. i % 8) first ∙ low) (four-second rows p a n m at room) (four-third rows p a n m at room)
-          (four-fourth rows p a n m at room) x)
+          rw e (same-guard (ap (λ i. i / 8 % 4) first ∙ ap (λ i. i % 4) levels ∙ rest) (ap (λ i. i / 32) first ∙ above) (ap (λ i. i % 8) first ∙ low)
+          (four-second rows p a n m at room) (four-third rows p a n m at room) (four-fourth rows p a n m at room) x)
       go j h false q =
           let e = eqb-false j (g .count) q in
           let first = four-below rows p a n m at (4 * j) (omega arith) in
-          same-guard (ap (λ i. i / 8) first) (ap (λ i. i % 8) first) (four-below rows p a n m at (4 * j + 1) (omega arith))
-          (four-below rows p a n m at (4 * j + 2) (omega arith)) (four-below rows p a n m at (4 * j + 3) (omega arith)) (all j (omega arith))
+          same-guard (ap (λ i. i / 8 % 4) first) (ap (λ i. i / 32) first) (ap (λ i. i % 8) first)
+          (four-below rows p a n m at (4 * j + 1) (omega arith)) (four-below rows p a n m at (4 * j + 2) (omega arith))
+          (four-below rows p a n m at (4 * j + 3) (omega arith)) (all j (omega arith))
 
 -- no guard is put
 pub nothing-put : {refs : List ℕ} {kind n m at next : ℕ} {guards : List ℕ} {count : ℕ}
     → Part-put refs kind n m at next (record { before = guards; count = count; after = guards; total = count })
-nothing-put {n = n} {at = at} {next = next} =
-    record { level = 3; own = covered-all n (n + 1); inside = covered-all at next; put = none-put refl refl }
+nothing-put {n = n} {at = at} {next = next} = record {
+  level = 3;
+  inner = 3;
+  few = omega arith;
+  within = omega arith;
+  own = covered-all n (n + 1);
+  inside = covered-all at next;
+  alone = λ h. covered-all at next;
+  put = none-put refl refl;
+}
 
 -- ---- what memory promises of a part
 
@@ -141,9 +153,9 @@ module _ {classes : List ℕ} {w : Rows classes} {refs : List ℕ} {fails : Spot
   pub extends-same : {g : Growth} → g .after ≡ g .before → g .total ≡ g .count → Extends w refs fails g
   extends-same ea et = record { extends = λ r f all. rw (ea, et) all }
 
-  pub extends-put : {level kind n m at : ℕ} {g : Growth} → Guard-put level kind n m at g → kind < 8 → Guard w refs fails level kind n m at
-      → Extends w refs fails g
-  extends-put put few x = record { extends = λ r f all. guarded-more put few (guard-along f x) all }
+  pub extends-put : {kind n m at next : ℕ} {g : Growth} (put : Part-put refs kind n m at next g) → kind < 8
+      → Guard w refs fails (put .level) (put .inner) kind n m at → Extends w refs fails g
+  extends-put put few x = record { extends = λ r f all. guarded-more (put .put) few (put .few) (guard-along f x) all }
 
   pub extends-then : {a b c : List ℕ} {i j k : ℕ} → Extends w refs fails (record { before = a; count = i; after = b; total = j })
       → Extends w refs fails (record { before = b; count = j; after = c; total = k })

@@ -91,8 +91,9 @@ module _ {classes refs : List ℕ} {at class : ℕ} (is : class ≡ getD classes
       → Steps (length classes) j inside → Ends classes (expression-reader OPENERS) inside next → Part-put refs 1 n name inside next g
       → Filter-guards-walk classes refs n at g next
   filter-a-guard q {n} s t u h put = walk-then (λ w f l k y. record {
-    filters = λ t e names. extends-put (put .put) (omega arith)
-        (equals-before refl (rw (y .follows) (names (y .word) (y .named))) (put .own) (y .part (put .level) (put .inside))
+    filters = λ t e names. extends-put put (omega arith)
+        (equals-before refl (rw (y .follows) (names (y .word) (y .named))) (put .own) (put .within)
+        (y .part (put .inner) (put .alone (omega arith)))
         (λ sp now previous z. y .holding sp previous t e ∙ z));
   }) (filter-part q n s t u h)
 
@@ -102,7 +103,7 @@ module _ {classes refs : List ℕ} {at class : ℕ} (is : class ≡ getD classes
       → Test-guards-walk classes refs n m at g next
   unfolding test-holds
   test-changed-guard q s put = test-changed OPENERS (sym is ∙ q) s λ w. record {
-    tests = λ names. extends-put (put .put) (omega arith) (changes refl names (put .own) (λ sp now previous z. z));
+    tests = λ names. extends-put put (omega arith) (changes refl names (put .own) (λ sp now previous z. z));
   }
 
   pub test-equals-guards : (class ≡ CHANGED → ⊥) → {n m inside next : ℕ} {a b c : List ℕ} {i j k : ℕ} → Steps (length classes) at inside
@@ -113,8 +114,9 @@ module _ {classes refs : List ℕ} {at class : ℕ} (is : class ≡ getD classes
   unfolding test-holds
   test-equals-guards q s h first second = test-equals OPENERS (λ z. q (is ∙ z)) s (part-walk refs h) λ w x p y. record {
     tests = λ names. extends-then
-        (extends-put (first .put) (omega arith) (equals-now refl names (first .own) (y (first .level) (first .inside)) (λ sp now previous z. rw z)))
-        (extends-put (second .put) (omega arith) (differs-before refl names (second .own) (y (second .level) (second .inside))
+        (extends-put first (omega arith) (equals-now refl names (first .own) (first .within) (y (first .inner) (first .alone (omega arith)))
+        (λ sp now previous z. rw z)))
+        (extends-put second (omega arith) (differs-before refl names (second .own) (second .within) (y (second .inner) (second .alone (omega arith)))
         (λ sp now previous z. rw z (and-false (equal (value-at now (spot-named w sp _ _)) (value sp now x))))));
   }
 
@@ -161,7 +163,7 @@ module _ {classes refs : List ℕ} {at : ℕ} where
   pub atom-guards-group : {n m next : ℕ} {g : Growth} → Ends classes (atom-reader OPENERS) at next → Part-put refs 4 n m at next g
       → Condition-guards-walk classes refs (atom-reader OPENERS) at g next
   atom-guards-group h put =
-      walk-then (λ w a l k y. extends-put (put .put) (omega arith) (group refl (y (put .level) (put .inside)) (λ sp now previous e. e)))
+      walk-then (λ w a l k y. extends-put put (omega arith) (group refl (y (put .level) (put .inside)) (λ sp now previous e. e)))
       (part-walk refs h)
 
 abbrev pub Conjuncts-loop : List ℕ → List ℕ → ℕ → Growth → ℕ → Type 0

@@ -117,7 +117,7 @@ module _ {classes refs : List ℕ} {at : ℕ} where
             stands l (omega (arith, s₁ .onward, s₂ .onward, s₃ .onward, x .onward, s₄ .onward)) h₅ e₅ s₅ (omega (arith, t .onward, f .onward)) h in
             let shape : Targeted w (on + 1) k = rw d at (placed .shape) in
             let names : Names w owner attr = rw (d, part .follows) (attribute (inr word) shape (part .word) (part .named)) in
-            extends-put (put .put) (omega arith) (equals-now refl names (put .own) (part .part (put .level) (put .inside))
+            extends-put put (omega arith) (equals-now refl names (put .own) (put .within) (part .part (put .inner) (put .alone (omega arith)))
             (λ sp now previous e. filter-fails sp now previous _ (part .holding sp now u (placed .named) ∙ e)))) refl;
       })
 

@@ -57,6 +57,7 @@ Ranges d flags n ranges = (face : ℕ) → face < 16 → Ranged d flags n face (
 -- r is b with entity e for variable number `level`, the next one
 pub record Entity-added (b : Binding) (level e : ℕ) (r : Binding) : Type 0 where
   pub gives : (es : List ℕ) → length es ≡ level → level < 3 → Gives b es → Gives r (es ++ e ∷ [])
+  pub keeps : (v : ℕ) → v < level → level < 3 → bound r (32 + v) ≡ bound b (32 + v)
 
 module _ (classes values d refs scopes flags cells previous-flags previous-cells : List ℕ) where
   -- rule number k for every binding that begins with entities for the first `level` variables

@@ -1,36 +1,64 @@
--- How a guard fails at a binding, by its kind: what is read in memory for it.
-use Prim.Native.Nat.{ℕ, _+_, _/_, _%_, _≤_}
+-- How a guard fails with an entity for the next variable, by its kind: what is read in memory for it. Only such an entity loses its mark.
+use Prim.Native.Nat.{ℕ, _+_, _/_, _%_, _≤_, _<_}
 use mathlib.Core.Path.{_≡_}
 use mathlib.Core.List.{List}
 use mathlib.Core.Bool.{Bool, true, false}
-use mathlib.Core.Option.{Option}
-use lib.ListN.{getD, drop}
+use mathlib.Core.Logic.{_⊎_}
+use lib.ListN.{getD}
 use Rattle.values.specs.declared.Value.{Value}
 use Rattle.values.specs.Value.{equal, differ}
-use Rattle.text.specs.Syntax.{Expression}
-use Rattle.text.specs.Readers.{read}
 use Rattle.text.specs.Grammar.{OPENERS, expression-reader, atom-reader}
 use Rattle.cycles.specs.declared.evaluate.Binding.{Binding}
-use Rattle.cycles.specs.Spots.{Spot}
-use Rattle.cycles.specs.Evaluate.{value-at, value}
-use Rattle.cycles.specs.Evaluation.{bound, Locates, In-store, Cell-read, Condition-walk}
+use Rattle.cycles.specs.Evaluation.{bound, Cell-read, Expression-walk, Condition-walk}
+use Rattle.cycles.specs.AllRules.{Entity-added}
 
--- whether member m of entity e and the expression at number `at` are equal in one store
-pub record Equal-read (classes values refs : List ℕ) (b : Binding) (flags cells : List ℕ) (e m at : ℕ) (r : Bool) : Type 0 where
-  pub equals : (c : In-store classes values refs b flags cells) (p : Option Spot) → Locates (c .rule .count) p e m → c .rule .rows .low ≤ at
-      → (x : Expression) (used : ℕ) → expression-reader OPENERS (drop at (c .rule .rows .tokens)) ≡ read x used → at + used ≤ c .rule .rows .high
-      → r ≡ equal (value-at (c .store) p) (value (c .rule .spots) (c .store) x)
+-- marks are taken of no entities but those that fail
+pub record Marks-taken (Failing : ℕ → Type 0) (before after : List ℕ) : Type 0 where
+  pub takes : (e : ℕ) → (getD after e 0 ≡ getD before e 0) ⊎ ((getD after e 0 ≡ 0) × Failing e)
 
-module _ (classes values refs : List ℕ) (b : Binding) (flags cells previous-flags previous-cells : List ℕ) where
-  -- a guard of the kind fails, whose member is number m of entity e, and whose expression or condition stands at number `at`
-  pub data Fails (e m at : ℕ) : ℕ → Type 0 where
-    unequal-now : Equal-read classes values refs b flags cells e m at false → Fails e m at 0
-    unequal-before : Equal-read classes values refs b previous-flags previous-cells e m at false → Fails e m at 1
-    equal-before : Equal-read classes values refs b previous-flags previous-cells e m at true → Fails e m at 2
-    unchanged : {x y : Value} → Cell-read flags cells e m x → Cell-read previous-flags previous-cells e m y → differ x y ≡ false → Fails e m at 3
-    group-false : {next : ℕ} → Condition-walk classes values refs b flags cells previous-flags previous-cells (atom-reader OPENERS) at false next
-        → Fails e m at 4
+-- with entity e for the next variable: member m of what r refers to and a value are equal in one store, or are not, as `outcome` says
+pub record Cell-fails (b : Binding) (level : ℕ) (flags cells : List ℕ) (r m : ℕ) (value : Value) (outcome : Bool) (e : ℕ) : Type 0 where
+  pub binding : Binding
+  pub added : Entity-added b level e binding
+  pub cell : Value
+  pub reads : Cell-read flags cells (bound binding r) m cell
+  pub fails : equal cell value ≡ outcome
 
-  -- an answer `true`: the guard of tokens number n, m and `at` fails
-  pub record Failing (kind n m at : ℕ) (r : Bool) : Type 0 where
-    pub fails : r ≡ true → Fails (bound b (getD refs n 0 % 256)) (getD refs m 0 / 256) at kind
+-- the value is that of the expression at number `at`, worked out with the entities of the first `inner` variables
+pub record Value-fails (classes values refs : List ℕ) (b : Binding) (level : ℕ) (flags cells : List ℕ) (inner r m at : ℕ) (outcome : Bool) (e : ℕ)
+    : Type 0 where
+  pub value : Value
+  pub next : ℕ
+  pub cell : Cell-fails b level flags cells r m value outcome e
+  pub with-binding : Binding
+  pub walk : Expression-walk classes values refs with-binding flags cells (expression-reader OPENERS) at value next
+  pub agrees : level < 3 → (v : ℕ) → v < inner → v ≤ level → bound (cell .binding) (32 + v) ≡ bound with-binding (32 + v)
+
+-- member m of what r refers to is now as it was before
+pub record Unchanged (b : Binding) (level : ℕ) (flags cells previous-flags previous-cells : List ℕ) (r m e : ℕ) : Type 0 where
+  pub binding : Binding
+  pub added : Entity-added b level e binding
+  pub cell : Value
+  pub earlier : Value
+  pub reads : Cell-read flags cells (bound binding r) m cell
+  pub reads-earlier : Cell-read previous-flags previous-cells (bound binding r) m earlier
+  pub same : differ cell earlier ≡ false
+
+module _ (classes values refs : List ℕ) (b : Binding) (level : ℕ) (flags cells previous-flags previous-cells : List ℕ) where
+  -- the condition at number `at` does not hold
+  pub record Group-fails (at e : ℕ) : Type 0 where
+    pub binding : Binding
+    pub added : Entity-added b level e binding
+    pub next : ℕ
+    pub walk : Condition-walk classes values refs binding flags cells previous-flags previous-cells (atom-reader OPENERS) at false next
+
+  -- a guard of the kind fails, of tokens number n, m and `at`
+  pub data Guard-fails (inner n m at e : ℕ) : ℕ → Type 0 where
+    unequal-now : Value-fails classes values refs b level flags cells inner (getD refs n 0 % 256) (getD refs m 0 / 256) at false e
+        → Guard-fails inner n m at e 0
+    unequal-before : Value-fails classes values refs b level previous-flags previous-cells inner (getD refs n 0 % 256) (getD refs m 0 / 256) at false e
+        → Guard-fails inner n m at e 1
+    equal-before : Value-fails classes values refs b level previous-flags previous-cells inner (getD refs n 0 % 256) (getD refs m 0 / 256) at true e
+        → Guard-fails inner n m at e 2
+    unchanged : Unchanged b level flags cells previous-flags previous-cells (getD refs n 0 % 256) (getD refs m 0 / 256) e → Guard-fails inner n m at e 3
+    group-false : Group-fails at e → Guard-fails inner n m at e 4

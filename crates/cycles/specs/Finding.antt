@@ -1,6 +1,6 @@
 -- What finding a rule's guards promises of each part of the rule. Guards are put into memory after those that stand there already, so a promise is
 -- of memory before and after: where there were guards of a rule, and a failure of the part silences that rule, there are guards of the rule still.
-use Prim.Native.Nat.{ℕ, _+_, _*_, _<_}
+use Prim.Native.Nat.{ℕ, _+_, _*_, _<_, _≤_}
 use mathlib.Core.Path.{_≡_}
 use mathlib.Core.List.{List, []}
 use mathlib.Core.Bool.{false}
@@ -25,18 +25,23 @@ pub record Growth : Type 0 where
   pub total : ℕ
 
 -- a guard is put after those that stand there, or none is
-pub data Guard-put (level kind n m at : ℕ) (g : Growth) : Type 0 where
-  none-put : g .after ≡ g .before → g .total ≡ g .count → Guard-put level kind n m at g
+pub data Guard-put (level inner kind n m at : ℕ) (g : Growth) : Type 0 where
+  none-put : g .after ≡ g .before → g .total ≡ g .count → Guard-put level inner kind n m at g
   one-put : 4 * g .count + 3 < length (g .before)
-      → g .after ≡ set (set (set (set (g .before) (4 * g .count) (kind + 8 * level)) (4 * g .count + 1) n) (4 * g .count + 2) m) (4 * g .count + 3) at
-      → g .total ≡ g .count + 1 → Guard-put level kind n m at g
+      → g .after
+      ≡ set (set (set (set (g .before) (4 * g .count) (kind + 8 * level + 32 * inner)) (4 * g .count + 1) n) (4 * g .count + 2) m) (4 * g .count + 3) at
+      → g .total ≡ g .count + 1 → Guard-put level inner kind n m at g
 
--- the same, of a level that covers token number n and those from number `at` up to `next`
+-- the same, of a level that covers token number n and those from number `at` up to `next`; the inner level covers the latter where they are an expression
 pub record Part-put (refs : List ℕ) (kind n m at next : ℕ) (g : Growth) : Type 0 where
   pub level : ℕ
+  pub inner : ℕ
+  pub few : level < 4
+  pub within : inner ≤ level
   pub own : Covered refs level n (n + 1)
   pub inside : Covered refs level at next
-  pub put : Guard-put level kind n m at g
+  pub alone : kind < 3 → Covered refs inner at next
+  pub put : Guard-put level inner kind n m at g
 
 -- guards of each rule that writes nothing where a part of it fails
 pub record Extends {classes : List ℕ} (w : Rows classes) (refs : List ℕ) (fails : Spots → Store → Store → Type 0) (g : Growth) : Type 0 where

@@ -1,34 +1,19 @@
 // All rules, each for every binding of its variables.
 ghost use Prim.Native.Nat.{_+_, _≤_};
 ghost use mathlib.Core.Path.{_≡_};
+ghost use mathlib.Core.Bool.{cond};
 ghost use lib.ListN.{length, getD};
 ghost use Rattle.checking.specs.Directory.{rule-row};
-ghost use Rattle.cycles.specs.AllRules.{complete, candidate, Ranged, Ranges, Entity-added, Bindings-put, Rules-put};
-ghost use Rattle.cycles.specs.Guards.{Guards-found};
+ghost use Rattle.cycles.specs.AllRules.{complete, candidate, Ranged, Ranges, Bindings-put, Rules-put};
+ghost use Rattle.cycles.specs.Guards.{Guards-found, Marks-set};
 use crate::calls::rule_at;
 use crate::evaluate::Binding;
 use crate::evaluate::is_present;
+use crate::evaluate::with_entity;
 use crate::finding::find_guards;
-use crate::guards::is_refuted;
-use checking::class_at;
+use crate::guards::narrow;
 use checking::row;
-
-// The binding with entity e for variable number `level`, the next one.
-fn with_entity(b: Binding, level: u8, e: u8) -> Binding
-    ensures { λ r. ⌜ Entity-added b level e r ⌝ }
-{
-    if level == 0 {
-        return Binding { entities: e as u32 };
-    }
-    if level == 1 {
-        return Binding {
-            entities: b.entities % 256 + 256 * (e as u32),
-        };
-    }
-    Binding {
-        entities: b.entities % 65536 + 65536 * (e as u32),
-    }
-}
+use text::walks::class_at;
 
 // Does each variable of rule number k have its entity, if the first `level` of them do?
 fn is_complete(scopes: &[u8], k: u8, level: u8) -> bool
@@ -91,6 +76,27 @@ fn find_ranges(d: &[u16], flags: &[u8], n: u8, ranges: &mut [u8])
     }
 }
 
+fn mark_of(is: bool) -> u8
+    ensures { λ r. ⌜ r ≡ cond is 1 0 ⌝ }
+{
+    if is {
+        return 1;
+    }
+    0
+}
+
+// Marks the candidates for an interface, from number `first` on, below `end`.
+fn mark_candidates(d: &[u16], flags: &[u8], face: u8, first: u8, end: u8, marks: &mut [u8])
+    requires { ⌜ end ≤ length (now marks) ⌝ }
+    ensures { λ _. ⌜ Marks-set (now (d .entry)) (now (flags .entry)) face first end (now (marks .exit)) ⌝ }
+{
+    let mut e = first;
+    while e < end {
+        marks[e as usize] = mark_of(is_candidate(d, flags, face, e));
+        e += 1;
+    }
+}
+
 // Rule number k, for every binding that has b's entities for the first `level` variables. Its guards save those that would write nothing.
 fn bind(
     classes: &[u8],
@@ -135,28 +141,35 @@ fn bind(
     }
     let face = class_at(scopes, 4 * (k as usize) + 1 + (level as usize));
     let range = 2 * (face as usize);
+    let first = class_at(ranges, range);
     let end = class_at(ranges, range + 1);
-    let mut next = class_at(ranges, range);
+    if 32 < end {
+        return;
+    }
+    let mut marks: [u8; 32] = [0; 32];
+    mark_candidates(d, flags, face, first, end, &mut marks);
+    narrow(
+        classes,
+        values,
+        refs,
+        b,
+        flags,
+        cells,
+        previous_flags,
+        previous_cells,
+        guards,
+        count,
+        level,
+        first,
+        end,
+        &mut marks,
+    );
+    let mut next = first;
     while next < end {
         let e = next;
         next += 1;
-        if !is_candidate(d, flags, face, e) {
-            continue;
-        }
         let with = with_entity(b, level, e);
-        if is_refuted(
-            classes,
-            values,
-            refs,
-            with,
-            flags,
-            cells,
-            previous_flags,
-            previous_cells,
-            guards,
-            count,
-            level + 1,
-        ) {
+        if marks[e as usize] == 0 {
             continue;
         }
         bind(

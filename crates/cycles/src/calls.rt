@@ -16,9 +16,9 @@ use crate::evaluate::member;
 use crate::evaluate::owner;
 use crate::evaluate::put;
 use crate::expressions::expression;
-use checking::class_at;
 use text::classes::COMMA;
 use text::grammar::OPENERS;
+use text::walks::class_at;
 use text::walks::skip;
 
 // One call: what it writes goes into the area, of 384 cells. The number of the token after it.

@@ -10,13 +10,13 @@ use crate::evaluate::member;
 use crate::evaluate::owner;
 use crate::evaluate::read_cell;
 use crate::expressions::expression;
-use checking::class_at;
 use text::classes::AND;
 use text::classes::CHANGED;
 use text::classes::COLON;
 use text::classes::OR;
 use text::classes::ROUND_OPEN;
 use text::classes::WITH;
+use text::walks::class_at;
 use text::walks::skip;
 
 // Whether something holds, and the number of the token after what it was read from.

@@ -5,8 +5,9 @@ ghost use Prim.Native.Nat.{_≤_, _/_, _%_};
 ghost use lib.Dec.{ltb, eqb};
 ghost use lib.ListN.{length, getD};
 ghost use Rattle.cycles.specs.Evaluation.{bound, Cell-read, Put};
-use checking::class_at;
+ghost use Rattle.cycles.specs.AllRules.{Entity-added};
 use checking::row;
+use text::walks::class_at;
 use values::Value;
 
 // The entities of a rule's variables, at most three: a byte for each, the first variable's the lowest. One number goes in a register.
@@ -42,6 +43,23 @@ pub fn bound(b: Binding, r: u8) -> u8
         return (b.entities / 256 % 256) as u8;
     }
     (b.entities / 65536 % 256) as u8
+}
+
+// The binding with entity e for variable number `level`, the next one.
+pub fn with_entity(b: Binding, level: u8, e: u8) -> Binding
+    ensures { λ r. ⌜ Entity-added b level e r ⌝ }
+{
+    if level == 0 {
+        return Binding { entities: e as u32 };
+    }
+    if level == 1 {
+        return Binding {
+            entities: b.entities % 256 + 256 * (e as u32),
+        };
+    }
+    Binding {
+        entities: b.entities % 65536 + 65536 * (e as u32),
+    }
 }
 
 pub fn is_present(flags: &[u8], e: u8) -> bool

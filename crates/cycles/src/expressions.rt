@@ -1,5 +1,6 @@
 // The value of an expression in one store, by a walk over its tokens.
 ghost use mathlib.Core.Path.{_≡_};
+ghost use Prim.Native.Nat.{_/_, _%_};
 ghost use lib.IntN.{pos};
 ghost use lib.Ieee.{binary64, ofInt};
 ghost use lib.ListN.{getD};
@@ -7,13 +8,12 @@ ghost use Rattle.values.specs.Value.{fitted, settled};
 ghost use Rattle.text.specs.Readers.{halt};
 ghost use Rattle.text.specs.Grammar.{operator-of, is-factor-operator, is-term-operator};
 ghost use Rattle.text.specs.Grammar.{member-reader, simple-or, factor-reader, term-reader, expression-reader};
-ghost use Rattle.cycles.specs.Evaluation.{Expression-walk};
+ghost use Rattle.cycles.specs.Evaluation.{bound, Cell-read, Expression-walk};
 use crate::evaluate::Binding;
 use crate::evaluate::bound;
 use crate::evaluate::member;
 use crate::evaluate::owner;
 use crate::evaluate::read_cell;
-use checking::class_at;
 use text::classes::DIVIDE;
 use text::classes::FALSE;
 use text::classes::MINUS;
@@ -25,6 +25,7 @@ use text::classes::ROUND_OPEN;
 use text::classes::TIMES;
 use text::classes::TRUE;
 use text::classes::WHOLE_NUMBER;
+use text::walks::class_at;
 use text::walks::skip;
 use values::Operator;
 use values::Value;
@@ -89,6 +90,21 @@ fn is_term_operator(class: u8) -> bool
     class == MINUS
 }
 
+// The member that token number `name` names, of the entity that token number `at` means.
+pub fn member_value(
+    refs: &[u16],
+    b: Binding,
+    flags: &[u8],
+    cells: &[u8],
+    at: usize,
+    name: usize,
+) -> Value
+    ensures { λ r. ⌜
+        Cell-read (now (flags .entry)) (now (cells .entry)) (bound b (getD (now (refs .entry)) at 0 % 256)) (getD (now (refs .entry)) name 0 / 256) r ⌝ }
+{
+    read_cell(flags, cells, bound(b, owner(refs, at)), member(refs, name))
+}
+
 // What begins with no opener.
 fn leaf(
     classes: &[u8],
@@ -114,9 +130,8 @@ fn leaf(
     let next = skip(at, size);
     if class == NAME {
         let name = skip(next, size);
-        let e = bound(b, owner(refs, at));
         return Valued {
-            value: read_cell(flags, cells, e, member(refs, name)),
+            value: member_value(refs, b, flags, cells, at, name),
             next: skip(name, size),
         };
     }

@@ -1,12 +1,12 @@
 // Finds the guards of a rule by a walk over its tokens.
-ghost use Prim.Native.Nat.{_+_, _≤_};
+ghost use Prim.Native.Nat.{_+_, _<_, _≤_};
+ghost use mathlib.Core.Path.{_≡_};
 ghost use lib.ListN.{length};
 ghost use Rattle.text.specs.Grammar.{OPENERS, clause-reader, atom-reader, conjunction-reader};
 ghost use Rattle.cycles.specs.Guards.{Covered, Guards-found};
 ghost use Rattle.cycles.specs.Finding.{Guard-put, Part-put, Filter-guards-walk, Test-guards-walk, Condition-guards-walk, Call-guarded};
 use crate::conditions::target_end;
 use crate::evaluate::owner;
-use checking::class_at;
 use text::classes::AND;
 use text::classes::CHANGED;
 use text::classes::COMMA;
@@ -14,6 +14,7 @@ use text::classes::OR;
 use text::classes::ROUND_OPEN;
 use text::classes::WITH;
 use text::walks::atom_end;
+use text::walks::class_at;
 use text::walks::expression_end;
 use text::walks::skip;
 
@@ -26,7 +27,7 @@ pub struct Found {
 // ---- levels
 
 fn greater(a: u8, b: u8) -> u8
-    ensures { λ r. ⌜ (a ≤ r) × (b ≤ r) ⌝ }
+    ensures { λ r. ⌜ (a ≤ r) × (b ≤ r) × (a ≤ 3 → b ≤ 3 → r ≤ 3) ⌝ }
 {
     if a < b {
         return b;
@@ -36,7 +37,7 @@ fn greater(a: u8, b: u8) -> u8
 
 // One more than the variable that token number i refers to, 0 if to none.
 fn level_at(refs: &[u16], i: usize) -> u8
-    ensures { λ r. ⌜ Covered (now (refs .entry)) r i (i + 1) ⌝ }
+    ensures { λ r. ⌜ Covered (now (refs .entry)) r i (i + 1) × (r ≤ 3) ⌝ }
 {
     let r = owner(refs, i);
     if r < 32 {
@@ -50,7 +51,7 @@ fn level_at(refs: &[u16], i: usize) -> u8
 
 // One more than the last variable that tokens number `from` up to `to` refer to.
 fn level_of(refs: &[u16], from: usize, to: usize) -> u8
-    ensures { λ r. ⌜ Covered (now (refs .entry)) r from to ⌝ }
+    ensures { λ r. ⌜ Covered (now (refs .entry)) r from to × (r ≤ 3) ⌝ }
 {
     let mut level: u8 = 0;
     let mut i = from;
@@ -61,6 +62,16 @@ fn level_of(refs: &[u16], from: usize, to: usize) -> u8
     level
 }
 
+// The level of a guard's expression, by that of its tokens: 0 if it has none.
+fn inner_of(kind: u8, level: u8) -> u8
+    ensures { λ r. ⌜ (r ≤ level) × (kind < 3 → r ≡ level) ⌝ }
+{
+    if kind < 3 {
+        return level;
+    }
+    0
+}
+
 // ---- guards in memory, at most 16
 
 fn put_guard(
@@ -68,20 +79,21 @@ fn put_guard(
     count: usize,
     kind: u8,
     level: u8,
+    inner: u8,
     n: usize,
     m: usize,
     at: usize,
 ) -> usize
     requires { ⌜ 64 ≤ length (now guards) ⌝ }
     ensures { λ r. ⌜
-        Guard-put level kind n m at
+        Guard-put level inner kind n m at
         (record { before = now (guards .entry); count = count; after = now (guards .exit); total = r }) ⌝ }
 {
     if 16 <= count {
         return count;
     }
     let row = 4 * count;
-    guards[row] = (kind as usize) + 8 * (level as usize);
+    guards[row] = (kind as usize) + 8 * (level as usize) + 32 * (inner as usize);
     guards[row + 1] = n;
     guards[row + 2] = m;
     guards[row + 3] = at;
@@ -104,8 +116,9 @@ fn put_part(
         Part-put (now (refs .entry)) kind n m at next
         (record { before = now (guards .entry); count = count; after = now (guards .exit); total = r }) ⌝ }
 {
-    let level = greater(level_at(refs, n), level_of(refs, at, next));
-    put_guard(guards, count, kind, level, n, m, at)
+    let inside = level_of(refs, at, next);
+    let level = greater(level_at(refs, n), inside);
+    put_guard(guards, count, kind, level, inner_of(kind, inside), n, m, at)
 }
 
 // Is what stands from number `at` up to `next` of more than three tokens, and so dear to try?

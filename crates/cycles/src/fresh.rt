@@ -55,7 +55,7 @@ fn number_value(classes: &[u8], values: &[u32], negative: bool, i: usize) -> Val
     ensures { λ r. ⌜ Number-at (now (classes .entry)) (now (values .entry)) negative i r ⌝ }
 {
     let n = value_at(values, i);
-    if checking::class_at(classes, i) == WHOLE_NUMBER {
+    if text::walks::class_at(classes, i) == WHOLE_NUMBER {
         return whole_value(negative, n);
     }
     real_value(negative, n)

@@ -44,7 +44,7 @@ pub fn is_sort(classes: &[u8], at: usize, class: u8) -> bool
     if NO_TOKEN <= at {
         return false;
     }
-    checking::class_at(classes, at) == class
+    text::walks::class_at(classes, at) == class
 }
 
 // ---- tests of a tag and a payload
@@ -109,8 +109,8 @@ fn fits(plane: Plane, classes: &[u8], at: usize, t: u8, w: u64) -> bool
             Plane::Inputs => return is_blank_cell(t, w),
         }
     }
-    let sort = checking::class_at(classes, at);
-    let kind = checking::class_at(classes, at + 3);
+    let sort = text::walks::class_at(classes, at);
+    let kind = text::walks::class_at(classes, at + 3);
     match plane {
         Plane::Now => {
             if sort == text::classes::ATTRIBUTE {

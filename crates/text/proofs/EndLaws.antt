@@ -1,5 +1,5 @@
 -- Where the parser ends a reading, the walk of its reader ends.
-use Prim.Native.Nat.{ℕ, zero, suc, _+_, _≤_}
+use Prim.Native.Nat.{ℕ, suc, _+_, _≤_}
 use mathlib.Core.Path.{_≡_, refl, sym, ap, _∙_}
 use mathlib.Core.List.{List, [], _∷_}
 use mathlib.Core.Option.{some}
@@ -10,7 +10,8 @@ use Rattle.text.specs.Readers.{Parse, read, refused, Reader}
 use Rattle.text.specs.declared.grammar.Parsed.{Parsed}
 use Rattle.text.specs.declared.grammar.Parsed.the-variants.{Next, Refused}
 use Rattle.text.specs.ParseAnswers.{classes-of, parse-answer, answer-from, refused-at, Reads-as}
-use Rattle.text.specs.Walks.{Rows, meant, vain, Means-at, Read-there, Ends}
+use Rattle.text.specs.Walks.{Rows, meant, vain, Means-at, Walks, Read-there, Ends}
+use Rattle.text.proofs.WalkLaws.{walk-yields}
 
 -- what is refused, as it stays so, has no next token
 pub refused-ends : {p : Parsed} {i : ℕ} → p ≡ refused-at p → p ≡ Next i → ⊥
@@ -38,14 +39,22 @@ column-of (t ∷ ts) (c ∷ cs) n f =
 pub row-classes : {classes : List ℕ} (w : Rows classes) → classes-of (w .tokens) ≡ classes
 row-classes {classes} w = column-of (w .tokens) classes (w .count) (w .class)
 
-module _ {A : Type 0} {classes : List ℕ} {r : Reader A} {at next : ℕ} {answer : Parsed} where
-  pub answer-ends : Reads-as classes r (Next at) answer → at ≤ next → ((i : ℕ) → answer ≡ Next i → at ≤ i → next ≡ i) → Ends classes r at next
-  unfolding answer-from parse-answer
-  answer-ends h o f = record { onward = o; means = λ w l. go w (r (drop at (w .tokens))) refl (h .told (w .tokens) (row-classes w)) }
+module _ {A : Type 0} {classes : List ℕ} {r : Reader A} {at next : ℕ} where
+  read-there : (w : Rows classes) → ((a : A) (n : ℕ) → r (drop at (w .tokens)) ≡ read a n → next ≡ at + n) → Means-at w (Read-there r at next w) r at tt next
+  read-there w f = go (r (drop at (w .tokens))) refl
     where
-      go : (w : Rows classes) (p : Parse A) → r (drop at (w .tokens)) ≡ p → answer ≡ parse-answer at (r (drop at (w .tokens)))
-          → Means-at w (Read-there r at next w) r at tt next
-      go w (read a n) e q =
-          let k : next ≡ at + n = f (at + n) (q ∙ ap (parse-answer at) e) (omega arith) in
-          rw e (meant (λ i. record { used = n; reads = e; ends = k }) k)
-      go w (refused n) e q = rw e vain
+      go : (p : Parse A) → r (drop at (w .tokens)) ≡ p → Means-at w (Read-there r at next w) r at tt next
+      go (read a n) e = rw e (meant (λ i. record { used = n; reads = e; ends = f a n e }) (f a n e))
+      go (refused n) e = rw e vain
+
+  -- a walk that gives more
+  pub walk-ends : {R : Type 0} {yields : Rows classes → A → R → Type 0} {v : R} → Walks (λ w. w) yields r at v next → Ends classes r at next
+  walk-ends h = record { onward = h .onward; means = λ w l. read-there w (λ a n e. walk-yields h w l e .1) }
+
+  pub answer-ends : {answer : Parsed} → Reads-as classes r (Next at) answer → at ≤ next → ((i : ℕ) → answer ≡ Next i → at ≤ i → next ≡ i)
+      → Ends classes r at next
+  unfolding answer-from parse-answer
+  answer-ends h o f = record {
+    onward = o;
+    means = λ w l. read-there w (λ a n e. f (at + n) (h .told (w .tokens) (row-classes w) ∙ ap (parse-answer at) e) (omega arith));
+  }

@@ -4,10 +4,12 @@ use mathlib.Core.Path.{_≡_, refl, ap, _∙_}
 use mathlib.Core.List.{List, []}
 use mathlib.Core.Bool.{Bool, true, false}
 use native.Mathlib.Omega.{arith}
+use lib.Dec.{ltb}
 use lib.ListN.{length, getD, drop}
-use Rattle.text.specs.Tokens.{Token, NAME, WHOLE-NUMBER, REAL-NUMBER, TRUE, FALSE, REAL, ROUND-OPEN, ROUND-CLOSE, DOT, MINUS}
+use borrow.Author.Tests.{ne-eqb, ltb-true, ltb-false}
+use Rattle.text.specs.Tokens.{Token, NAME, WHOLE-NUMBER, REAL-NUMBER, TRUE, FALSE, REAL, ROUND-OPEN, ROUND-CLOSE, DOT, PLUS, MINUS, TIMES, DIVIDE}
 use Rattle.text.specs.Syntax.{truth, whole-number, real-number, Expression, literal, member, to-real, negate}
-use Rattle.text.specs.Readers.{refused, Reader, give, halt, pick, next-is, if-next, joined}
+use Rattle.text.specs.Readers.{refused, Reader, give, halt, expect, pick, next-is, if-next, and-then, joined}
 use Rattle.text.specs.Grammar.{
   name-of,
   number-reader,
@@ -35,8 +37,10 @@ use Rattle.text.proofs.WalkLaws.{
   expect-means,
   next-yes,
   next-no,
+  next-either,
   then-means,
   walk-same,
+  walk-stops,
   chain-begins,
 }
 
@@ -66,10 +70,15 @@ module _ {C R : Type 0} {classes : List ℕ} {rows : C → Rows classes} {yields
         (stands l (omega arith) h₃ e₃ u (omega arith) k)) refl;
   }
 
-  pub leaf-member : {next : ℕ} → at < length classes → getD classes at 0 ≡ NAME → Walks rows yields member-reader at v next
-      → Walks rows yields (simple-or halt) at v next
+  -- NAME is 0: no token need stand there
+  pub leaf-member : {next : ℕ} → getD classes at 0 ≡ NAME → Walks rows yields member-reader at v next → Walks rows yields (simple-or halt) at v next
   unfolding simple-or
-  leaf-member h e m = record { onward = m .onward; means = λ c l. next-yes (rows c) (yields c) NAME _ _ h e (m .means c l) }
+  leaf-member {next} e m = record { onward = m .onward; means = λ c l. named c (m .means c l) (ltb at (length classes)) refl }
+    where
+      named : (c : C) → Means-at (rows c) (yields c) member-reader at v next → (t : Bool) → ltb at (length classes) ≡ t
+          → Means-at (rows c) (yields c) (simple-or halt) at v next
+      named c k true q = next-yes (rows c) (yields c) NAME _ _ (ltb-true at (length classes) q) e k
+      named c k false q = rw (rows-end (rows c) at (ltb-false at (length classes) q), leaf-nil) vain
 
   pub leaf-true : {next : ℕ} → getD classes at 0 ≡ TRUE → Steps (length classes) at next → ((c : C) → yields c (literal (truth true)) v)
       → Walks rows yields (simple-or halt) at v next
@@ -146,6 +155,31 @@ module _ {C R : Type 0} {classes : List ℕ} {rows : C → Rows classes} {yields
         (next-no (rows c) (yields c) WHOLE-NUMBER _ _ w
         (next-no (rows c) (yields c) REAL-NUMBER _ _ r vain))));
   }
+
+  -- a token that is no name, where what is asked holds of every tree
+  pub leaf-token : (getD classes at 0 ≡ NAME → ⊥) → {next : ℕ} → Steps (length classes) at next → ((c : C) (a : Expression) → yields c a v)
+      → Walks rows yields (simple-or halt) at v next
+  unfolding simple-or number-reader halt
+  leaf-token n {next} s y = record {
+    onward = s .onward;
+    means = λ c l.
+        next-no (rows c) (yields c) NAME _ _ n
+        (next-either (rows c) (yields c) TRUE _ _ (one c TRUE (literal (truth true)))
+        (next-either (rows c) (yields c) FALSE _ _ (one c FALSE (literal (truth false)))
+        (next-either (rows c) (yields c) WHOLE-NUMBER _ _ (number c)
+        (next-either (rows c) (yields c) REAL-NUMBER _ _ (number c) vain))));
+  }
+    where
+      one : (c : C) (class : ℕ) (a : Expression) → Means-at (rows c) (yields c) (expect class λ t. give a) at v next
+      one c class a = expect-means (rows c) (yields c) class _ s λ h q. give-means (rows c) (yields c) a (λ k. y c a) refl
+
+      number : (c : C) → Means-at (rows c) (yields c) (and-then (number-reader false) λ a. give (literal a)) at v next
+      number c =
+          then-means (rows c) (yields c) {Q = Unit {0}} {first = λ a u. Unit {0}} {x = tt} (number-reader false) (λ a. give (literal a))
+          (next-either (rows c) (λ a u. Unit {0}) WHOLE-NUMBER _ _
+          (expect-means (rows c) _ WHOLE-NUMBER _ s λ h q. give-means (rows c) _ _ (λ k. tt {0}) refl)
+          (expect-means (rows c) _ REAL-NUMBER _ s λ h q. give-means (rows c) _ _ (λ k. tt {0}) refl))
+          λ a r. give-means (rows c) (yields c) (literal a) (λ k. y c (literal a)) refl
 
 -- ---- factors
 
@@ -267,3 +301,26 @@ module _ {C R : Type 0} {classes : List ℕ} {rows : C → Rows classes} {yields
       → Looping rows yields (expression-reader left) is-term-operator (joined (term-reader left) apply-at) at v i
   unfolding expression-reader expression-of term-reader
   expression-begins h = chain-begins rows yields is-term-operator apply-at (term-reader left) h
+
+-- ---- a leaf alone
+
+-- the operators' classes are PLUS and more
+no-operator : {c : ℕ} → c < PLUS → (is-factor-operator c ≡ false) × (is-term-operator c ≡ false)
+unfolding is-factor-operator is-term-operator
+no-operator {c} h = (
+  rw (ne-eqb c TIMES (λ q. omega arith), ne-eqb c DIVIDE (λ q. omega arith)),
+  rw (ne-eqb c PLUS (λ q. omega arith), ne-eqb c MINUS (λ q. omega arith)),
+)
+
+-- below the openers' classes, and before no operator: `class` is found at number `at`, and `after` at number `next`
+pub leaf-alone : {C R : Type 0} {classes : List ℕ} {rows : C → Rows classes} {yields : C → Expression → R → Type 0} {at class after : ℕ} {v : R} {next : ℕ}
+    (left : ℕ) → class ≡ getD classes at 0 → class < REAL → Walks rows yields (simple-or halt) at v next → after ≡ getD classes next 0 → after < PLUS
+    → Walks rows yields (expression-reader left) at v next
+leaf-alone {rows = rows} {yields = yields} left is l h e k =
+    let n = no-operator (rw e at k) in
+    walk-stops rows yields is-term-operator (joined (term-reader left) apply-at)
+    (expression-begins left
+    (walk-stops rows yields is-factor-operator (joined (factor-reader left) apply-at)
+    (term-begins left (factor-leaf left (λ q. omega arith) (λ q. omega arith) (λ q. omega arith) h))
+    (n .0)))
+    (n .1)

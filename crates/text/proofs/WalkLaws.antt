@@ -12,7 +12,7 @@ use lib.ListN.{length, getD, getElem?, drop, drop-of-length-le}
 use lib.Seq.{drop-cons, drop-drop}
 use borrow.Author.Tests.{eq-eqb, ne-eqb, eqb-true, eqb-false, ltb-true, ltb-false}
 use Rattle.text.specs.Tokens.{Token}
-use Rattle.text.specs.Readers.{Parse, read, refused, Reader, shift, give, expect, next-is, if-next, and-then, loop, joined, chain, added, many}
+use Rattle.text.specs.Readers.{Parse, read, refused, Reader, shift, give, expect, pick, next-is, if-next, and-then, loop, joined, chain, added, many}
 use Rattle.text.specs.Walks.{no-token, nth-token, Rows, Stands, Steps, Means, meant, vain, Means-at, Walks, Looping}
 use Rattle.text.proofs.ReaderLaws.{
   expect-takes,
@@ -151,6 +151,16 @@ module _ {classes : List ℕ} (w : Rows classes) {A R : Type 0} (yields : A → 
 
   pub next-no : (c : ℕ) (r s : Reader A) {i : ℕ} → (getD classes i 0 ≡ c → ⊥) → Means-at w yields s i v next → Means-at w yields (if-next c r s) i v next
   next-no c r s {i} e m = rw (if-next-second c r s (drop i (w .tokens)) (next-is-other w c i e)) m
+
+  -- whichever class comes next
+  pub next-either : (c : ℕ) (r s : Reader A) {i : ℕ} → Means-at w yields r i v next → Means-at w yields s i v next
+      → Means-at w yields (if-next c r s) i v next
+  unfolding if-next pick
+  next-either c r s {i} m n = go (next-is c (drop i (w .tokens)))
+    where
+      go : (b : Bool) → Means-at w yields (pick b r s) i v next
+      go true = m
+      go false = n
 
   pub next-end : (c : ℕ) (r s : Reader A) {i : ℕ} → length classes ≤ i → Means-at w yields s i v next → Means-at w yields (if-next c r s) i v next
   unfolding next-is

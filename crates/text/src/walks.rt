@@ -1,9 +1,14 @@
-// Steps of the walks over a token table, and where a reading ends.
+// The walks over a token table: rows, steps, and where a reading ends.
 ghost use Prim.Native.Nat.{ℕ, _≤_};
 ghost use mathlib.Core.Path.{_≡_};
+ghost use lib.ListN.{getD};
 ghost use Rattle.text.specs.declared.grammar.Parsed.the-variants.{Next};
-ghost use Rattle.text.specs.Grammar.{OPENERS, expression-reader, atom-reader};
+ghost use Rattle.text.specs.Readers.{halt};
+ghost use Rattle.text.specs.Grammar.{OPENERS, simple-or, expression-reader, atom-reader};
 ghost use Rattle.text.specs.Walks.{Steps, Ends};
+use crate::classes::NAME;
+use crate::classes::PLUS;
+use crate::classes::REAL;
 use crate::grammar::OPENERS;
 use crate::grammar::Parsed;
 use crate::grammar::atom;
@@ -17,6 +22,16 @@ pub fn skip(i: usize, size: usize) -> usize
         return i + 1;
     }
     i
+}
+
+// A row of the classes, or of the lengths; 0 if there is none.
+pub fn class_at(classes: &[u8], i: usize) -> u8
+    ensures { λ r. ⌜ r ≡ getD (now (classes .entry)) i 0 ⌝ }
+{
+    if classes.len() <= i {
+        return 0;
+    }
+    classes[i]
 }
 
 // Where what was read from number `at` on ends; `at`, if it was refused.
@@ -33,11 +48,38 @@ fn end_of(answer: Parsed, at: usize) -> usize
     i
 }
 
-// The number of the token after the expression at number `at`.
-pub fn expression_end(classes: &[u8], at: usize) -> usize
+// The number of the token after what begins with no opener: name `.` member, or a literal, which is one token.
+fn leaf_end(classes: &[u8], at: usize) -> usize
+    ensures { λ r. ⌜ Ends (now (classes .entry)) (simple-or halt) at r ⌝ }
+{
+    let size = classes.len();
+    let next = skip(at, size);
+    if class_at(classes, at) == NAME {
+        return skip(skip(next, size), size);
+    }
+    next
+}
+
+// The end of any expression, by the parser.
+fn parsed_end(classes: &[u8], at: usize) -> usize
     ensures { λ r. ⌜ Ends (now (classes .entry)) (expression-reader OPENERS) at r ⌝ }
 {
     end_of(expression(classes, Parsed::Next(at), OPENERS), at)
+}
+
+// The number of the token after the expression at number `at`. Most expressions are one leaf: no opener has a class below that of `real`, and no
+// operator one below that of `+`.
+pub fn expression_end(classes: &[u8], at: usize) -> usize
+    ensures { λ r. ⌜ Ends (now (classes .entry)) (expression-reader OPENERS) at r ⌝ }
+{
+    if REAL <= class_at(classes, at) {
+        return parsed_end(classes, at);
+    }
+    let next = leaf_end(classes, at);
+    if PLUS <= class_at(classes, next) {
+        return parsed_end(classes, at);
+    }
+    next
 }
 
 // The number of the token after the clause, or the condition in parentheses, at number `at`.

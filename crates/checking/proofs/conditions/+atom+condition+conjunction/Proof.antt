@@ -26,7 +26,7 @@ use Rattle.checking.proofs.conditions.conjunction.Kinds as conjunction-
 use Rattle.checking.proofs.conditions.+atom+condition+conjunction.Lts-conjunction as conjunction-lts
 use Rattle.checking.proofs.conditions.clause.Reads as clause-reads
 use Rattle.checking.proofs.conditions.joined.Reads as joined-reads
-use Rattle.checking.proofs.table.class_at.Reads as class-at-reads
+use Rattle.text.proofs.walks.class_at.Reads as class-at-reads
 use Rattle.text.proofs.walks.skip.Reads as skip-reads
 use Rattle.checking.proofs.conditions.+atom+condition+conjunction.{statement}
 use Rattle.checking.proofs.conditions.+atom+condition+conjunction.Tie.{close}

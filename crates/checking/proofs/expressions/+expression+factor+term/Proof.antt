@@ -38,7 +38,7 @@ use Rattle.checking.proofs.expressions.leaf.Reads as leaf-reads
 use Rattle.checking.proofs.expressions.made_real.Reads as made-real-reads
 use Rattle.checking.proofs.expressions.negated.Reads as negated-reads
 use Rattle.checking.proofs.meanings.offset.Reads as offset-reads
-use Rattle.checking.proofs.table.class_at.Reads as class-at-reads
+use Rattle.text.proofs.walks.class_at.Reads as class-at-reads
 use Rattle.text.proofs.walks.skip.Reads as skip-reads
 use Rattle.checking.proofs.expressions.+expression+factor+term.{statement}
 use Rattle.checking.proofs.expressions.+expression+factor+term.Tie.{close}

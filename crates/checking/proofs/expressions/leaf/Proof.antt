@@ -23,7 +23,7 @@ member-requires c κs = search needs
 
 returns-2 : tie.Need-returns-2
 returns-2 c =
-    leaf-member (c .before .before .before .if1 .left) (sym (c .before .before .class-at .ensures) ∙ c .before .if2 .taken) (c .member .ensures)
+    leaf-member (sym (c .before .before .class-at .ensures) ∙ c .before .if2 .taken) (c .member .ensures)
 
 skip-requires : tie.Need-skip-requires
 skip-requires c κs = search needs

@@ -6,7 +6,7 @@ use Rattle.cycles.proofs.bindings.rule_guards.Statement.{statement}
 use Rattle.cycles.proofs.bindings.rule_guards.Tie as tie
 use Rattle.cycles.proofs.bindings.rule_guards.Reads as reads
 use Rattle.cycles.proofs.bindings.rule_guards.Lts as lts
-use Rattle.checking.proofs.class_at.Reads as class-at-reads
+use Rattle.text.proofs.walks.class_at.Reads as class-at-reads
 use Rattle.checking.proofs.row.Reads as row-reads
 use Rattle.cycles.proofs.finding.find_guards.Reads as find-guards-reads
 

@@ -21,7 +21,7 @@ use Rattle.cycles.proofs.conditions.+atom+condition+conjunction.Lts-con
 use Rattle.cycles.proofs.conditions.conjunction.Reads as conjunction
 use Rattle.cycles.proofs.conditions.conjunction.Kinds as conjunction-kinds
 use Rattle.cycles.proofs.conditions.+atom+condition+conjunction.Lts-conjunction as conjunction-lts
-use Rattle.checking.proofs.class_at.Reads as class-at-reads
+use Rattle.text.proofs.walks.class_at.Reads as class-at-reads
 use Rattle.cycles.proofs.conditions.both.Reads as both-reads
 use Rattle.cycles.proofs.conditions.clause.Reads as clause-reads
 use Rattle.cycles.proofs.conditions.either.Reads as either-reads

@@ -29,7 +29,7 @@ use Rattle.cycles.proofs.expressions.+factor+sum+term.Lts-sum as sum-lt
 use Rattle.cycles.proofs.expressions.term.Reads as term
 use Rattle.cycles.proofs.expressions.term.Kinds as term-kinds
 use Rattle.cycles.proofs.expressions.+factor+sum+term.Lts-term as term-lts
-use Rattle.checking.proofs.class_at.Reads as class-at-reads
+use Rattle.text.proofs.walks.class_at.Reads as class-at-reads
 use Rattle.cycles.proofs.expressions.is_factor_operator.Reads as is-factor-operator-reads
 use Rattle.cycles.proofs.expressions.is_term_operator.Reads as is-term-operator-reads
 use Rattle.cycles.proofs.expressions.leaf.Reads as leaf-reads

@@ -17,28 +17,16 @@ skip-requires c κs = search needs
 skip-requires-2 : tie.Need-skip-requires-2
 skip-requires-2 c κs = search needs
 
-owner-requires : tie.Need-owner-requires
-owner-requires c κs = search needs
-
-bound-requires : tie.Need-bound-requires
-bound-requires c κs = search needs
-
-member-requires : tie.Need-member-requires
-member-requires c κs = search needs
-
-read-cell-requires : tie.Need-read-cell-requires
-read-cell-requires c κs = search needs
+member-value-requires : tie.Need-member-value-requires
+member-value-requires c κs = search needs
 
 skip-requires-3 : tie.Need-skip-requires-3
 skip-requires-3 c κs = search needs
 
 returns-2 : tie.Need-returns-2
 returns-2 c =
-    leaf-cell (c .before .before .before .before .before .before .before .before .class-at .ensures)
-    (c .before .before .before .before .before .before .before .before .before .if1 .left)
-    (c .before .before .before .before .before .before .if2 .taken) (c .before .before .before .before .before .before .before .skip .ensures)
-    (c .before .before .before .before .before .skip2 .ensures) (c .skip3 .ensures) (c .before .before .before .before .owner .ensures)
-    (c .before .before .before .bound .ensures) (c .before .before .member .ensures) (c .before .read-cell .ensures)
+    leaf-cell (c .before .before .before .before .before .class-at .ensures) (c .before .before .before .if2 .taken)
+    (c .before .before .before .before .skip .ensures) (c .before .before .skip2 .ensures) (c .skip3 .ensures) (c .before .member-value .ensures)
 
 returns-3 : tie.Need-returns-3
 returns-3 c = leaf-is-true (c .before .before .before .class-at .ensures) (c .if3 .taken) (c .before .before .skip .ensures)
@@ -81,10 +69,7 @@ leaf-spec =
     class-at-requires
     skip-requires
     skip-requires-2
-    owner-requires
-    bound-requires
-    member-requires
-    read-cell-requires
+    member-value-requires
     skip-requires-3
     returns-2
     returns-3

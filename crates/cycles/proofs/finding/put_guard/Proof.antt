@@ -22,17 +22,14 @@ add-guards c = search needs
 mul-guards-2 : tie.Need-mul-guards-2
 mul-guards-2 c = search needs
 
-slice-write-guards : tie.Need-slice-write-guards
-slice-write-guards c = search needs
-
 add-guards-2 : tie.Need-add-guards-2
 add-guards-2 c = search needs
 
 mul-guards-3 : tie.Need-mul-guards-3
 mul-guards-3 c = search needs
 
-slice-write-guards-2 : tie.Need-slice-write-guards-2
-slice-write-guards-2 c = simp length-set (omega arith)
+slice-write-guards : tie.Need-slice-write-guards
+slice-write-guards c = search needs
 
 add-guards-3 : tie.Need-add-guards-3
 add-guards-3 c = search needs
@@ -40,14 +37,23 @@ add-guards-3 c = search needs
 mul-guards-4 : tie.Need-mul-guards-4
 mul-guards-4 c = search needs
 
-slice-write-guards-3 : tie.Need-slice-write-guards-3
-slice-write-guards-3 c = simp length-set (omega arith)
+slice-write-guards-2 : tie.Need-slice-write-guards-2
+slice-write-guards-2 c = simp length-set (omega arith)
 
 add-guards-4 : tie.Need-add-guards-4
 add-guards-4 c = search needs
 
 mul-guards-5 : tie.Need-mul-guards-5
 mul-guards-5 c = search needs
+
+slice-write-guards-3 : tie.Need-slice-write-guards-3
+slice-write-guards-3 c = simp length-set (omega arith)
+
+add-guards-5 : tie.Need-add-guards-5
+add-guards-5 c = search needs
+
+mul-guards-6 : tie.Need-mul-guards-6
+mul-guards-6 c = search needs
 
 slice-write-guards-4 : tie.Need-slice-write-guards-4
 slice-write-guards-4 c = simp length-set (omega arith)
@@ -70,15 +76,17 @@ put-guard-spec =
     mul-guards
     add-guards
     mul-guards-2
-    slice-write-guards
     add-guards-2
     mul-guards-3
-    slice-write-guards-2
+    slice-write-guards
     add-guards-3
     mul-guards-4
-    slice-write-guards-3
+    slice-write-guards-2
     add-guards-4
     mul-guards-5
+    slice-write-guards-3
+    add-guards-5
+    mul-guards-6
     slice-write-guards-4
     add-result
     same-length

@@ -1,8 +1,8 @@
 -- `with_entity` meets its contract.
 use borrow.Author.Needs.{needs}
 use Rattle.cycles.proofs.BindingPuts.{added-first, added-second, added-third}
-use Rattle.cycles.proofs.bindings.with_entity.Statement.{statement}
-use Rattle.cycles.proofs.bindings.with_entity.Tie as tie
+use Rattle.cycles.proofs.evaluate.with_entity.Statement.{statement}
+use Rattle.cycles.proofs.evaluate.with_entity.Tie as tie
 
 returns : tie.Need-returns
 returns c = added-first (search needs) (c .if1 .taken)

@@ -2,8 +2,8 @@
 use mathlib.Core.Path.{sym}
 use lib.ListN.{List·getD-eq-default}
 use borrow.Author.Needs.{needs}
-use Rattle.checking.proofs.table.class_at.Statement.{statement}
-use Rattle.checking.proofs.table.class_at.Tie as tie
+use Rattle.text.proofs.walks.class_at.Statement.{statement}
+use Rattle.text.proofs.walks.class_at.Tie as tie
 
 returns : tie.Need-returns
 returns c = sym (List·getD-eq-default (c .before .args .classes .now) 0 (c .if1 .taken))

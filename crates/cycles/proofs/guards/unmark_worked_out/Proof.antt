@@ -1,0 +1,111 @@
+-- `unmark_worked_out` meets its contract: so far the loop has taken marks only where the expression fails.
+use Prim.Native.Nat.{_+_, _-_}
+use native.Mathlib.Omega.{arith}
+use mathlib.Core.Path.{_≡_, refl}
+use lib.ListN.{length, length-set}
+use Rattle.cycles.specs.Failing.{Marks-taken, Value-fails}
+use Rattle.cycles.proofs.GuardLaws.{none-taken, mark-taken, worked-out-fails}
+use borrow.Author.Needs.{needs}
+use Rattle.cycles.proofs.guards.unmark_worked_out.Statement.{statement}
+use Rattle.cycles.proofs.guards.unmark_worked_out.Tie as tie
+
+abbrev Inv-loop : tie.InvT-loop
+Inv-loop classes values refs b flags cells r m at outcome level first end marks₀ next₀ marks next =
+    (length marks ≡ length marks₀) × Marks-taken (Value-fails classes values refs b level flags cells (level + 1) r m at outcome) marks₀ marks
+
+abbrev μ-loop : tie.MeasureT-loop
+μ-loop classes values refs b flags cells r m at outcome level first end marks₀ next₀ marks next = end - next
+
+loop-holds : tie.Need-loop-holds Inv-loop μ-loop
+loop-holds c = (refl, none-taken)
+
+add-next : tie.Need-add-next Inv-loop μ-loop
+add-next c = search needs
+
+cast-if1 : tie.Need-cast-if1 Inv-loop μ-loop
+cast-if1 c = search needs
+
+slice-read-if1 : tie.Need-slice-read-if1 Inv-loop μ-loop
+slice-read-if1 c =
+    let s = c .before in
+    omega (arith, s .before .loop .inv .0, s .loop-test .taken, s .before .before .before .before .before .before .before .before .pre)
+
+loop-less : tie.Need-loop-less Inv-loop μ-loop
+loop-less c = search needs
+
+loop-again : tie.Need-loop-again Inv-loop μ-loop
+loop-again c = c .before .before .before .loop .inv
+
+with-entity-requires : tie.Need-with-entity-requires Inv-loop μ-loop
+with-entity-requires c κs = search needs
+
+bound-requires : tie.Need-bound-requires Inv-loop μ-loop
+bound-requires c κs = search needs
+
+read-cell-requires : tie.Need-read-cell-requires Inv-loop μ-loop
+read-cell-requires c κs = search needs
+
+expression-requires : tie.Need-expression-requires Inv-loop μ-loop
+expression-requires c κs = search needs
+
+equal-requires : tie.Need-equal-requires Inv-loop μ-loop
+equal-requires c κs = search needs
+
+cast-marks : tie.Need-cast-marks Inv-loop μ-loop
+cast-marks c = search needs
+
+slice-write-marks : tie.Need-slice-write-marks Inv-loop μ-loop
+slice-write-marks c =
+    let s = c .before .before .before .before .before .before .before .before in
+    omega (arith, s .before .loop .inv .0, s .loop-test .taken, s .before .before .before .before .before .before .before .before .pre)
+
+loop-less-2 : tie.Need-loop-less-2 Inv-loop μ-loop
+loop-less-2 c = search needs
+
+loop-again-2 : tie.Need-loop-again-2 Inv-loop μ-loop
+loop-again-2 c =
+    let s = c .before .before .before .before .before .before .before .before in (
+      simp length-set (s .before .loop .inv .0),
+      mark-taken (s .before .loop .marks) (s .before .loop .next) (s .before .loop .inv .1)
+          (omega (arith, s .before .loop .inv .0, s .loop-test .taken, s .before .before .before .before .before .before .before .before .pre))
+          (worked-out-fails (c .before .before .before .before .before .with-entity .ensures) (c .before .before .before .before .bound .ensures)
+          (c .before .before .before .read-cell .ensures) (c .before .before .expression .ensures) (c .before .equal .ensures) (c .if2 .taken)),
+    )
+
+loop-less-3 : tie.Need-loop-less-3 Inv-loop μ-loop
+loop-less-3 c = search needs
+
+loop-again-3 : tie.Need-loop-again-3 Inv-loop μ-loop
+loop-again-3 c = c .before .before .before .before .before .before .before .before .before .loop .inv
+
+same-length : tie.Need-same-length Inv-loop μ-loop
+same-length c = c .before .loop .inv .0
+
+returns : tie.Need-returns Inv-loop μ-loop
+returns c = c .before .loop .inv .1
+
+pub unmark-worked-out-spec : {M : Type 1} → statement M
+unmark-worked-out-spec =
+    tie.close
+    (tie.spec
+    Inv-loop
+    μ-loop
+    loop-holds
+    add-next
+    cast-if1
+    slice-read-if1
+    loop-less
+    loop-again
+    with-entity-requires
+    bound-requires
+    read-cell-requires
+    expression-requires
+    equal-requires
+    cast-marks
+    slice-write-marks
+    loop-less-2
+    loop-again-2
+    loop-less-3
+    loop-again-3
+    same-length
+    returns)
