@@ -193,7 +193,7 @@ fn bind(
     }
 }
 
-// The guards of rule number k, if it has two variables or more; with one they would cost what they save.
+// The guards of rule number k. With no variable there is one binding, and they would save nothing.
 fn rule_guards(
     classes: &[u8],
     refs: &[u16],
@@ -206,7 +206,7 @@ fn rule_guards(
     ensures { λ r. ⌜
         Guards-found (now (classes .entry)) (now (refs .entry)) (getD (now (d .entry)) (rule-row k) 0 + 1) (now (guards .exit)) r ⌝ }
 {
-    if class_at(scopes, 4 * (k as usize)) < 2 {
+    if class_at(scopes, 4 * (k as usize)) == 0 {
         return 0;
     }
     find_guards(classes, refs, row(d, 259 + (k as usize)) + 1, guards)

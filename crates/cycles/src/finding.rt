@@ -100,7 +100,8 @@ fn put_guard(
     count + 1
 }
 
-// A guard about tokens number n and m, and those from number `at` up to `next`.
+// A guard about tokens number n and m, and those from number `at` up to `next`. Kinds: what tokens n and m name is equal to an expression now (0),
+// is equal to it before (1), is not (2), changes (3), or a condition in parentheses holds (4).
 fn put_part(
     refs: &[u16],
     kind: u8,
@@ -117,7 +118,8 @@ fn put_part(
         (record { before = now (guards .entry); count = count; after = now (guards .exit); total = r }) ⌝ }
 {
     let inside = level_of(refs, at, next);
-    let level = greater(level_at(refs, n), inside);
+    let own = greater(1, level_at(refs, n)); // without a variable it is tried with the first
+    let level = greater(own, inside);
     put_guard(guards, count, kind, level, inner_of(kind, inside), n, m, at)
 }
 

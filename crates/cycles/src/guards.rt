@@ -231,7 +231,8 @@ fn unmark_group(
     }
 }
 
-// Takes the marks of those entities with which a guard of this kind fails, of tokens number n, m and `at`.
+// Takes the marks of those entities with which a guard of this kind fails, of tokens number n, m and `at`: 0 asks that a cell is equal to an
+// expression now, 1 that it is so before, 2 that it is not, 3 that the cell changes, 4 that a condition holds.
 fn narrow_by(
     classes: &[u8],
     values: &[u32],

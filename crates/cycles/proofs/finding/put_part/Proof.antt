@@ -14,6 +14,9 @@ level-at-requires c κs = search needs
 greater-requires : tie.Need-greater-requires
 greater-requires c κs = search needs
 
+greater-requires-2 : tie.Need-greater-requires-2
+greater-requires-2 c κs = search needs
+
 inner-of-requires : tie.Need-inner-of-requires
 inner-of-requires c κs = search needs
 
@@ -26,15 +29,16 @@ same-length c = c .before .before .put-guard .kept .0
 returns : tie.Need-returns
 returns c =
     let inner = c .before .before .before .inner-of in
-    let level = c .before .before .before .before .before .greater in
-    let own = c .before .before .before .before .before .before .level-at .ensures in
-    let inside = c .before .before .before .before .before .before .before .level-of .ensures in
+    let level = c .before .before .before .before .before .greater2 in
+    let least = c .before .before .before .before .before .before .greater in
+    let own = c .before .before .before .before .before .before .before .level-at .ensures in
+    let inside = c .before .before .before .before .before .before .before .before .level-of .ensures in
     record {
       level = level .result;
       inner = inner .result;
-      few = omega (arith, level .ensures .2 (own .1) (inside .1));
+      few = omega (arith, level .ensures .2 (least .ensures .2 (omega arith) (own .1)) (inside .1));
       within = omega (arith, inner .ensures .0, level .ensures .1);
-      own = covered-more (level .ensures .0) (own .0);
+      own = covered-more (omega (arith, least .ensures .1, level .ensures .0)) (own .0);
       inside = covered-more (level .ensures .1) (inside .0);
       alone = λ h. covered-more (omega (arith, inner .ensures .1 h)) (inside .0);
       put = c .before .before .put-guard .ensures;
@@ -47,6 +51,7 @@ put-part-spec =
     level-of-requires
     level-at-requires
     greater-requires
+    greater-requires-2
     inner-of-requires
     put-guard-requires
     same-length
