@@ -191,7 +191,9 @@ pub fn resolve_names(
     refs: &mut [u16],
 )
     requires { ⌜ length (now classes) ≤ length (now refs) ⌝ }
-    ensures { λ _. ⌜ Names-resolved (now (text .entry)) (now (classes .entry)) (now (offsets .entry)) (now (lengths .entry)) (now (d .entry)) (now (refs .entry)) (now (refs .exit)) ⌝ }
+    ensures { λ _. ⌜
+        Names-resolved (now (text .entry)) (now (classes .entry)) (now (offsets .entry)) (now (lengths .entry)) (now (d .entry)) (now (refs .entry))
+        (now (refs .exit)) ⌝ }
 {
     let mut start = 0;
     let mut i = first_of(classes, WHEN, 0);
@@ -321,7 +323,9 @@ pub fn resolve_scopes(
     scopes: &mut [u8],
 )
     requires { ⌜ 256 ≤ length (now scopes) ⌝ }
-    ensures { λ _. ⌜ Scopes-resolved (now (text .entry)) (now (classes .entry)) (now (offsets .entry)) (now (lengths .entry)) (now (d .entry)) (now (scopes .entry)) (now (scopes .exit)) ⌝ }
+    ensures { λ _. ⌜
+        Scopes-resolved (now (text .entry)) (now (classes .entry)) (now (offsets .entry)) (now (lengths .entry)) (now (d .entry))
+        (now (scopes .entry)) (now (scopes .exit)) ⌝ }
 {
     let count = row(d, 2);
     let mut k: u8 = 0;
@@ -348,7 +352,9 @@ pub fn resolve(
     scopes: &mut [u8],
 )
     requires { ⌜ (length (now classes) ≤ length (now refs)) × (256 ≤ length (now scopes)) ⌝ }
-    ensures { λ _. ⌜ Resolves (now (text .entry)) (now (classes .entry)) (now (offsets .entry)) (now (lengths .entry)) (now (d .entry)) (now (refs .entry)) (now (scopes .entry)) (now (refs .exit)) (now (scopes .exit)) ⌝ }
+    ensures { λ _. ⌜
+        Resolves (now (text .entry)) (now (classes .entry)) (now (offsets .entry)) (now (lengths .entry)) (now (d .entry)) (now (refs .entry))
+        (now (scopes .entry)) (now (refs .exit)) (now (scopes .exit)) ⌝ }
 {
     resolve_names(text, classes, offsets, lengths, d, refs);
     resolve_scopes(text, classes, offsets, lengths, d, scopes);
