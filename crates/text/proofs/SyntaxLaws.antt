@@ -2,7 +2,7 @@
 use mathlib.Core.Path.{_≡_, refl, sym, ap, _∙_, subst}
 use mathlib.Core.List.{List}
 use mathlib.Core.Bool.{Bool, true, false, true≢false}
-use Prim.Native.Nat.{ℕ, _+_, _-_, _<_, _≤_}
+use Prim.Native.Nat.{ℕ, _-_, _<_, _≤_}
 use native.Mathlib.Omega.{arith}
 use lib.Dec.{ltb}
 use lib.ListN.{length, getD, drop}
@@ -19,9 +19,6 @@ use Rattle.text.specs.Readers.{read}
 use Rattle.text.specs.Parse.{ungrammatical-at, offset-of}
 use Rattle.text.specs.ParseAnswers.{classes-of, Parses-as}
 use Rattle.text.specs.Syntaxes.{
-  syntax-offset,
-  syntax-count,
-  syntax-number,
   parsing-syntax,
   columns-syntax,
   syntax-of,
@@ -29,7 +26,6 @@ use Rattle.text.specs.Syntaxes.{
   Reads-text,
   Has-rows,
   Settles,
-  Reads-number,
 }
 use Rattle.text.proofs.RowLaws.{length-rows, drop-rows, drop-rows-past, rows-class}
 use Rattle.text.proofs.IntoColumnsLaws.{
@@ -181,17 +177,6 @@ module _ {end : ℕ} {cs os : List ℕ} {x : Lexed} where
 
 -- ---- for callers
 
-pub answer-fits : (text : List ℕ) (t u : Token-columns) (s : Syntax) → Says text t u s → syntax-offset s + syntax-count s ≤ 32768
-unfolding syntax-offset syntax-count
-answer-fits text t u (File n) h = omega (arith, h .within, h .allowed)
-answer-fits text t u TooLong h = omega arith
-answer-fits text t u (NoTokenAt p) h = omega (arith, h .within, h .allowed)
-answer-fits text t u (UnfitAt p) h = omega (arith, h .within, h .allowed)
-answer-fits text t u NoRoom h = omega arith
-
-pub fits-as : {r s : Syntax} → r ≡ s → syntax-offset r + syntax-count r ≤ 32768 → syntax-offset s + syntax-count s ≤ 32768
-fits-as e h = subst (λ x. syntax-offset x + syntax-count x ≤ 32768) e h
-
 module _ {text : List ℕ} {t u : Token-columns} {r : Syntax} (l : Reads-text text t u r) where
   -- by the answer
   pub said : {s : Syntax} → r ≡ s → Says text t u s
@@ -209,6 +194,3 @@ module _ {text : List ℕ} {t u : Token-columns} {r : Syntax} (l : Reads-text te
           let z : _≡_ {A = ℕ} 0 1 = cc (l .exact) in
           absurd (omega arith)
       go false f = room-kept (has-room (length text) t f) (l .classes-kept) (l .offsets-kept) (l .lengths-kept) (l .values-kept)
-
-  pub numbered : {w : ℕ} → w ≡ syntax-number r → Reads-number text t u w
-  numbered e = record { number = e ∙ ap syntax-number (l .exact); reads = subst (Reads-text text t u) (l .exact) l }

@@ -1,5 +1,5 @@
 -- What reading a text into columns answers: document 01's 11 to 13, or a file whose tokens the columns hold.
-use Prim.Native.Nat.{ℕ, _+_, _*_, _≤_, _<_}
+use Prim.Native.Nat.{ℕ, _+_, _≤_, _<_}
 use mathlib.Core.Path.{_≡_}
 use mathlib.Core.List.{List}
 use mathlib.Core.Bool.{true}
@@ -32,19 +32,6 @@ syntax-offset TooLong = 32768
 syntax-offset (NoTokenAt p) = p
 syntax-offset (UnfitAt p) = p
 syntax-offset NoRoom = 0
-
--- how many tokens a file has
-unfoldable pub syntax-count : Syntax → ℕ
-syntax-count (File n) = n
-syntax-count TooLong = 0
-syntax-count (NoTokenAt p) = 0
-syntax-count (UnfitAt p) = 0
-syntax-count NoRoom = 0
-
--- the code in the low 8 bits, above them the offset, or the count of a file's tokens
-unfoldable pub syntax-number : Syntax → ℕ
-unfolding syntax-code syntax-offset syntax-count
-syntax-number s = syntax-code s + 256 * (syntax-offset s + syntax-count s)
 
 -- ---- the one right answer
 
@@ -121,8 +108,3 @@ Has-rows Short cs os = Unit {0}
 pub record Settles (end : ℕ) (cs os : List ℕ) (x : Lexed) (r : Syntax) : Type 0 where
   pub told : (text ls vs : List ℕ) (t : Token-columns) → length text ≡ end → Lexes text t (columns-of cs os ls vs) x
       → Reads-text text t (columns-of cs os ls vs) r
-
--- an answer in one number
-pub record Reads-number (text : List ℕ) (t u : Token-columns) (w : ℕ) : Type 0 where
-  pub number : w ≡ syntax-number (syntax-of text t)
-  pub reads : Reads-text text t u (syntax-of text t)

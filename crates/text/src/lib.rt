@@ -19,7 +19,6 @@ pub use grammar::parse;
 pub use reader::item_at;
 pub use reading::Syntax;
 pub use reading::read;
-pub use reading::text_read;
 pub use tokens::lex;
 pub use tokens::name_class;
 

@@ -1,8 +1,7 @@
 // A text read into lent columns: its tokens, and whether they are a file.
 ghost use mathlib.Core.Path.{_≡_};
-ghost use Prim.Native.Nat.{_+_, _*_, _≤_};
 ghost use Rattle.text.specs.TokenTable.{columns-of};
-ghost use Rattle.text.specs.Syntaxes.{syntax-offset, syntax-count, syntax-number, Reads-text, Has-rows, Settles, Reads-number};
+ghost use Rattle.text.specs.Syntaxes.{Reads-text, Has-rows, Settles};
 use crate::Lexed;
 use crate::grammar::Parsing;
 use crate::grammar::parse;
@@ -61,40 +60,4 @@ pub fn read(
 {
     let lexed = lex(text, classes, offsets, lengths, values);
     settled(lexed, text.len(), classes, offsets)
-}
-
-// A code in the low 8 bits, and a number above them.
-fn packed(code: u64, above: usize) -> u64
-    requires { ⌜ (code ≤ 255) × (above ≤ 32768) ⌝ }
-    ensures { λ r. ⌜ r ≡ code + 256 * above ⌝ }
-{
-    code + 256 * above as u64
-}
-
-fn number(syntax: Syntax) -> u64
-    requires { ⌜ syntax-offset syntax + syntax-count syntax ≤ 32768 ⌝ }
-    ensures { λ r. ⌜ r ≡ syntax-number syntax ⌝ }
-{
-    match syntax {
-        Syntax::File(n) => packed(0, n),
-        Syntax::TooLong => packed(11, 32768),
-        Syntax::NoTokenAt(p) => packed(12, p),
-        Syntax::UnfitAt(p) => packed(13, p),
-        Syntax::NoRoom => 31,
-    }
-}
-
-// The answer of `read` in one number: document 01's code in the low 8 bits, above them the offset, or the number of a file's tokens.
-#[no_mangle]
-pub extern "C" fn text_read(
-    text: &[u8],
-    classes: &mut [u8],
-    offsets: &mut [u16],
-    lengths: &mut [u8],
-    values: &mut [u32],
-) -> u64
-    ensures { λ r. ⌜ Reads-number (now (text .entry)) (columns-of (now (classes .entry)) (now (offsets .entry)) (now (lengths .entry)) (now (values .entry)))
-        (columns-of (now (classes .exit)) (now (offsets .exit)) (now (lengths .exit)) (now (values .exit))) r ⌝ }
-{
-    number(read(text, classes, offsets, lengths, values))
 }

@@ -2,8 +2,8 @@
 #include <stddef.h>
 #include <stdint.h>
 
-uint64_t text_read(const uint8_t *text, size_t text_len, uint8_t *classes, size_t classes_len, uint16_t *offsets, size_t offsets_len,
-                   uint8_t *lengths, size_t lengths_len, uint32_t *values, size_t values_len);
+uint64_t measure_text(const uint8_t *text, size_t text_len, uint8_t *classes, size_t classes_len, uint16_t *offsets, size_t offsets_len,
+                      uint8_t *lengths, size_t lengths_len, uint32_t *values, size_t values_len);
 
 uint64_t plain_read(const uint8_t *text, size_t text_len, uint8_t *classes, size_t classes_len, uint16_t *offsets, size_t offsets_len,
                     uint8_t *lengths, size_t lengths_len, uint32_t *values, size_t values_len);

@@ -33,7 +33,7 @@ static unsigned long compared, by_code[32];
 
 /* Both readers on one text: the same answer and, of a file, the same rows. */
 static void same(const uint8_t *text, size_t n, const char *what) {
-    uint64_t a = run(text_read, &ours, text, n), b = run(plain_read, &theirs, text, n);
+    uint64_t a = run(measure_text, &ours, text, n), b = run(plain_read, &theirs, text, n);
     size_t rows = (a & 255) == 0 ? a >> 8 : 0;
     if (a != b || memcmp(ours.classes, theirs.classes, rows) || memcmp(ours.offsets, theirs.offsets, rows * 2)
         || memcmp(ours.lengths, theirs.lengths, rows) || memcmp(ours.values, theirs.values, rows * 4)) {
@@ -117,7 +117,7 @@ int main(int argc, char **argv) {
         if (!f) { perror(argv[i]); return 1; }
         size_t n = fread(text, 1, ROOM, f);
         fclose(f);
-        if ((run(text_read, &ours, text, n) & 255) != 0) { printf("%s is refused\n", argv[i]); return 1; }
+        if ((run(measure_text, &ours, text, n) & 255) != 0) { printf("%s is refused\n", argv[i]); return 1; }
         same(text, n, argv[i]);
         for (int k = 0; k < DAMAGED; k++) {
             memcpy(copy, text, n);
@@ -132,7 +132,7 @@ int main(int argc, char **argv) {
     for (int which = 0; which < 5; which++) {
         size_t l[4] = {10, 10, 10, 10};
         if (which < 4) l[which] = 8;
-        uint64_t a = text_read((const uint8_t *)"rules end", 9, ours.classes, l[0], ours.offsets, l[1], ours.lengths, l[2], ours.values, l[3]);
+        uint64_t a = measure_text((const uint8_t *)"rules end", 9, ours.classes, l[0], ours.offsets, l[1], ours.lengths, l[2], ours.values, l[3]);
         uint64_t b = plain_read((const uint8_t *)"rules end", 9, theirs.classes, l[0], theirs.offsets, l[1], theirs.lengths, l[2], theirs.values, l[3]);
         if (a != b || a != (which < 4 ? 31 : 512)) { printf("short columns: different answers\n"); return 1; }
         compared++;
@@ -149,13 +149,13 @@ int main(int argc, char **argv) {
         int calls = n < 4096 ? 50 : 1;
         static double a[ROUNDS], b[ROUNDS];
         for (int k = 0; k < ROUNDS; k++) {
-            a[k] = once(text_read, &ours, text, n, calls);
+            a[k] = once(measure_text, &ours, text, n, calls);
             b[k] = once(plain_read, &theirs, text, n, calls);
         }
         qsort(a, ROUNDS, sizeof *a, by_size);
         qsort(b, ROUNDS, sizeof *b, by_size);
         const char *title = strrchr(argv[i], '/') ? strrchr(argv[i], '/') + 1 : argv[i];
-        printf("%-28s %7zu %8llu %12.2f %12.2f %7.2f\n", title, n, (unsigned long long)(run(text_read, &ours, text, n) >> 8), a[ROUNDS / 2], b[ROUNDS / 2],
+        printf("%-28s %7zu %8llu %12.2f %12.2f %7.2f\n", title, n, (unsigned long long)(run(measure_text, &ours, text, n) >> 8), a[ROUNDS / 2], b[ROUNDS / 2],
                a[ROUNDS / 2] / b[ROUNDS / 2]);
     }
     return 0;

@@ -16,7 +16,7 @@ static uint8_t *top;
 /* Everything below this frame is the reader's. */
 static __attribute__((noinline)) void *reading(void *unused) {
     top = __builtin_frame_address(0);
-    answer = text_read((const uint8_t *)text, strlen(text), classes, 2048, offsets, 2048, lengths, 2048, values, 2048);
+    answer = measure_text((const uint8_t *)text, strlen(text), classes, 2048, offsets, 2048, lengths, 2048, values, 2048);
     return unused;
 }
 

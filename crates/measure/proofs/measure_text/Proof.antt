@@ -1,8 +1,10 @@
--- `text_read` meets its contract: the answer of `read`, which fits one number.
-use Rattle.text.proofs.SyntaxLaws.{answer-fits, numbered}
+-- `measure_text` meets its contract: the answer of `read`, which fits one number.
+use mathlib.Core.Path.{ap, _∙_}
+use Rattle.measure.specs.Measured.{syntax-number}
+use Rattle.measure.proofs.MeasuredLaws.{answer-fits}
 use borrow.Author.Needs.{needs}
-use Rattle.text.proofs.reading.text_read.Statement.{statement}
-use Rattle.text.proofs.reading.text_read.Tie as tie
+use Rattle.measure.proofs.measure_text.Statement.{statement}
+use Rattle.measure.proofs.measure_text.Tie as tie
 
 read-requires : tie.Need-read-requires
 read-requires c κs = search needs
@@ -23,10 +25,10 @@ same-length-4 : tie.Need-same-length-4
 same-length-4 c = c .before .before .before .before .before .before .before .before .before .read .ensures .values-kept
 
 returns : tie.Need-returns
-returns c = numbered (c .before .before .before .before .before .before .before .before .before .read .ensures) (c .number .ensures)
+returns c = c .number .ensures ∙ ap syntax-number (c .before .before .before .before .before .before .before .before .before .read .ensures .exact)
 
-pub text-read-spec : {M : Type 1} → statement M
-text-read-spec =
+pub measure-text-spec : {M : Type 1} → statement M
+measure-text-spec =
     tie.close
     (tie.spec
     read-requires

@@ -1,10 +1,11 @@
 -- `number` meets its contract: each answer's code, and the number above it.
 use native.Mathlib.Omega.{arith}
-use Rattle.text.specs.Syntaxes.{syntax-number, syntax-offset, syntax-count}
-use Rattle.text.proofs.SyntaxLaws.{fits-as}
+use Rattle.text.specs.Syntaxes.{syntax-offset}
+use Rattle.measure.specs.Measured.{syntax-number, syntax-count}
+use Rattle.measure.proofs.MeasuredLaws.{fits-as}
 use borrow.Author.Needs.{needs}
-use Rattle.text.proofs.reading.number.Statement.{statement}
-use Rattle.text.proofs.reading.number.Tie as tie
+use Rattle.measure.proofs.number.Statement.{statement}
+use Rattle.measure.proofs.number.Tie as tie
 
 enum-known-syntax : tie.Need-enum-known-syntax
 enum-known-syntax c = search needs

@@ -1,0 +1,21 @@
+-- An answer of `read` fits one number.
+use mathlib.Core.Path.{_≡_, subst}
+use mathlib.Core.List.{List}
+use Prim.Native.Nat.{ℕ, _+_, _≤_}
+use native.Mathlib.Omega.{arith}
+use Rattle.text.specs.declared.reading.Syntax.{Syntax}
+use Rattle.text.specs.declared.reading.Syntax.the-variants.{File, TooLong, NoTokenAt, UnfitAt, NoRoom}
+use Rattle.text.specs.TokenTable.{Token-columns}
+use Rattle.text.specs.Syntaxes.{syntax-offset, Says}
+use Rattle.measure.specs.Measured.{syntax-count}
+
+pub answer-fits : (text : List ℕ) (t u : Token-columns) (s : Syntax) → Says text t u s → syntax-offset s + syntax-count s ≤ 32768
+unfolding syntax-offset syntax-count
+answer-fits text t u (File n) h = omega (arith, h .within, h .allowed)
+answer-fits text t u TooLong h = omega arith
+answer-fits text t u (NoTokenAt p) h = omega (arith, h .within, h .allowed)
+answer-fits text t u (UnfitAt p) h = omega (arith, h .within, h .allowed)
+answer-fits text t u NoRoom h = omega arith
+
+pub fits-as : {r s : Syntax} → r ≡ s → syntax-offset r + syntax-count r ≤ 32768 → syntax-offset s + syntax-count s ≤ 32768
+fits-as e h = subst (λ x. syntax-offset x + syntax-count x ≤ 32768) e h
