@@ -1,13 +1,18 @@
-"""Writes cases.json: bench texts and readings with the results of bench_oracle.
+"""Makes cases.json: bench texts and readings with the results of bench_oracle.
 
 Every stored result comes from bench_oracle; next to each written case stands the
 result worked out by hand from document 01, and the two must agree.  In a refused
 bench text the mark @ (no byte of any such text otherwise) shows the expected place.
+
+`python3 tests/oracle/make_cases.py`, or with --check, compares: it fails, and names
+the first case that differs, if cases.json is not what is made here.  --write writes it.
 """
 
 import dataclasses
 import json
 import random
+import sys
+from itertools import zip_longest
 from pathlib import Path
 
 from bench_oracle import Bench, check, run
@@ -1009,7 +1014,7 @@ def check_folder_of_cases():
         assert "refused %d\n" % code in printed, code
 
 
-def main():
+def make_all():
     make_accepted()
     make_words()
     make_grammar()
@@ -1029,9 +1034,67 @@ def main():
     check_sizes()
     check_missing_columns()
     check_folder_of_cases()
-    OUTPUT.write_text(json.dumps(CASES, indent=1) + "\n", encoding="ascii")
+
+
+# --------------------------------------------------------------------------
+# The file of cases: compared, or written
+# --------------------------------------------------------------------------
+
+
+def asked_to_write(arguments):
+    """`--write` asks for it; `--check`, or no argument, asks to compare and to leave the files alone."""
+    if arguments not in ([], ["--check"], ["--write"]):
+        raise SystemExit("usage: python3 %s [--check | --write]" % sys.argv[0])
+    return arguments == ["--write"]
+
+
+def content():
+    """All bytes of cases.json as they should be."""
+    return (json.dumps(CASES, indent=1) + "\n").encode("ascii")
+
+
+def difference_of_case(have, want):
+    """What is unlike in a stored case and the one made here; None stands for no case."""
+    if have is None:
+        return "case %s is missing" % want["name"]
+    if want is None:
+        return "there is a case too many: %s" % json.dumps(have)
+    if not isinstance(have, dict) or have.get("name") != want["name"]:
+        return "case %s should stand where this stands: %s" % (want["name"], json.dumps(have))
+    keys = [key for key in [*want, *have] if key not in have or key not in want or have[key] != want[key]]
+    key = keys[0]
+    return "case %s: %s is %s and should be %s" % (want["name"], key, json.dumps(have.get(key)), json.dumps(want.get(key)))
+
+
+def difference(stored):
+    """The first thing in these bytes that is not as it should be, in words; None if there is none."""
+    if stored == content():
+        return None
+    try:
+        have_cases = json.loads(stored.decode("ascii"))
+    except ValueError as error:
+        return "it is no text of cases: %s" % error
+    if not isinstance(have_cases, list):
+        return "it is no list of cases"
+    for have, want in zip_longest(have_cases, CASES):
+        if have != want:
+            return difference_of_case(have, want)
+    return "its cases are right, but not its layout"
+
+
+def main(arguments):
+    write = asked_to_write(arguments)
+    make_all()
+    if write:
+        OUTPUT.write_bytes(content())
+    else:
+        found = difference(OUTPUT.read_bytes()) if OUTPUT.is_file() else "there is no such file"
+        if found is not None:
+            print("%s is not what make_cases.py makes (--write would write it): %s" % (OUTPUT.name, found))
+            return 1
     print("%d cases" % len(CASES))
+    return 0
 
 
 if __name__ == "__main__":
-    main()
+    sys.exit(main(sys.argv[1:]))

@@ -1,7 +1,8 @@
-"""Writes the stored cases as statements about the definitions: crates/trials/proofs/Stored*.antt.
+"""The stored cases as statements about the definitions: crates/stored_texts/proofs/StoredTexts.antt and
+crates/replay_cases/proofs/StoredLines.antt.
 
-cases.json holds texts and readings with what bench_oracle.py makes of them. Each statement here says that the definitions compute
-the same, by `refl`. `python3 tests/oracle/to_antt.py --check` fails if the files differ, in more than layout, from what they should be.
+cases.json holds texts and readings with what bench_oracle.py makes of them. Each statement says that the definitions compute the same,
+by `refl`. With no argument or `--check` it fails if the files differ, in more than layout, from what they should be; `--write` writes them.
 """
 
 import json
@@ -9,16 +10,29 @@ import sys
 from pathlib import Path
 
 HERE = Path(__file__).resolve().parent
-PROOFS = HERE.parent.parent / "crates" / "trials" / "proofs"
+CRATES = HERE.parent.parent / "crates"
 
-IMPORTS = """use Prim.Native.Nat.{_+_, _*_}
+TEXTS = """-- Bench texts, accepted and refused by each code. Made by tests/oracle/to_antt.py from tests/oracle/cases.json.
+use Prim.Native.Nat.{ℕ, _+_, _*_}
+use Prim.Native.String.{String}
 use mathlib.Core.Path.{_≡_, refl}
-use mathlib.Core.List.{[], _∷_}
-use mathlib.Core.Option.{none}
+use Rattle.text.specs.Bytes.{ascii}
+use Rattle.checking.specs.Verdict.{verdict, verdict-answer}
+
+-- a refusal's code and, above it, its place
+unfoldable pub answer-to : String → ℕ
+unfolding ascii verdict verdict-answer
+answer-to text = verdict-answer (verdict (ascii text))
+"""
+
+LINES = """-- Readings, and all that is printed for them. Made by tests/oracle/to_antt.py from tests/oracle/cases.json.
+use mathlib.Core.Path.{_≡_, refl}
 use lib.Ieee as Ieee
 use Rattle.text.specs.Bytes.{ascii}
-use Rattle.trials.proofs.StoredRuns.{answer-to, Reply, replies-to, row-of, refusal, header-of}
+use Rattle.replay.specs.Replay.{replay}
 """
+
+REALS = "Ieee.add Ieee.sub Ieee.mul Ieee.div Ieee.neg Ieee.eq Ieee.ofInt Ieee.ofBits Ieee.toBits Ieee.isNan"
 
 
 def quoted(text: str) -> str:
@@ -26,49 +40,18 @@ def quoted(text: str) -> str:
     return '"' + text.replace("\\", "\\\\").replace('"', '\\"').replace("\n", "\\n").replace("\t", "\\t").replace("\r", "\\r") + '"'
 
 
-def lines_of(text: str) -> list:
-    """The lines of a file: a last line feed closes the last line and opens none."""
-    lines = text.split("\n")
-    return lines[:-1] if len(lines) > 1 and lines[-1] == "" else lines
-
-
-def reply(printed: str) -> str:
-    if printed.startswith("refused "):
-        return "refusal " + printed.split()[1]
-    return "row-of " + quoted(printed)
-
-
-def listed(items: list) -> str:
-    return "(" + "".join(item + " ∷ " for item in items) + "[])"
-
-
-def check_statement(case: dict) -> str:
+def of_text(case: dict) -> str:
     code, place = case["check"]
     return f"answer-to {quoted(case['bench'])} ≡ {code} + 256 * {place}"
 
 
-def run_statement(case: dict) -> str:
-    names, *records = lines_of(case["readings"])
-    printed = lines_of(case["printed"])
-    bench = quoted(case["bench"])
-    if case["check"][0] != 0:
-        return check_statement(case)
-    if printed[0] == "refused 22":
-        return f"header-of {bench} {quoted(names)} ≡ refusal 22"
-    header = f"header-of {bench} {quoted(names)} ≡ {reply(printed[0])}"
-    if not records:
-        return header
-    rows = listed([reply(line) for line in printed[1:]])
-    return f"({header}) × (replies-to {bench} {quoted(names)} {listed([quoted(line) for line in records])} ≡ {rows})"
+def of_readings(case: dict) -> str:
+    return f"replay (ascii {quoted(case['bench'])}) (ascii {quoted(case['readings'])}) ≡ ascii {quoted(case['printed'])}"
 
 
-def file_of(title: str, cases: list, statement, opened: str) -> str:
-    parts = [f"-- {title} Made by tests/oracle/to_antt.py from tests/oracle/cases.json.", IMPORTS]
-    for case in cases:
-        said = statement(case)
-        proof = "(refl, refl)" if " × " in said and said.startswith("(") else "refl"
-        parts.append(f"pub {case['name']} : {said}\nunfolding {opened}\n{case['name']} = {proof}\n")
-    return "\n".join(parts)
+def file_of(imports: str, cases: list, statement, opened: str) -> str:
+    parts = [f"pub {case['name']} : {statement(case)}\nunfolding {opened}\n{case['name']} = refl\n" for case in cases]
+    return "\n".join([imports, *parts])
 
 
 # a text that is longer takes antt more steps than one statement may
@@ -76,25 +59,24 @@ LONGEST = 1500
 
 
 def main() -> int:
+    if sys.argv[1:] not in ([], ["--check"], ["--write"]):
+        print("usage: to_antt.py [--check | --write]")
+        return 2
     cases = [case for case in json.loads((HERE / "cases.json").read_text()) if len(case["bench"]) <= LONGEST]
-    checks = [case for case in cases if case["readings"] is None]
+    texts = [case for case in cases if case["readings"] is None]
     runs = [case for case in cases if case["readings"] is not None]
-    reals = "Ieee.add Ieee.sub Ieee.mul Ieee.div Ieee.neg Ieee.eq Ieee.ofInt Ieee.ofBits Ieee.toBits Ieee.isNan"
     files = {
-        "StoredTexts.antt": file_of("Bench texts, accepted and refused by each code.", checks, check_statement, "answer-to ascii"),
-        "StoredLines.antt": file_of(
-            "Readings and the rows that they print.", runs, run_statement, "answer-to header-of replies-to row-of refusal ascii\n    " + reals
-        ),
+        "stored_texts/proofs/StoredTexts.antt": file_of(TEXTS, texts, of_text, "answer-to ascii"),
+        "replay_cases/proofs/StoredLines.antt": file_of(LINES, runs, of_readings, "replay ascii\n    " + REALS),
     }
     for name, text in files.items():
-        path = PROOFS / name
-        if "--check" in sys.argv:
-            if path.read_text().split() != text.split():
-                print(f"{path.name} is not what the stored cases give")
-                return 1
-        else:
+        path = CRATES / name
+        if "--write" in sys.argv:
             path.write_text(text)
-    print(f"{len(checks)} texts, {len(runs)} runs")
+        elif path.read_text().split() != text.split():
+            print(f"{name} is not what the stored cases give")
+            return 1
+    print(f"{len(texts)} texts, {len(runs)} runs")
     return 0
 
 

@@ -1,16 +1,19 @@
-"""Writes the cases that the program `trials` runs: crates/trials/args, data/NAME/{bench.txt,readings.txt} and stdout.
+"""Makes the cases that the program `trials` runs: crates/trials/args, data/NAME/{bench.txt,readings.txt} and stdout.
 
 They are the stored cases of cases.json, and further ones of this file: limits at and beyond them, missing, empty and long files. What
 is printed comes from bench_oracle.py; next to each case of this file stands what document 01 gives, worked out by hand, and the two must
-agree. `python3 tests/oracle/to_program.py --check` fails if the files are not what they should be.
+agree. `python3 tests/oracle/to_program.py`, or with --check, compares: it fails if the files are not what they should be. --write writes
+them.
 """
 
 import json
 import shutil
 import sys
+from itertools import cycle, zip_longest
 from pathlib import Path
 
 from bench_oracle import run
+from make_cases import asked_to_write
 
 HERE = Path(__file__).resolve().parent
 CRATE = HERE.parent.parent / "crates" / "trials"
@@ -22,8 +25,14 @@ def add(name, bench, readings, printed):
     """A case; None stands for a file that is missing, and for a print that is not worked out by hand."""
     assert all(case[0] != name for case in CASES), name
     output = run(bench or b"", readings or b"")
-    assert printed is None or output == printed, (name, output[:300], printed[:300])
+    assert printed is None or output == printed, (name, first_unlike(output, printed))
     CASES.append((name, bench, readings, output))
+
+
+def first_unlike(output, printed):
+    """The number of the first line in which the two differ, with the beginning of that line in each."""
+    pairs = enumerate(zip_longest(output.split(b"\n"), printed.split(b"\n"), fillvalue=b"(no line)"))
+    return next((number, one[:100], other[:100]) for number, (one, other) in pairs if one != other)
 
 
 def lines(*parts):
@@ -117,22 +126,27 @@ def long_name(first, number):
     return (first + b"%d_" % number).ljust(24, b"x")
 
 
-def every_column():
-    """32 entities of 12 events each: as many columns as can be."""
+def most_columns():
+    """A bench of 32 entities with 12 events each, and its longest line of names: as many columns as can be."""
     entities = [long_name(b"s", number) for number in range(32)]
     events = [long_name(b"e", number) for number in range(12)]
     bench = b"interface I { " + b"".join(b"event " + event + b" : real " for event in events) + b"} "
     bench += b"".join(b"entity " + entity + b" : I { } " for entity in entities) + b"rules end"
     columns = b"".join(b" " + entity + b"".join(b" " + entity + b"." + event for event in events) for entity in entities)
+    return bench, b"n" + columns
+
+
+def every_column():
+    bench, names = most_columns()
     fields = b" true" + b" 3ff0000000000001" * 12
     first = b"1" + fields * 32
     other = first[:-1] + b"0"
-    readings = lines(b"n" + columns, first, first, other, b"2" + fields * 31, b"2" + b" -" * 416)
+    readings = lines(names, first, first, other, b"2" + fields * 31, b"2" + b" -" * 416)
     add("columns-416", bench, readings, lines(b"n", b"1", b"1", b"refused 25", b"refused 21", b"2"))
 
 
-def every_action():
-    """31 entities of 12 actions each, and one of 11: as many as one event leaves room for."""
+def most_actions():
+    """A bench of 31 entities with 12 actions each, and one with 11, and its row of names: as many as one event leaves room for."""
     actions = [long_name(b"k", number) for number in range(12)]
     declared = [b"action " + action + b" ( real ) " for action in actions]
     entities = [long_name(b"s", number) for number in range(31)]
@@ -143,8 +157,13 @@ def every_action():
         bench += b"when event e from t value changed trigger " + b" , ".join([first + declaration, *others]) + b" end "
     names = b"".join(b" " + entity + b"." + action for entity in entities for action in actions)
     names += b"".join(b" t." + action for action in actions[:11])
+    return bench + b"end", b"n" + names
+
+
+def every_action():
+    bench, names = most_actions()
     readings = lines(b"n t.e", b"1 0123456789abcdef", b"2 -")
-    add("actions-383", bench + b"end", readings, lines(b"n" + names, b"1" + b" 8123456789abcdef" * 383, b"2" + b" -" * 383))
+    add("actions-383", bench, readings, lines(names, b"1" + b" 8123456789abcdef" * 383, b"2" + b" -" * 383))
 
 
 def add_line_limits():
@@ -181,10 +200,261 @@ def add_files():
     add("second-part", PLAIN, filled + lines(b"1 50", b"2 60"), rows + lines(b"1 50", b"2 60"))
 
 
+# --------------------------------------------------------------------------
+# Long files: what a runner reads and prints part by part
+# --------------------------------------------------------------------------
+
+PART = 65536  # as many bytes as a runner may read, or gather before it prints, at once
+
+
+class Table:
+    """Readings and, line by line, what document 01 prints for them."""
+
+    def __init__(self, names, row):
+        self.columns = names.count(b" ")
+        self.readings = bytearray(lines(names))
+        self.printed = bytearray(lines(row))
+
+    def line(self, values, row):
+        self.readings += lines(values)
+        self.printed += lines(row)
+
+    def same(self, values):
+        """A line that is printed as it stands."""
+        self.line(values, values)
+
+    def fill(self, size):
+        """Lines with one ill-formed value until the readings have this many bytes: 23, or 21 if there should be more values."""
+        row = b"refused 23" if self.columns == 1 else b"refused 21"
+        while len(self.readings) < size:
+            missing = size - len(self.readings)
+            length = missing if missing <= 8000 else 7000
+            self.line(b"1 ".ljust(length - 1, b"x"), row)
+        assert len(self.readings) == size
+
+    def drop_last_feed(self):
+        del self.readings[-1:]
+
+    def add(self, name, bench):
+        add(name, bench, bytes(self.readings), bytes(self.printed))
+
+
+def plain_table():
+    """A table for PLAIN: a line with another value than the one before is printed as it stands."""
+    return Table(b"n s.e", b"n s.k")
+
+
+# -- lines at the end of a part
+
+SUMMED = [entity + b".e%d" % number for entity in (b"a", b"b") for number in range(12)]
+SUMS = (
+    b"interface I { " + b"".join(b"event e%d : whole " % number for number in range(12)) + b"} interface O { action k ( whole ) } "
+    b"entity a : I { } entity b : I { } entity z : O { } "
+    b"rules when event e0 from a value changed trigger action k ( " + b" + ".join(SUMMED) + b" ) on z end end"
+)
+
+
+def sum_line(number):
+    """A line of 24 values, and the row with their sum: each digit that is read counts."""
+    values = [(7654321 * number + 1234577 * place) % 80000000 for place in range(24)]
+    return b" ".join(b"%d" % value for value in [number, *values]), b"%d %d" % (number, sum(values))
+
+
+def long_readings():
+    """Three parts: a line feed is the last byte of the first, another one is the first byte of the third."""
+    table = Table(b" ".join([b"n", *SUMMED]), b"n z.k")
+    feeds = [PART - 1, 2 * PART]
+    for number in range(1, 1000):
+        values, row = sum_line(number)
+        if feeds and len(table.readings) > feeds[0] - 500:
+            table.fill(feeds.pop(0) - len(values))
+        table.line(values, row)
+        if len(table.readings) > 148900:
+            break
+    assert not feeds and table.readings[PART - 1] == table.readings[2 * PART] == ord("\n")
+    table.add("long-readings", SUMS)
+
+
+def number_cut():
+    """The first digit of the number 20 is the last byte of a part; the line before begins with another digit."""
+    table = plain_table()
+    for number in range(1, 20):
+        table.same(b"%d %d" % (number, 700 + number))
+    table.fill(PART - 1)
+    table.same(b"20 31")
+    table.same(b"21 32")
+    assert table.readings[PART - 1 : PART + 5] == b"20 31\n"
+    table.add("number-cut", PLAIN)
+
+
+def file_of_size(name, size, last_feed):
+    """The file's last line ends where the file has this many bytes."""
+    table = plain_table()
+    table.fill(size - len(b"1 57\n" if last_feed else b"1 57"))
+    table.same(b"1 57")
+    if not last_feed:
+        table.drop_last_feed()
+    assert len(table.readings) == size
+    table.add(name, PLAIN)
+
+
+# -- long records and lines of names
+
+
+def record_cut(length, before, row):
+    """A record of this length inside a part, and one with this many bytes before the end of the part and the others behind it.
+
+    Between the two stand longer records that end like a good line.
+    """
+    record = b"20 ".ljust(length, b"9")
+    table = plain_table()
+    table.line(record, row)
+    for beginning in (8192, 32768):
+        table.line(b"x" * beginning + b"1 57", b"refused 21")
+    table.fill(PART - before)
+    table.line(record, row)
+    table.same(b"1 57")
+    table.add("record-%d-cut" % length, PLAIN)
+
+
+def record_of_a_part():
+    """A record that fills its part up to the end; what stands of it in the next part would be a good line."""
+    table = plain_table()
+    table.same(b"1 57")
+    record = b"x" * (PART - len(table.readings)) + b"2 58"
+    table.line(record, b"refused 21")
+    table.same(b"2 59")
+    assert table.readings[PART:].startswith(b"2 58\n")
+    table.add("record-%d" % len(record), PLAIN)
+
+
+def longest_record(number):
+    """A value for each of 416 columns, as long as can be (`false` would leave only `-` for events): with a number of one digit,
+    no accepted record is longer."""
+    fields = [b"%d" % number]
+    for entity in range(32):
+        fields += [b"true"] + [b"3ff%05x%08x" % (number, 12 * entity + event) for event in range(12)]
+    return b" ".join(fields)
+
+
+def longest_record_cut():
+    """Longest records: taken, refused by their number, across the end of a part, and sent again."""
+    bench, names = most_columns()
+    table = Table(names, b"n")
+    table.line(longest_record(1), b"1")
+    for _ in range(5):
+        table.line(longest_record(3), b"refused 24")
+    assert len(table.readings) < PART
+    table.line(longest_record(2), b"2")
+    assert len(table.readings) > PART
+    table.line(longest_record(2), b"2")
+    table.add("record-%d-cut" % len(longest_record(2)), bench)
+
+
+def add_long_names():
+    """Too long lines of names that begin or end like good ones; good lines follow."""
+    bench, names = most_columns()
+    for length in (32768, 32769):
+        long_names = (names + b" ").ljust(length - 1, b"x") + b"n"
+        add("names-%d" % length, bench, lines(long_names, b"n", b"1"), b"refused 22\n")
+    for parts in (1, 2):
+        long_names = b"n s.e ".ljust(parts * PART, b"x") + b"n s.e"
+        add("names-%d" % len(long_names), PLAIN, lines(long_names, b"n s.e", b"1 57", b"2 58"), b"refused 22\n")
+
+
+# -- long prints
+
+
+def print_to(table, number, size):
+    """Empty lines until PLAIN has printed almost this many bytes, then a good line that prints the others; returns that line."""
+    length = size - len(table.printed) - len(b"%d \n" % number)
+    while length > 11:
+        table.line(b"", b"refused 21")
+        length -= len(b"refused 21\n")
+    values = b"%d " % number + (b"1" * length if length <= 10 else b"-1111111111")
+    table.same(values)
+    assert len(table.printed) == size
+    return values
+
+
+def output_of_a_part():
+    """65536 bytes are printed; a row ends where 32768 are."""
+    table = plain_table()
+    print_to(table, 1, PART // 2)
+    print_to(table, 2, PART)
+    table.add("output-65536", PLAIN)
+
+
+def output_of_long_rows():
+    """Long rows, of which one lies across byte 32768 of the print and another across byte 65536."""
+    bench, names = most_actions()
+    table = Table(b"n t.e", names)
+    for number in range(1, 9):
+        table.line(b"%d 0123456789abcde%d" % (number, number), b"%d" % number + b" 8123456789abcde%d" % number * 383)
+    table.line(b"7 -", b"refused 24")
+    table.add("output-%d" % len(table.printed), bench)
+
+
+def refusals(last):
+    """Lines that are refused after a line with this number, some of each refusal."""
+    values = [b"", b"0%d 2147483647" % last, b"1 2147483648", b"%d -2147483649" % (last + 1)]
+    values += [b"%d 2147483647" % (last + 2), b"4294967296 57", b"%d -2147483648" % last, b"%d ?" % last]
+    return cycle(zip(values, [b"refused %d" % number for number in (21, 21, 23, 23, 24, 24, 25, 25)]))
+
+
+def refused_and_resent():
+    """More than 65536 bytes of refusals; a row ends where 65536 bytes are printed; a line is sent again across the end of a part."""
+    table = plain_table()
+    table.same(b"1 57")
+    refused = refusals(1)
+    while len(table.printed) < PART - 50:
+        table.line(*next(refused))
+    accepted = print_to(table, 2, PART)
+    refused = refusals(2)
+    while len(table.readings) < PART - 50:
+        table.line(*next(refused))
+    table.same(accepted)
+    table.fill(PART - 2)
+    table.same(accepted)
+    table.same(accepted)
+    assert table.readings[PART - 2 :].startswith(accepted)
+    for _ in range(8):
+        table.line(*next(refused))
+    table.line(b"3" + accepted[1:], b"3 -")
+    table.same(b"4 58")
+    assert table.printed.count(b"refused 2") * len(b"refused 21\n") > PART
+    table.add("refused-resent", PLAIN)
+
+
+def add_long_files():
+    long_readings()
+    number_cut()
+    file_of_size("file-65536", PART, False)
+    file_of_size("file-65536-feed", PART, True)
+    file_of_size("file-65537", PART + 1, False)
+    record_cut(8192, 8191, b"refused 23")
+    record_cut(8193, 1, b"refused 21")
+    record_of_a_part()
+    longest_record_cut()
+    add_long_names()
+    output_of_a_part()
+    output_of_long_rows()
+    refused_and_resent()
+
+
+# --------------------------------------------------------------------------
+# All files: compared, or written
+# --------------------------------------------------------------------------
+
+
+def part_of_stdout(name, output):
+    return b"== " + name.encode() + b"\n" + output
+
+
 def wanted():
     """All files below the crate's folder that this program makes, by their names."""
     files = {Path("args"): lines(*[case[0].encode() for case in CASES])}
-    files[Path("stdout")] = b"".join(b"== " + case[0].encode() + b"\n" + case[3] for case in CASES)
+    files[Path("stdout")] = b"".join(part_of_stdout(name, output) for name, _, _, output in CASES)
     for name, bench, readings, _ in CASES:
         for file, content in (("bench.txt", bench), ("readings.txt", readings)):
             if content is not None:
@@ -197,27 +467,55 @@ def present():
     return {path.relative_to(CRATE): path.read_bytes() for path in paths}
 
 
-def main():
+def add_all():
     add_stored()
     add_trials()
     add_bench_limits()
     add_line_limits()
     add_files()
+    add_long_files()
+
+
+def unlike_case(stdout):
+    """The first case whose part of stdout is not what it should be."""
+    place = 0
+    for name, _, _, output in CASES:
+        part = part_of_stdout(name, output)
+        if not stdout.startswith(part, place):
+            return "from case " + name + " on"
+        place += len(part)
+    return "behind the last case"
+
+
+def unlike_files(files):
+    """The files that are missing, too many, or not what they should be, in words."""
+    have = present()
+    unlike = sorted(str(path) for path in files.keys() | have.keys() if files.get(path) != have.get(path))
+    stdout = have.get(Path("stdout"), b"")
+    return [path + " (" + unlike_case(stdout) + ")" if path == "stdout" else path for path in unlike]
+
+
+def write_files(files):
+    shutil.rmtree(CRATE / "data", ignore_errors=True)
+    for path, content in files.items():
+        (CRATE / path).parent.mkdir(parents=True, exist_ok=True)
+        (CRATE / path).write_bytes(content)
+
+
+def main(arguments):
+    write = asked_to_write(arguments)
+    add_all()
     files = wanted()
-    if "--check" in sys.argv:
-        have = present()
-        unlike = sorted(str(path) for path in files.keys() | have.keys() if files.get(path) != have.get(path))
-        if unlike:
-            print("not what the cases give: " + ", ".join(unlike))
-            return 1
+    if write:
+        write_files(files)
     else:
-        shutil.rmtree(CRATE / "data", ignore_errors=True)
-        for path, content in files.items():
-            (CRATE / path).parent.mkdir(parents=True, exist_ok=True)
-            (CRATE / path).write_bytes(content)
+        unlike = unlike_files(files)
+        if unlike:
+            print("not what to_program.py makes (--write would write them): " + ", ".join(unlike))
+            return 1
     print("%d cases" % len(CASES))
     return 0
 
 
 if __name__ == "__main__":
-    sys.exit(main())
+    sys.exit(main(sys.argv[1:]))

@@ -1,4 +1,4 @@
 // Prints the rows of bench.txt and readings.txt, which stand in the current folder.
 fn main() {
-    replay::run(b"bench.txt", b"readings.txt");
+    runner::run(b"bench.txt", b"readings.txt");
 }

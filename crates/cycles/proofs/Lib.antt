@@ -27,6 +27,7 @@ pub mod ResolvedLaws
 pub mod CellTokenLaws
 pub mod StateTestLaws
 pub mod PutLaws
+pub mod ReadingsLaws
 pub mod RowFields
 pub mod RowPuts
 pub mod GatheredLaws

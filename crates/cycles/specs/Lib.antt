@@ -11,6 +11,7 @@ pub mod Header
 pub mod Record
 pub mod Line
 pub mod Row
+pub mod Readings
 pub mod StateImage
 pub mod ClosedSet
 pub mod SoundState

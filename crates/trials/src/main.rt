@@ -1,5 +1,5 @@
 // Runs every case that an argument names: a folder with bench.txt and readings.txt, whose rows follow the folder's name.
-// tests/oracle/to_program.py writes the cases; proofs/ has what the definitions give for trial cases and stored cases.
+// tests/oracle/to_program.py writes the cases; `stored_texts` and `replay_cases` have what the definitions give for the stored ones.
 use libc::STDOUT_FILENO;
 ghost use Prim.Native.Nat.{_≤_};
 ghost use lib.ListN.{length};
@@ -43,7 +43,7 @@ fn path_of(path: &mut [u8], folder: &[u8], file: &[u8]) -> usize
 fn run_in(folder: &[u8], bench: &mut [u8], readings: &mut [u8]) {
     let b = path_of(bench, folder, b"bench.txt");
     let r = path_of(readings, folder, b"readings.txt");
-    replay::run(&bench[0..b], &readings[0..r]);
+    runner::run(&bench[0..b], &readings[0..r]);
 }
 
 // Argument number i, and the rows of the folder that it names.

@@ -1,0 +1,4 @@
+pub mod Replay
+pub mod Awaiting
+pub mod Feeding
+pub mod InChunks

@@ -1,0 +1,2 @@
+pub mod ReplayCases
+pub mod StoredLines

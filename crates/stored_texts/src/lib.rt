@@ -1,0 +1,1 @@
+// No code: proofs/ has what the definitions answer to the stored bench texts, computed by the check.
