@@ -1,76 +1,84 @@
-//! Safe wrappers over the engine's five calls. Without the feature `archive` the interpreter stands in for the engine.
+//! Safe wrappers over the five calls of the engine's archive.
 
-#[cfg(not(feature = "archive"))]
-pub use crate::calls::{bench_check, bench_header, bench_line, bench_row, state_fresh};
+use std::collections::hash_map::DefaultHasher;
+use std::fs;
+use std::hash::Hasher;
 
-#[cfg(feature = "archive")]
-pub use linked::{bench_check, bench_header, bench_line, bench_row, state_fresh};
+/// Where the linked archive lay when it was linked.
+pub const PATH: &str = env!("ENGINE_ARCHIVE");
 
-/// Whether the engine's archive is linked.
-pub const LINKED: bool = cfg!(feature = "archive");
+/// Ends the program unless the archive that was linked is the one that lies there now.
+pub fn assert_current() {
+    let bytes = fs::read(PATH).unwrap_or_else(|error| panic!("the archive is gone, {PATH}: {error}"));
+    assert_eq!(format!("{:016x}", sum(&bytes)), env!("ENGINE_ARCHIVE_SUM"), "another archive was linked than {PATH}");
+}
 
-#[cfg(feature = "archive")]
-mod linked {
-    mod c {
-        extern "C" {
-            pub fn bench_check(text: *const u8, text_length: usize, bench: *mut u8, bench_length: usize) -> u64;
-            pub fn state_fresh(bench: *const u8, bench_length: usize, state: *mut u8, state_length: usize) -> u64;
-            pub fn bench_line(
-                bench: *const u8,
-                bench_length: usize,
-                state: *mut u8,
-                state_length: usize,
-                names: *const u8,
-                names_length: usize,
-                values: *const u8,
-                values_length: usize,
-                row: *mut u8,
-                row_length: usize,
-            ) -> u64;
-            pub fn bench_header(bench: *const u8, bench_length: usize, row: *mut u8, row_length: usize) -> u64;
-            pub fn bench_row(
-                bench: *const u8,
-                bench_length: usize,
-                state: *const u8,
-                state_length: usize,
-                row: *mut u8,
-                row_length: usize,
-            ) -> u64;
-        }
+/// The same sum as in build.rs.
+fn sum(bytes: &[u8]) -> u64 {
+    let mut hasher = DefaultHasher::new();
+    hasher.write(bytes);
+    hasher.finish()
+}
+
+mod c {
+    extern "C" {
+        pub fn bench_check(text: *const u8, text_length: usize, bench: *mut u8, bench_length: usize) -> u64;
+        pub fn state_fresh(bench: *const u8, bench_length: usize, state: *mut u8, state_length: usize) -> u64;
+        pub fn bench_line(
+            bench: *const u8,
+            bench_length: usize,
+            state: *mut u8,
+            state_length: usize,
+            names: *const u8,
+            names_length: usize,
+            values: *const u8,
+            values_length: usize,
+            row: *mut u8,
+            row_length: usize,
+        ) -> u64;
+        pub fn bench_header(bench: *const u8, bench_length: usize, row: *mut u8, row_length: usize) -> u64;
+        pub fn bench_row(
+            bench: *const u8,
+            bench_length: usize,
+            state: *const u8,
+            state_length: usize,
+            row: *mut u8,
+            row_length: usize,
+        ) -> u64;
     }
+}
 
-    // In each call: slices are valid for their lengths, and two borrows of which one is exclusive never overlap.
+// In each call: slices are valid for their lengths, and two borrows of which one is exclusive never overlap.
 
-    pub fn bench_check(text: &[u8], bench: &mut [u8]) -> u64 {
-        unsafe { c::bench_check(text.as_ptr(), text.len(), bench.as_mut_ptr(), bench.len()) }
+pub fn bench_check(text: &[u8], bench: &mut [u8]) -> u64 {
+    unsafe { c::bench_check(text.as_ptr(), text.len(), bench.as_mut_ptr(), bench.len()) }
+}
+
+pub fn state_fresh(bench: &[u8], state: &mut [u8]) -> u64 {
+    unsafe { c::state_fresh(bench.as_ptr(), bench.len(), state.as_mut_ptr(), state.len()) }
+}
+
+pub fn bench_line(bench: &[u8], state: &mut [u8], names: &[u8], values: &[u8], row: &mut [u8]) -> u64 {
+    unsafe {
+        c::bench_line(
+            bench.as_ptr(),
+            bench.len(),
+            state.as_mut_ptr(),
+            state.len(),
+            names.as_ptr(),
+            names.len(),
+            values.as_ptr(),
+            values.len(),
+            row.as_mut_ptr(),
+            row.len(),
+        )
     }
+}
 
-    pub fn state_fresh(bench: &[u8], state: &mut [u8]) -> u64 {
-        unsafe { c::state_fresh(bench.as_ptr(), bench.len(), state.as_mut_ptr(), state.len()) }
-    }
+pub fn bench_header(bench: &[u8], row: &mut [u8]) -> u64 {
+    unsafe { c::bench_header(bench.as_ptr(), bench.len(), row.as_mut_ptr(), row.len()) }
+}
 
-    pub fn bench_line(bench: &[u8], state: &mut [u8], names: &[u8], values: &[u8], row: &mut [u8]) -> u64 {
-        unsafe {
-            c::bench_line(
-                bench.as_ptr(),
-                bench.len(),
-                state.as_mut_ptr(),
-                state.len(),
-                names.as_ptr(),
-                names.len(),
-                values.as_ptr(),
-                values.len(),
-                row.as_mut_ptr(),
-                row.len(),
-            )
-        }
-    }
-
-    pub fn bench_header(bench: &[u8], row: &mut [u8]) -> u64 {
-        unsafe { c::bench_header(bench.as_ptr(), bench.len(), row.as_mut_ptr(), row.len()) }
-    }
-
-    pub fn bench_row(bench: &[u8], state: &[u8], row: &mut [u8]) -> u64 {
-        unsafe { c::bench_row(bench.as_ptr(), bench.len(), state.as_ptr(), state.len(), row.as_mut_ptr(), row.len()) }
-    }
+pub fn bench_row(bench: &[u8], state: &[u8], row: &mut [u8]) -> u64 {
+    unsafe { c::bench_row(bench.as_ptr(), bench.len(), state.as_ptr(), state.len(), row.as_mut_ptr(), row.len()) }
 }

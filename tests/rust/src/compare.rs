@@ -1,33 +1,10 @@
 //! Runs both sides on a case and compares answers and every lent byte.
 
-use crate::calls;
-use crate::generate::case::{Call, Case, Lent, Step, LONGER_MOST};
-use crate::generate::prng::Prng;
+use crate::generate::case::{Call, Case, Lent, Step};
 use crate::image::{BENCH_SIZE, ROW_SIZE, STATE_SIZE};
+use crate::memory::{Memory, Side, Tally, OURS};
+use crate::show::show_bytes;
 use crate::{archive, interpreter};
-use std::collections::BTreeMap;
-
-/// Bytes past everything that is ever lent: nobody may touch them.
-const CANARY: usize = 64;
-
-/// How often each number was answered.
-#[derive(Clone, Debug, Default)]
-pub struct Tally {
-    pub answers: BTreeMap<u8, u64>,
-    pub calls: u64,
-    /// Accepted lines that gave some fired action.
-    pub fired: u64,
-}
-
-impl Tally {
-    pub fn add(&mut self, other: &Tally) {
-        for (&number, &count) in &other.answers {
-            *self.answers.entry(number).or_default() += count;
-        }
-        self.calls += other.calls;
-        self.fired += other.fired;
-    }
-}
 
 /// The first step at which the two sides part.
 #[derive(Clone, Debug)]
@@ -40,41 +17,7 @@ pub struct Mismatch {
     pub their_row: Vec<u8>,
 }
 
-#[derive(Clone, PartialEq, Eq)]
-struct Memory {
-    bench: Vec<u8>,
-    state: Vec<u8>,
-    row: Vec<u8>,
-}
-
-impl Memory {
-    fn new(fill: u64) -> Memory {
-        let mut prng = Prng::new(fill);
-        let mut filled = |size: usize| prng.bytes(size + LONGER_MOST + CANARY);
-        Memory { bench: filled(BENCH_SIZE), state: filled(STATE_SIZE), row: filled(ROW_SIZE) }
-    }
-}
-
-/// Bench, state, names, values, row.
-type LineCall = fn(&[u8], &mut [u8], &[u8], &[u8], &mut [u8]) -> u64;
-
-/// The five calls of one side.
-struct Side {
-    check: fn(&[u8], &mut [u8]) -> u64,
-    fresh: fn(&[u8], &mut [u8]) -> u64,
-    line: LineCall,
-    header: fn(&[u8], &mut [u8]) -> u64,
-    row: fn(&[u8], &[u8], &mut [u8]) -> u64,
-}
-
-const OURS: Side = Side {
-    check: calls::bench_check,
-    fresh: calls::state_fresh,
-    line: calls::bench_line,
-    header: calls::bench_header,
-    row: calls::bench_row,
-};
-
+/// The engine's side.
 const THEIRS: Side = Side {
     check: archive::bench_check,
     fresh: archive::state_fresh,
@@ -82,28 +25,6 @@ const THEIRS: Side = Side {
     header: archive::bench_header,
     row: archive::bench_row,
 };
-
-impl Side {
-    /// One call; `None` for a step that only writes memory.
-    fn answer(&self, text: &[u8], step: &Step, memory: &mut Memory) -> Option<u64> {
-        let Lent { bench, state, row } = step.lent;
-        let (bench, state, row) = (&mut memory.bench[..bench], &mut memory.state[..state], &mut memory.row[..row]);
-        match &step.call {
-            Call::Check => Some((self.check)(text, bench)),
-            Call::Fresh => Some((self.fresh)(bench, state)),
-            Call::Header => Some((self.header)(bench, row)),
-            Call::Row => Some((self.row)(bench, state, row)),
-            Call::Line { names, values } => Some((self.line)(bench, state, names, values, row)),
-            Call::SetBench { at, bytes } => overwrite(&mut memory.bench, *at, bytes),
-            Call::SetState { at, bytes } => overwrite(&mut memory.state, *at, bytes),
-        }
-    }
-}
-
-fn overwrite(memory: &mut [u8], at: usize, bytes: &[u8]) -> Option<u64> {
-    memory[at..at + bytes.len()].copy_from_slice(bytes);
-    None
-}
 
 /// Both sides under way on one bench text.
 pub struct Sides {
@@ -136,7 +57,9 @@ impl Sides {
         // Copies, to see that the engine leaves even what it only reads.
         let (text, lent_step) = (self.text.clone(), step.clone());
         let ours = OURS.answer(&self.text, step, &mut self.ours);
+        let texts_read = interpreter::texts_read();
         let theirs = THEIRS.answer(&text, &lent_step, &mut self.theirs);
+        assert_eq!(interpreter::texts_read(), texts_read, "the engine's calls end in the interpreter: it is compared with itself");
         let fault = if text != self.text || lent_step != *step {
             Some("text, names or values were written to")
         } else if ours != theirs {
@@ -148,7 +71,7 @@ impl Sides {
             return Err(Box::new(self.mismatch(what, ours, theirs)));
         }
         self.steps += 1;
-        self.count(step, theirs);
+        self.tally.count(step, theirs, &self.theirs.row);
         Ok(theirs)
     }
 
@@ -177,15 +100,6 @@ impl Sides {
             && kept(&self.theirs.row, &before.row, lent.row.min(ROW_SIZE))
     }
 
-    fn count(&mut self, step: &Step, answer: Option<u64>) {
-        let Some(answer) = answer else { return };
-        self.tally.calls += 1;
-        *self.tally.answers.entry((answer & 255) as u8).or_default() += 1;
-        if matches!(step.call, Call::Line { .. }) && answer & 255 == 0 && fires(&self.theirs.row[..(answer >> 8) as usize]) {
-            self.tally.fired += 1;
-        }
-    }
-
     fn mismatch(&self, what: &str, ours: Option<u64>, theirs: Option<u64>) -> Mismatch {
         let row = |memory: &Memory, answer: Option<u64>| {
             let length = answer.filter(|answer| answer & 255 == 0).map_or(0, |answer| answer >> 8) as usize;
@@ -200,11 +114,6 @@ impl Sides {
             their_row: row(&self.theirs, theirs),
         }
     }
-}
-
-/// Whether a row has a fired action.
-pub fn fires(row: &[u8]) -> bool {
-    row.split(|&byte| byte == b' ').skip(1).any(|field| field != b"-")
 }
 
 /// Runs a whole case.
@@ -223,18 +132,6 @@ pub fn show_answer(answer: Option<u64>) -> String {
         None => "no answer".into(),
         Some(answer) => format!("{} with {}", answer & 255, answer >> 8),
     }
-}
-
-pub fn show_bytes(bytes: &[u8]) -> String {
-    let mut shown = String::new();
-    for &byte in bytes {
-        match byte {
-            b'\n' => shown.push_str("\\n"),
-            32..=126 => shown.push(byte as char),
-            _ => shown.push_str(&format!("\\x{byte:02x}")),
-        }
-    }
-    shown
 }
 
 pub fn show_step(step: &Step) -> String {

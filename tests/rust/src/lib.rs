@@ -1,11 +1,22 @@
 //! A second interpreter of the Pantagruel bench engine, written from document 01 alone, and the means to compare it with the engine.
+//!
+//! What needs the engine's archive exists only with it: the interpreter is never compared with itself.
 
+#[cfg(feature = "archive")]
 pub mod archive;
 pub mod calls;
+#[cfg(feature = "archive")]
 pub mod compare;
 pub mod generate;
 pub mod image;
 pub mod interpreter;
+pub mod memory;
+pub mod options;
+pub mod replay;
 pub mod runner;
+pub mod show;
+#[cfg(feature = "archive")]
 pub mod shrink;
+pub mod thin;
+#[cfg(feature = "archive")]
 pub mod two_runs;

@@ -1,27 +1,20 @@
-//! `compare [--cases N] [--seed S] [--only K]`: random benches, the engine against the second interpreter.
+//! `compare`: random benches, the engine's archive against the second interpreter, call by call. Its words are those of src/options.rs.
 
-use second::compare::{self, Mismatch, Tally};
+use second::compare::{self, Mismatch};
 use second::generate::{self, case::Case};
+use second::memory::Tally;
+use second::options::{Options, USAGE};
 use second::two_runs::{self, Verdict};
 use second::{archive, shrink};
 use std::env;
 use std::process::ExitCode;
 
-const CASES: u64 = 10_000;
-const SEED: u64 = 0x5eed_0001;
 /// One case in so many tries the promise about two runs.
 const TWO_RUNS_EVERY: u64 = 6;
 /// Only the first failing cases are shown.
 const SHOWN_MOST: u64 = 3;
 /// Every number that the table knows, and acceptance.
 const NUMBERS: [u8; 17] = [0, 11, 12, 13, 14, 15, 16, 17, 18, 21, 22, 23, 24, 25, 31, 32, 33];
-
-struct Options {
-    cases: u64,
-    seed: u64,
-    /// Runs this case alone and says its number first, to find one that ends the program.
-    only: Option<u64>,
-}
 
 /// What all cases showed.
 #[derive(Default)]
@@ -38,38 +31,17 @@ struct Report {
 }
 
 fn main() -> ExitCode {
-    let Some(options) = options() else {
-        eprintln!("usage: compare [--cases N] [--seed S] [--only K]");
+    let Some(options) = Options::read(env::args().skip(1)) else {
+        eprintln!("usage: compare {USAGE}");
         return ExitCode::from(2);
     };
+    archive::assert_current();
     let mut report = Report::default();
-    match options.only {
-        Some(number) => report.case(options.seed, number),
-        None => (0..options.cases).for_each(|number| report.case(options.seed, number)),
-    }
+    options.case_numbers().for_each(|number| report.case(options.seed, number));
     report.print();
-    let complete = options.only.is_some() || report.failed > 0 || report.complete(options.cases);
+    let complete = options.single() || report.failed > 0 || report.complete(options.cases);
     println!("{} passed, {} failed", report.passed, report.failed + u64::from(!complete));
     ExitCode::from(u8::from(report.failed > 0 || !complete))
-}
-
-fn options() -> Option<Options> {
-    let mut options = Options { cases: CASES, seed: SEED, only: None };
-    let mut arguments = env::args().skip(1).peekable();
-    // The program's name may stand before its options.
-    if arguments.peek().is_some_and(|first| first == "compare") {
-        arguments.next();
-    }
-    while let Some(argument) = arguments.next() {
-        let number = arguments.next()?.parse().ok()?;
-        match &*argument {
-            "--cases" => options.cases = number,
-            "--seed" => options.seed = number,
-            "--only" => options.only = Some(number),
-            _ => return None,
-        }
-    }
-    Some(options)
 }
 
 impl Report {
@@ -130,8 +102,7 @@ impl Report {
     }
 
     fn print(&self) {
-        let against = if archive::LINKED { "the engine's archive" } else { "itself, the archive not being linked" };
-        println!("the second interpreter against {against}");
+        println!("the second interpreter against the engine's archive");
         println!("{} cases, {} calls, {} accepted lines with fired actions", self.passed + self.failed, self.tally.calls, self.tally.fired);
         let counts: Vec<String> = NUMBERS.iter().map(|number| format!("{number}: {}", self.count(*number))).collect();
         println!("answers: {}", counts.join(", "));

@@ -2,7 +2,7 @@
 //! elsewhere and whatever calls are refused in between.
 
 use crate::calls::answer;
-use crate::compare::{show_bytes, show_step, Mismatch, Sides, Tally};
+use crate::compare::{show_step, Mismatch, Sides};
 use crate::generate::bench::{self, Plan, LOOSE, SMALL};
 use crate::generate::case::{Call, Case, Step, EXACT};
 use crate::generate::lines::{self, Column, Line};
@@ -12,7 +12,9 @@ use crate::interpreter::accept;
 use crate::interpreter::grammar::{Bench, Filter, Rule, Sort, Sum, Test};
 use crate::interpreter::machine::{Reading, State, Store};
 use crate::interpreter::value::{Cell, Value};
-use crate::shrink;
+use crate::memory::Tally;
+use crate::show::show_bytes;
+use crate::thin;
 
 /// Names and values of one call.
 type Lent = (Vec<u8>, Vec<u8>);
@@ -414,9 +416,9 @@ fn same_store(a: &Store, b: &Store, entity: usize) -> bool {
 pub fn smaller(trial: &Trial) -> Trial {
     let fails = |trial: &Trial| matches!(judge(trial), Verdict::Fails(_));
     let mut best = trial.clone();
-    best.events = shrink::thin(best.events.clone(), &mut |events| fails(&Trial { events: events.to_vec(), ..trial.clone() }));
+    best.events = thin::thin(best.events.clone(), &mut |events| fails(&Trial { events: events.to_vec(), ..trial.clone() }));
     let base = best.clone();
-    best.text = shrink::smaller_text(&best.text, &mut |text| fails(&Trial { text: text.to_vec(), ..base.clone() }));
+    best.text = thin::smaller_text(&best.text, &mut |text| fails(&Trial { text: text.to_vec(), ..base.clone() }));
     best
 }
 

@@ -98,18 +98,44 @@ fn long_flat_sums() {
 }
 
 #[test]
-fn lengths_of_lines() {
-    // Only lines of fields can be that long, so they are refused either way; at the limit another number says so.
-    let bench = "rules end";
+fn line_feeds_in_lines() {
     let mut memory = (vec![0; BENCH_SIZE], vec![0; STATE_SIZE], vec![0; ROW_SIZE]);
-    assert_eq!(calls::bench_check(bench.as_bytes(), &mut memory.0), 0);
+    assert_eq!(calls::bench_check(b"rules end", &mut memory.0), 0);
     assert_eq!(calls::state_fresh(&memory.0, &mut memory.1), 0);
     let mut line = |names: &[u8], values: &[u8]| calls::bench_line(&memory.0, &mut memory.1, names, values, &mut memory.2);
-    assert_eq!(line(&[b'n'; 32_769], b"1"), 22);
-    assert_eq!(line(b"n", &[b'1'; 8_193]), 21);
     assert_eq!(line(b"n\n", b"1"), 22);
     assert_eq!(line(b"n", b"1\n"), 21);
     assert_eq!(line(b"n", b"1"), 1 << 8);
+}
+
+/// All columns of a bench at its limits, with the longest names: 20,001 bytes. A line of more than 32,768 bytes must repeat a column or
+/// have one that is unknown, so no line shows that limit itself: 22 is due in any case.
+#[test]
+fn longest_line_of_names() {
+    let long = |letter: char, number: usize| format!("{letter}{number:x>23}");
+    let members = repeat(12, " ", |member| format!("event {} : real", long('m', member)));
+    let entities = repeat(32, " ", |entity| format!("entity {} : I {{ }}", long('e', entity)));
+    let bench = format!("interface I {{ {members} }} {entities} rules end");
+    let columns = |entity: usize| {
+        let name = long('e', entity);
+        format!("{name} {}", repeat(12, " ", |member| format!("{name}.{}", long('m', member))))
+    };
+    let names = format!("n {}", repeat(32, " ", columns));
+    assert_eq!(names.len(), 20_001);
+    prints(&bench, &format!("{names}|1{}|1", " -".repeat(416)), "n|1|refused 21");
+    prints(&bench, &format!("{names} {}|1", long('e', 31)), "refused 22");
+}
+
+/// The longest record that can be taken: all entities there, all events read. It is 6,698 bytes long.
+#[test]
+fn longest_record() {
+    let members = repeat(12, " ", |member| format!("event m{member} : real"));
+    let entities = repeat(32, " ", |entity| format!("entity e{entity} : I {{ }}"));
+    let bench = format!("interface I {{ {members} }} {entities} rules end");
+    let names = |entity: usize| format!("e{entity} {}", repeat(12, " ", |member| format!("e{entity}.m{member}")));
+    let values = format!(" true{}", " 3ff0000000000000".repeat(12)).repeat(32);
+    assert_eq!(values.len() + "4294967295".len(), 6_698);
+    prints(&bench, &format!("n {}|1{values}|2{values}", repeat(32, " ", names)), "n|1|2");
 }
 
 #[test]

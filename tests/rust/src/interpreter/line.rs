@@ -6,7 +6,7 @@ use super::text::TEXT_MOST;
 use super::value::{Kind, Value};
 
 const NAMES_MOST: usize = TEXT_MOST;
-const VALUES_MOST: usize = 8_192;
+pub const VALUES_MOST: usize = 8_192;
 const NUMBER_DIGITS_MOST: usize = 10;
 
 #[derive(Clone, Copy, Debug, PartialEq, Eq)]

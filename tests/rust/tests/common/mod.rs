@@ -30,11 +30,10 @@ pub fn printed(bench: &str, readings: &str) -> String {
     String::from_utf8(out).expect("rows are ASCII")
 }
 
-/// Checks the runner's lines, given with `|` between.
+/// Checks the runner's lines, given with `|` between; each ends in a line feed, the last one too.
 pub fn prints(bench: &str, readings: &str, rows: &str) {
-    let wanted: Vec<&str> = rows.split('|').collect();
-    let printed = printed(bench, &readings.replace('|', "\n"));
-    assert_eq!(printed.lines().collect::<Vec<_>>(), wanted, "{bench}\n{readings}");
+    let wanted = rows.replace('|', "\n") + "\n";
+    assert_eq!(printed(bench, &readings.replace('|', "\n")), wanted, "{bench}\n{readings}");
 }
 
 pub const PEDAL: &str = "interface P { event down : bool } interface S { event pos : whole } interface L { action keep ( whole ) } \

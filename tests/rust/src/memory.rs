@@ -1,0 +1,113 @@
+//! Lent memory and the five calls on it, the same for both sides of a comparison.
+
+use crate::calls;
+use crate::generate::case::{Call, Case, Lent, Step, LONGER_MOST};
+use crate::generate::prng::Prng;
+use crate::image::{BENCH_SIZE, ROW_SIZE, STATE_SIZE};
+use std::collections::BTreeMap;
+
+/// Bytes past everything that is ever lent: nobody may touch them.
+const CANARY: usize = 64;
+
+#[derive(Clone, PartialEq, Eq)]
+pub struct Memory {
+    pub bench: Vec<u8>,
+    pub state: Vec<u8>,
+    pub row: Vec<u8>,
+}
+
+impl Memory {
+    pub fn new(fill: u64) -> Memory {
+        let mut prng = Prng::new(fill);
+        let mut filled = |size: usize| prng.bytes(size + LONGER_MOST + CANARY);
+        Memory { bench: filled(BENCH_SIZE), state: filled(STATE_SIZE), row: filled(ROW_SIZE) }
+    }
+}
+
+/// Bench, state, names, values, row.
+type LineCall = fn(&[u8], &mut [u8], &[u8], &[u8], &mut [u8]) -> u64;
+
+/// The five calls of one side.
+pub struct Side {
+    pub check: fn(&[u8], &mut [u8]) -> u64,
+    pub fresh: fn(&[u8], &mut [u8]) -> u64,
+    pub line: LineCall,
+    pub header: fn(&[u8], &mut [u8]) -> u64,
+    pub row: fn(&[u8], &[u8], &mut [u8]) -> u64,
+}
+
+/// The interpreter's side.
+pub const OURS: Side = Side {
+    check: calls::bench_check,
+    fresh: calls::state_fresh,
+    line: calls::bench_line,
+    header: calls::bench_header,
+    row: calls::bench_row,
+};
+
+impl Side {
+    /// One call; `None` for a step that only writes memory.
+    pub fn answer(&self, text: &[u8], step: &Step, memory: &mut Memory) -> Option<u64> {
+        let Lent { bench, state, row } = step.lent;
+        let (bench, state, row) = (&mut memory.bench[..bench], &mut memory.state[..state], &mut memory.row[..row]);
+        match &step.call {
+            Call::Check => Some((self.check)(text, bench)),
+            Call::Fresh => Some((self.fresh)(bench, state)),
+            Call::Header => Some((self.header)(bench, row)),
+            Call::Row => Some((self.row)(bench, state, row)),
+            Call::Line { names, values } => Some((self.line)(bench, state, names, values, row)),
+            Call::SetBench { at, bytes } => overwrite(&mut memory.bench, *at, bytes),
+            Call::SetState { at, bytes } => overwrite(&mut memory.state, *at, bytes),
+        }
+    }
+}
+
+fn overwrite(memory: &mut [u8], at: usize, bytes: &[u8]) -> Option<u64> {
+    memory[at..at + bytes.len()].copy_from_slice(bytes);
+    None
+}
+
+/// How often each number was answered.
+#[derive(Clone, Debug, Default)]
+pub struct Tally {
+    pub answers: BTreeMap<u8, u64>,
+    pub calls: u64,
+    /// Accepted lines that gave some fired action.
+    pub fired: u64,
+}
+
+impl Tally {
+    pub fn add(&mut self, other: &Tally) {
+        for (&number, &count) in &other.answers {
+            *self.answers.entry(number).or_default() += count;
+        }
+        self.calls += other.calls;
+        self.fired += other.fired;
+    }
+
+    /// Counts one step and its answer; `row` is the memory of the row after it.
+    pub fn count(&mut self, step: &Step, answer: Option<u64>, row: &[u8]) {
+        let Some(answer) = answer else { return };
+        self.calls += 1;
+        *self.answers.entry((answer & 255) as u8).or_default() += 1;
+        if matches!(step.call, Call::Line { .. }) && answer & 255 == 0 && fires(&row[..(answer >> 8) as usize]) {
+            self.fired += 1;
+        }
+    }
+}
+
+/// Whether a row has a fired action.
+fn fires(row: &[u8]) -> bool {
+    row.split(|&byte| byte == b' ').skip(1).any(|field| field != b"-")
+}
+
+/// What the interpreter alone answers to a case: no comparison, but it shows what a case is good for.
+pub fn answers(case: &Case) -> Tally {
+    let mut memory = Memory::new(case.fill);
+    let mut tally = Tally::default();
+    for step in &case.steps {
+        let answer = OURS.answer(&case.text, step, &mut memory);
+        tally.count(step, answer, &memory.row);
+    }
+    tally
+}
