@@ -9,6 +9,7 @@ import sys
 
 tests, folder, runner, second, calls, second_calls = (os.path.abspath(path) for path in sys.argv[1:7])
 rounds = int(sys.argv[7]) if len(sys.argv) > 7 else 7
+before = os.environ.get("BENCH_BEFORE")
 
 
 def opponents(bench):
@@ -22,6 +23,7 @@ def opponents(bench):
         file.write("".join(f'(load* "{name}")\n' for name in files) + "(main)\n(exit)\n")
     listed = [
         ("runner", [runner], False),
+        *([("runner before", [os.path.abspath(before)], False)] if before else []),
         ("second interpreter", [second, "."], False),
         ("Lua 5.4", ["lua5.4", lua], False),
         ("LuaJIT", ["luajit", lua], False),
