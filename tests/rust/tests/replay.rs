@@ -13,6 +13,7 @@ use second::replay::required::required;
 use second::replay::{coverage, exact, folder, Folder};
 use second::runner;
 use std::path::Path;
+use std::process::Command;
 
 const MIRROR: Mirror = Mirror { entities: 2, wholes: 1, reals: 1, actions: 2, names: SHORT_NAMES };
 
@@ -136,7 +137,7 @@ fn poor_folders_lack_classes() {
         recipe: "poor",
         bench: Some(b"rules end".to_vec()),
         readings: Some(readings.to_vec()),
-        closed_input: false,
+        ..Folder::default()
     };
     let mut coverage = coverage::Coverage::default();
     assert_eq!(coverage.lacking().len(), required().len());
@@ -162,7 +163,10 @@ fn differences() {
 /// `cat` copies its standard input: it finds nothing in /dev/null, and fails where there is no input.
 #[test]
 fn standard_input_is_closed() {
-    let run = |closed| start(Path::new("/bin/cat"), Path::new("/"), closed).expect("cat starts").finish().expect("cat ends");
+    let run = |closed_input| {
+        let folder = Folder { closed_input, ..Folder::default() };
+        start(Command::new("/bin/cat"), &folder, Path::new("/")).expect("cat starts").finish().expect("cat ends")
+    };
     assert_eq!((run(false).ended, run(false).printed.len()), (Ended::Code(0), 0));
     assert_eq!((run(true).ended, run(true).printed.len()), (Ended::Code(1), 0));
 }

@@ -12,6 +12,8 @@ const CHUNKS: [usize; 5] = [4_096, 8_192, 16_384, 32_768, 65_536];
 const SEED: u64 = 11;
 /// So many folders must show every flaw; a run has several times as many.
 const FOLDERS: u64 = 480;
+/// So many for the flaws of short reads, as only those with a pipe can show them; a run has twice as many.
+const PIPE_FOLDERS: u64 = 1_200;
 
 #[derive(Clone, Copy, Debug, PartialEq, Eq)]
 struct Runner {
@@ -68,6 +70,32 @@ enum Flaw {
     /// A row that lies across the end of a buffer is cut there.
     CutsRows,
     NoLastFeed,
+    // Short reads: those of less than a chunk that are not the last.
+    /// A short read is taken for the file's end.
+    EndsAtShortRead,
+    LosesLastByte,
+    /// The end of a short read is taken for a line's end.
+    CutsAtShortRead,
+    /// The part of a line with which a short read ends is lost.
+    LosesPart,
+    /// That part is lost if it is one byte.
+    LosesFirstByte,
+    /// That part is lost if the line's number is cut.
+    LosesNumber,
+    /// That part is lost if it is already too long, and the rest is taken for a line.
+    ForgetsLongPart,
+    /// A read that has neither the start nor the end of its line is lost.
+    LosesMiddle,
+    /// A line feed right after a short read is passed over.
+    LosesFeedAfterShortRead,
+    /// Where a short read ends with a line feed, the next one starts with an empty line.
+    EmptyLineAfterShortRead,
+    /// A read of one byte is taken for nothing.
+    SkipsOneByte,
+    /// The line of names ends with the first short read.
+    NamesInFullReads,
+    /// A read that is one byte short is taken for a full one.
+    TakesOldByte,
 }
 
 const FLAWS: [Flaw; 25] = [
@@ -98,6 +126,23 @@ const FLAWS: [Flaw; 25] = [
     Flaw::NoLastFeed,
 ];
 
+/// These show only where the readings come through a pipe.
+const SHORT_READS: [Flaw; 13] = [
+    Flaw::EndsAtShortRead,
+    Flaw::LosesLastByte,
+    Flaw::CutsAtShortRead,
+    Flaw::LosesPart,
+    Flaw::LosesFirstByte,
+    Flaw::LosesNumber,
+    Flaw::ForgetsLongPart,
+    Flaw::LosesMiddle,
+    Flaw::LosesFeedAfterShortRead,
+    Flaw::EmptyLineAfterShortRead,
+    Flaw::SkipsOneByte,
+    Flaw::NamesInFullReads,
+    Flaw::TakesOldByte,
+];
+
 /// What the runner prints.
 fn run(runner: Runner, folder: &Folder) -> Vec<u8> {
     print(runner, &rows(runner, folder))
@@ -121,7 +166,7 @@ fn rows(runner: Runner, folder: &Folder) -> Vec<Vec<u8>> {
 
 fn lines_rows(runner: Runner, folder: &Folder, bench: &Bench) -> Vec<Vec<u8>> {
     let flaw = runner.flaw;
-    let mut lines = read(runner, folder.readings_text()).into_iter();
+    let mut lines = read(runner, &gathered(runner, folder)).into_iter();
     let mut names = lines.next().unwrap_or_default();
     if flaw == Flaw::MissingReadingsHaveNames && folder.readings.is_none() {
         names = b"n".to_vec();
@@ -156,6 +201,45 @@ fn answer(flaw: Flaw, bench: &Bench, state: &mut State, columns: &[line::Column]
         Taken::Next(next) => *state = next,
     }
     Ok(Some(row::row(bench, state)))
+}
+
+/// The bytes of a file, put together from what the reads give: a chunk, or what is left of a piece.
+fn gathered(runner: Runner, folder: &Folder) -> Vec<u8> {
+    let Runner { flaw, chunk } = runner;
+    let reads: Vec<&[u8]> = folder.pieces().into_iter().flat_map(|piece| piece.chunks(chunk)).collect();
+    let mut bytes = Vec::new();
+    let mut after_short = false;
+    for (number, read) in reads.iter().enumerate() {
+        let passed_over = flaw == Flaw::LosesFeedAfterShortRead && after_short && read.starts_with(b"\n");
+        bytes.extend_from_slice(&read[usize::from(passed_over)..]);
+        after_short = read.len() < chunk && number + 1 < reads.len();
+        if after_short && flaw == Flaw::EndsAtShortRead {
+            break;
+        }
+        if after_short {
+            at_short_end(runner, read.len(), &mut bytes);
+        }
+    }
+    bytes
+}
+
+fn at_short_end(Runner { flaw, chunk }: Runner, read: usize, bytes: &mut Vec<u8>) {
+    let start = bytes.iter().rposition(|&byte| byte == b'\n').map_or(0, |feed| feed + 1);
+    let part = &bytes[start..];
+    match flaw {
+        Flaw::LosesLastByte => drop(bytes.pop()),
+        Flaw::CutsAtShortRead if !part.is_empty() => bytes.push(b'\n'),
+        Flaw::LosesPart => bytes.truncate(start),
+        Flaw::LosesFirstByte if part.len() == 1 => bytes.truncate(start),
+        Flaw::LosesNumber if part.iter().all(u8::is_ascii_digit) => bytes.truncate(start),
+        Flaw::ForgetsLongPart if start > 0 && part.len() > 8_192 => bytes.truncate(start),
+        Flaw::LosesMiddle if part.len() > read => bytes.truncate(bytes.len() - read),
+        Flaw::EmptyLineAfterShortRead if part.is_empty() => bytes.push(b'\n'),
+        Flaw::SkipsOneByte if read == 1 => drop(bytes.pop()),
+        Flaw::NamesInFullReads if start == 0 => bytes.push(b'\n'),
+        Flaw::TakesOldByte if read + 1 == chunk => bytes.push(0),
+        _ => {}
+    }
 }
 
 /// The lines of a file, read in chunks.
@@ -221,16 +305,39 @@ fn print(Runner { flaw, chunk }: Runner, rows: &[Vec<u8>]) -> Vec<u8> {
     out
 }
 
-#[test]
-fn every_flaw_shows() {
+/// Checks that each flaw shows in some of these folders.
+fn all_show(flaws: &[Flaw], folders: impl Iterator<Item = (u64, Folder)>) {
     let with_chunks = |flaw: &Flaw| CHUNKS.map(|chunk| Runner { flaw: *flaw, chunk });
-    let mut hidden: Vec<Runner> = FLAWS.iter().flat_map(with_chunks).collect();
-    for number in 0..FOLDERS {
-        let folder = folder(SEED, number);
+    let mut hidden: Vec<Runner> = flaws.iter().flat_map(with_chunks).collect();
+    for (number, folder) in folders {
         let wanted = folder.wanted();
         let right = Runner { flaw: Flaw::None, chunk: CHUNKS[number as usize % CHUNKS.len()] };
         assert!(run(right, &folder) == wanted, "this test reads or prints chunks wrong, folder {number}");
         hidden.retain(|&runner| run(runner, &folder) == wanted);
     }
     assert!(hidden.is_empty(), "no folder shows {hidden:?}");
+}
+
+fn folders(count: u64) -> impl Iterator<Item = (u64, Folder)> {
+    (0..count).map(|number| (number, folder(SEED, number)))
+}
+
+#[test]
+fn every_flaw_shows() {
+    all_show(&FLAWS, folders(FOLDERS));
+}
+
+#[test]
+fn every_flaw_of_short_reads_shows() {
+    all_show(&SHORT_READS, folders(PIPE_FOLDERS).filter(|(_, folder)| folder.cuts.is_some()));
+}
+
+/// Without the pipes a runner that goes wrong at short reads would pass.
+#[test]
+fn regular_files_hide_short_reads() {
+    for (number, folder) in folders(64) {
+        let regular = Folder { cuts: None, ..folder };
+        let runner = Runner { flaw: SHORT_READS[number as usize % SHORT_READS.len()], chunk: 4_096 };
+        assert!(run(runner, &regular) == regular.wanted(), "folder {number} shows {runner:?}");
+    }
 }

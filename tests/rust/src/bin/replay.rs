@@ -105,9 +105,13 @@ fn kept_place(seed: u64, number: u64, more: &str) -> PathBuf {
     Path::new(PLACE).join(format!("failed-{seed}-{number}{more}"))
 }
 
-/// Leaves a folder for a look, with both printings.
+/// Leaves a folder for a look, with both printings. What came through a pipe is left as a file, with the places where it was cut.
 fn keep(folder: &Folder, judged: &Judged, place: &Path) -> io::Result<()> {
-    program::write(folder, place)?;
+    remove_all(place)?;
+    program::write(&Folder { cuts: None, ..folder.clone() }, place)?;
+    if let Some(cuts) = &folder.cuts {
+        fs::write(place.join("cuts.txt"), format!("{cuts:?}\n"))?;
+    }
     fs::write(place.join("wanted.txt"), &judged.wanted)?;
     fs::write(place.join("printed.txt"), &judged.outcome.printed)?;
     println!("left in {}", place.display());

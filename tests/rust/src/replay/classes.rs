@@ -1,5 +1,6 @@
 //! The classes that a folder belongs to, measured on its bytes and on what is printed for it.
 
+use super::pieces::READS;
 use super::required::*;
 use super::{Folder, CHUNK, CHUNKS};
 use crate::interpreter::accept;
@@ -22,6 +23,21 @@ impl Line<'_> {
         self.start + self.bytes.len()
     }
 
+    /// Whether a cut after so many of its bytes has digits on both sides.
+    fn in_digits(&self, at: usize) -> bool {
+        self.bytes[at - 1].is_ascii_digit() && self.bytes[at].is_ascii_digit()
+    }
+
+    /// Whether a cut after so many of its bytes is in the first field.
+    fn in_first(&self, at: usize) -> bool {
+        !self.bytes[..at].contains(&b' ')
+    }
+
+    /// Those of the cuts that have a byte of the line on both sides.
+    fn inside(&self, cuts: &[usize]) -> Vec<usize> {
+        cuts.iter().copied().filter(|&cut| self.start < cut && cut < self.end()).collect()
+    }
+
     fn taken(&self) -> bool {
         !self.row.starts_with(b"refused")
     }
@@ -34,7 +50,7 @@ impl Line<'_> {
 
 /// All classes of a folder, each once.
 pub fn of(folder: &Folder, printed: &[u8]) -> BTreeSet<Class> {
-    let mut seen = Seen { classes: BTreeSet::new() };
+    let mut seen = Seen { classes: BTreeSet::new(), in_chunks: folder.cuts.is_none() };
     seen.files(folder);
     seen.input(folder);
     seen.text(folder.bench_text());
@@ -46,6 +62,9 @@ pub fn of(folder: &Folder, printed: &[u8]) -> BTreeSet<Class> {
             seen.printed(printed);
             seen.rows(&bench, &lines);
         }
+    }
+    if let Some(cuts) = &folder.cuts {
+        seen.pipe(folder, cuts, printed);
     }
     seen.classes
 }
@@ -66,6 +85,8 @@ fn lines<'a>(readings: &'a [u8], printed: &'a [u8]) -> Vec<Line<'a>> {
 
 struct Seen {
     classes: BTreeSet<Class>,
+    /// Whether reads end where the chunks of the file do. Those of a pipe end with its pieces, so it is in no class of a chunk's end.
+    in_chunks: bool,
 }
 
 impl Seen {
@@ -119,7 +140,7 @@ impl Seen {
         }
         self.note_if(!names.feed && names.bytes.len() > CHUNK, NAMES, "refused, several chunks without a line feed");
         let off = near(names.end(), 4_096);
-        if names.taken() && names.end() > 4_000 && off.abs() <= 2 {
+        if self.in_chunks && names.taken() && names.end() > 4_000 && off.abs() <= 2 {
             self.note(NAMES, format!("taken, line feed at {off:+} of 4096"));
         }
         if !names.taken() && NAMES_REFUSED.contains(&names.bytes.len()) {
@@ -146,7 +167,7 @@ impl Seen {
         let feed = readings.ends_with(b"\n");
         for chunk in CHUNKS {
             let off = near(readings.len(), chunk);
-            if off.abs() <= 1 && readings.len() > chunk / 2 {
+            if self.in_chunks && off.abs() <= 1 && readings.len() > chunk / 2 {
                 self.note(SIZES, size_name(chunk, off, feed));
             }
         }
@@ -158,6 +179,9 @@ impl Seen {
 
     /// How lines lie at the ends of chunks of one size. A line that is taken shows that it was read right, so only such lines count.
     fn ends(&mut self, chunk: usize, lines: &[Line]) {
+        if !self.in_chunks {
+            return;
+        }
         let taken = |line: &Line| line.taken() && line.start > 0;
         for pair in lines.windows(2) {
             let (line, next) = (&pair[0], &pair[1]);
@@ -173,10 +197,8 @@ impl Seen {
         }
         for line in lines[1..].iter().filter(|line| line.taken() && line.across(chunk)) {
             let at = line.end().saturating_sub(1) / chunk * chunk - line.start;
-            let digits = line.bytes[at - 1].is_ascii_digit() && line.bytes[at].is_ascii_digit();
-            let in_number = !line.bytes[..at].contains(&b' ');
-            self.note_if(digits && in_number, ENDS, &end_name(chunk, "number split"));
-            self.note_if(digits && !in_number, ENDS, &end_name(chunk, "value split"));
+            self.note_if(line.in_digits(at) && line.in_first(at), ENDS, &end_name(chunk, "number split"));
+            self.note_if(line.in_digits(at) && !line.in_first(at), ENDS, &end_name(chunk, "value split"));
         }
     }
 
@@ -199,6 +221,9 @@ impl Seen {
     }
 
     fn long_record(&mut self, line: &Line) {
+        if !self.in_chunks {
+            return;
+        }
         let length = line.bytes.len();
         let place = if line.across(CHUNK) { ACROSS } else { WITHIN };
         if RECORDS.contains(&length) {
@@ -249,6 +274,52 @@ impl Seen {
         }
         self.note_if(count >= STRETCH, STRETCHES, &format!("{STRETCH} lines {name}"));
         self.note_if(bytes > CHUNK, STRETCHES, &format!("more than {CHUNK} bytes {name}"));
+    }
+
+    fn pipe(&mut self, folder: &Folder, cuts: &[usize], printed: &[u8]) {
+        self.note(PIPES, ANY_PIPE);
+        if accept(folder.bench_text()).is_err() {
+            return self.note(PIPES, "refused bench");
+        }
+        let lines = lines(folder.readings_text(), printed);
+        if !lines[0].taken() {
+            return self.note(PIPES, "refused line of names");
+        }
+        self.note_if(!lines[0].inside(cuts).is_empty(), PIPES, "cut inside a line of names");
+        for line in &lines[1..] {
+            self.cut_line(line, cuts, lines[0].bytes);
+        }
+        self.pieces(folder, &lines);
+    }
+
+    /// How a line of values is cut. As at the ends of chunks only lines that are taken count, but for those that are too long.
+    fn cut_line(&mut self, line: &Line, cuts: &[usize], names: &[u8]) {
+        let inside = line.inside(cuts);
+        let rest_regular = |cut: &usize| cut - line.start > VALUES_MOST && regular(&line.bytes[cut - line.start..], names);
+        self.note_if(inside.iter().any(rest_regular), PIPES, "a record too long before a cut, regular after it");
+        self.note_if(line.bytes.len() > VALUES_MOST && !inside.is_empty(), PIPES, "a record of more than 8192 bytes, cut");
+        if !line.taken() {
+            return;
+        }
+        let in_number = |cut: &usize| line.in_digits(cut - line.start) && line.in_first(cut - line.start);
+        self.note_if(inside.len() >= 2, PIPES, "a line in three pieces or more");
+        self.note_if(inside.contains(&(line.start + 1)), PIPES, "cut after a line's first byte");
+        self.note_if(inside.iter().any(in_number), PIPES, "cut within a line's number");
+        self.note_if(line.feed && cuts.contains(&line.end()), PIPES, "cut right before a line feed");
+        self.note_if(cuts.contains(&line.start), PIPES, "cut right after a line feed");
+    }
+
+    fn pieces(&mut self, folder: &Folder, lines: &[Line]) {
+        let mut start = 0;
+        for piece in folder.pieces() {
+            for read in READS {
+                let off = piece.len() as isize - read as isize;
+                self.note_if(off.abs() == 1, PIPES, &piece_name(read, off));
+            }
+            let in_taken = |line: &Line| line.taken() && line.start <= start && start <= line.end();
+            self.note_if(piece.len() == 1 && lines.iter().any(in_taken), PIPES, "a piece of one byte");
+            start += piece.len();
+        }
     }
 }
 

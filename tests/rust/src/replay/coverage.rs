@@ -1,6 +1,6 @@
 //! What the folders of a run covered. It is measured on their bytes and on what is printed for them, not taken from how they were made.
 
-use super::required::{exactly, required, Class, INPUT, PRINTED, SIZES};
+use super::required::{exactly, required, Class, ANY_PIPE, INPUT, PIPES, PRINTED, SIZES};
 use super::{classes, Folder, CHUNK};
 use std::collections::BTreeMap;
 
@@ -9,6 +9,8 @@ pub struct Coverage {
     counts: BTreeMap<Class, u64>,
     readings_bytes: usize,
     printed_bytes: usize,
+    /// Those of all pipes together.
+    pieces: usize,
     recipes: BTreeMap<&'static str, u64>,
 }
 
@@ -16,6 +18,7 @@ impl Coverage {
     pub fn take(&mut self, folder: &Folder, printed: &[u8]) {
         self.readings_bytes += folder.readings_text().len();
         self.printed_bytes += printed.len();
+        self.pieces += folder.cuts.as_ref().map_or(0, |cuts| cuts.len() + 1);
         *self.recipes.entry(folder.recipe).or_default() += 1;
         for class in classes::of(folder, printed) {
             *self.counts.entry(class).or_default() += 1;
@@ -39,6 +42,7 @@ impl Coverage {
             "{several} files of several chunks, {closed} runs with closed input, {} outputs of exactly {CHUNK} bytes",
             count(PRINTED, &exactly(CHUNK))
         );
+        println!("{} runs with readings through a pipe, in {} pieces together", count(PIPES, ANY_PIPE), self.pieces);
         println!("folders by recipe: {}", list(&self.recipes));
         let mut groups: BTreeMap<&'static str, BTreeMap<&str, u64>> = BTreeMap::new();
         for ((group, name), &count) in &self.counts {

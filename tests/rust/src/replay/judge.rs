@@ -1,11 +1,13 @@
 //! Runs a folder, compares byte by byte, and shows a difference.
 
+use super::pieces::{self, CutLine};
 use super::program::{self, Ended, Outcome};
 use super::Folder;
 use crate::show::show_bytes;
 use crate::thin;
 use std::io;
 use std::path::Path;
+use std::process::Command;
 use std::time::{Duration, Instant};
 
 /// Bytes shown on each side of the first difference.
@@ -22,7 +24,7 @@ pub struct Judged {
 /// Runs a folder in this place. The interpreter works while the program does.
 pub fn judge(folder: &Folder, place: &Path) -> io::Result<Judged> {
     program::write(folder, place)?;
-    let started = program::start(Path::new(program::RUNNER), place, folder.closed_input)?;
+    let started = program::start(Command::new(program::RUNNER), folder, place)?;
     let wanted = folder.wanted();
     Ok(Judged { wanted, outcome: started.finish()? })
 }
@@ -38,9 +40,10 @@ impl Judged {
         let (wanted, printed) = (&self.wanted, &self.outcome.printed);
         let input = if folder.closed_input { "closed" } else { "/dev/null" };
         let mut shown = format!(
-            "{} bytes of bench, {} bytes of readings, standard input {input}; ended: {:?}\n",
+            "{} bytes of bench, {} bytes of readings {}, standard input {input}; ended: {:?}\n",
             folder.bench_text().len(),
             folder.readings_text().len(),
+            show_way(folder),
             self.outcome.ended
         );
         let Some(at) = difference(wanted, printed) else { return shown + "the printed bytes are right\n" };
@@ -65,6 +68,14 @@ fn around(bytes: &[u8], at: usize) -> String {
     show_bytes(&bytes[at.saturating_sub(CONTEXT)..bytes.len().min(at + CONTEXT)])
 }
 
+/// How the readings came.
+fn show_way(folder: &Folder) -> String {
+    match &folder.cuts {
+        Some(cuts) => format!("through a pipe, cut at {cuts:?}"),
+        None => "in a regular file".into(),
+    }
+}
+
 /// The line of readings of a number, if it is there.
 fn show_line(readings: &[u8], number: usize) -> String {
     let mut start = 0;
@@ -78,20 +89,40 @@ fn show_line(readings: &[u8], number: usize) -> String {
     String::new()
 }
 
-/// A smaller folder that still fails: fewer lines, then a shorter bench.
+/// A smaller folder that still fails: no pipe if it can be, fewer lines, fewer pieces, then a shorter bench.
 pub fn smaller(folder: &Folder, place: &Path) -> Folder {
     let deadline = Instant::now() + PATIENCE;
     let fails = |folder: &Folder| Instant::now() < deadline && judge(folder, place).is_ok_and(|judged| !judged.passed());
     let mut best = folder.clone();
-    if let Some(readings) = &folder.readings {
-        let lines = readings.split_inclusive(|&byte| byte == b'\n').map(<[u8]>::to_vec).collect();
-        let with = |lines: &[Vec<u8>]| Folder { readings: Some(lines.concat()), ..folder.clone() };
-        best.readings = Some(thin::thin(lines, &mut |lines| fails(&with(lines))).concat());
+    let regular = Folder { cuts: None, ..folder.clone() };
+    if folder.cuts.is_some() && fails(&regular) {
+        best = regular;
     }
+    fewer_lines(&mut best, &fails);
+    fewer_cuts(&mut best, &fails);
     if let Some(text) = &folder.bench {
         let base = best.clone();
         let with = |text: &[u8]| Folder { bench: Some(text.to_vec()), ..base.clone() };
         best.bench = Some(thin::smaller_text(text, &mut |text| fails(&with(text))));
     }
     best
+}
+
+/// The lines that are left keep their cuts.
+fn fewer_lines(folder: &mut Folder, fails: &dyn Fn(&Folder) -> bool) {
+    let Some(readings) = &folder.readings else { return };
+    let lines = pieces::lines(readings, folder.cuts.as_deref().unwrap_or(&[]));
+    let with = |lines: &[CutLine]| {
+        let (readings, cuts) = pieces::joined(lines);
+        Folder { readings: Some(readings), cuts: folder.cuts.as_ref().map(|_| cuts), ..folder.clone() }
+    };
+    let fewer = thin::thin(lines, &mut |lines| fails(&with(lines)));
+    *folder = with(&fewer);
+}
+
+fn fewer_cuts(folder: &mut Folder, fails: &dyn Fn(&Folder) -> bool) {
+    let Some(cuts) = folder.cuts.clone() else { return };
+    let with = |cuts: &[usize]| Folder { cuts: Some(cuts.to_vec()), ..folder.clone() };
+    let fewer = thin::thin(cuts, &mut |cuts| fails(&with(cuts)));
+    folder.cuts = Some(fewer);
 }

@@ -1,7 +1,7 @@
 //! Folders for the bench runner: files of several chunks, good and damaged, and what is to be printed for them.
 //!
 //! The runner reads and writes in chunks of a size that this package does not know, so lines, line feeds and numbers are brought to the
-//! ends of chunks of every likely size.
+//! ends of chunks of every likely size. Reads of a regular file are full but for the last, so some readings come through a pipe, in pieces.
 
 pub mod benches;
 pub mod classes;
@@ -13,6 +13,8 @@ pub mod files;
 pub mod headers;
 pub mod judge;
 pub mod outputs;
+pub mod pieces;
+pub mod pipe;
 pub mod program;
 pub mod records;
 pub mod required;
@@ -25,16 +27,21 @@ pub const CHUNKS: [usize; 4] = [4_096, 8_192, 32_768, 65_536];
 /// The size that most classes are counted for.
 pub const CHUNK: usize = 65_536;
 
+/// So many of a hundred folders with readings have them come through a pipe.
+const PIPE_SHARE: usize = 11;
+
 /// bench.txt and readings.txt; `None` is a missing file.
 pub type Files = (Option<Vec<u8>>, Option<Vec<u8>>);
 
-#[derive(Clone, Debug, PartialEq, Eq)]
+#[derive(Clone, Debug, Default, PartialEq, Eq)]
 pub struct Folder {
     pub recipe: &'static str,
     pub bench: Option<Vec<u8>>,
     pub readings: Option<Vec<u8>>,
     /// Standard input is closed, so that the first file that is opened gets descriptor 0. Else it is /dev/null.
     pub closed_input: bool,
+    /// readings.txt is a pipe and comes in pieces that end at these places, which ascend and lie within it. `None`: a regular file.
+    pub cuts: Option<Vec<usize>>,
 }
 
 struct Recipe {
@@ -63,7 +70,9 @@ pub fn folder(seed: u64, number: u64) -> Folder {
     let mut prng = Prng::for_case(seed, number);
     let (recipe, turn) = recipe(number);
     let (bench, readings) = (recipe.make)(&mut prng, turn);
-    Folder { recipe: recipe.name, bench, readings, closed_input: prng.chance(40) }
+    let closed_input = prng.chance(40);
+    let cuts = readings.as_ref().filter(|_| prng.chance(PIPE_SHARE)).map(|readings| pieces::cuts(&mut prng, readings));
+    Folder { recipe: recipe.name, bench, readings, closed_input, cuts }
 }
 
 /// The recipe of a number, and how many lower numbers have it.
@@ -88,6 +97,11 @@ impl Folder {
     /// A missing file is empty.
     pub fn readings_text(&self) -> &[u8] {
         self.readings.as_deref().unwrap_or(b"")
+    }
+
+    /// What of the readings comes at once: the pieces of a pipe, or a whole file.
+    pub fn pieces(&self) -> Vec<&[u8]> {
+        pieces::pieces(self.readings_text(), self.cuts.as_deref().unwrap_or(&[]))
     }
 
     /// What the interpreter prints.

@@ -1,5 +1,6 @@
 //! The bench runner in its fixed place, started in a folder.
 
+use super::pipe::{self, Feeder};
 use super::Folder;
 use std::io::{self, Read};
 use std::os::unix::process::CommandExt;
@@ -14,6 +15,9 @@ pub const RUNNER: &str = concat!(env!("CARGO_MANIFEST_DIR"), "/../../target/bin/
 
 /// Where folders are made, and where those stay that show a difference.
 pub const PLACE: &str = concat!(env!("CARGO_MANIFEST_DIR"), "/../../target/cargo/replay");
+
+const BENCH: &str = "bench.txt";
+const READINGS: &str = "readings.txt";
 
 /// A run that takes longer hangs: it is ended and has failed.
 const PATIENCE: Duration = Duration::from_secs(30);
@@ -44,15 +48,19 @@ pub struct Outcome {
 pub struct Started {
     child: Child,
     printed: Receiver<io::Result<Vec<u8>>>,
+    feeder: Option<Feeder>,
 }
 
-/// Writes a folder's files; a missing file is not there.
+/// Writes a folder's files; a missing file is not there. Of readings through a pipe only the pipe is made: `start` feeds it.
 pub fn write(folder: &Folder, place: &Path) -> io::Result<()> {
     fs::create_dir_all(place)?;
-    for (name, file) in [("bench.txt", &folder.bench), ("readings.txt", &folder.readings)] {
+    for (name, file) in [(BENCH, &folder.bench), (READINGS, &folder.readings)] {
+        // What was there may be a pipe: writing to it would wait for a reader.
+        remove(&place.join(name))?;
         match file {
+            Some(_) if name == READINGS && folder.cuts.is_some() => pipe::make(&place.join(name))?,
             Some(bytes) => fs::write(place.join(name), bytes)?,
-            None => remove(&place.join(name))?,
+            None => {}
         }
     }
     Ok(())
@@ -70,10 +78,10 @@ pub fn work_place() -> PathBuf {
     Path::new(PLACE).join(format!("work-{}", std::process::id()))
 }
 
-pub fn start(program: &Path, place: &Path, closed_input: bool) -> io::Result<Started> {
-    let mut command = Command::new(program);
+/// Starts a program in a place where the folder is written.
+pub fn start(mut command: Command, folder: &Folder, place: &Path) -> io::Result<Started> {
     command.current_dir(place).env_clear().stdin(Stdio::null()).stdout(Stdio::piped()).stderr(Stdio::null());
-    if closed_input {
+    if folder.closed_input {
         // Runs in the child, right before the program: `close` is allowed there.
         unsafe { command.pre_exec(close_input) };
     }
@@ -82,7 +90,13 @@ pub fn start(program: &Path, place: &Path, closed_input: bool) -> io::Result<Sta
     let (sender, printed) = mpsc::channel();
     // Nobody listens any more if the run was given up.
     thread::spawn(move || drop(sender.send(read(output))));
-    Ok(Started { child, printed })
+    Ok(Started { child, printed, feeder: feeder(folder, place) })
+}
+
+fn feeder(folder: &Folder, place: &Path) -> Option<Feeder> {
+    folder.cuts.as_ref()?;
+    let pieces = folder.pieces().into_iter().map(<[u8]>::to_vec).collect();
+    Some(Feeder::start(place.join(READINGS), pieces))
 }
 
 fn close_input() -> io::Result<()> {
@@ -101,6 +115,12 @@ fn read(output: ChildStdout) -> io::Result<Vec<u8>> {
 impl Started {
     /// Waits for the end, but not for ever.
     pub fn finish(mut self) -> io::Result<Outcome> {
+        let outcome = self.wait()?;
+        self.feeder.map_or(Ok(()), Feeder::end)?;
+        Ok(outcome)
+    }
+
+    fn wait(&mut self) -> io::Result<Outcome> {
         let deadline = Instant::now() + PATIENCE;
         let Ok(printed) = self.printed.recv_timeout(PATIENCE) else { return self.give_up() };
         let printed = printed?;
@@ -113,7 +133,7 @@ impl Started {
         self.give_up()
     }
 
-    fn give_up(mut self) -> io::Result<Outcome> {
+    fn give_up(&mut self) -> io::Result<Outcome> {
         self.child.kill()?;
         self.child.wait()?;
         let printed = self.printed.recv().unwrap_or_else(|_| Ok(Vec::new()))?;

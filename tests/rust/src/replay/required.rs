@@ -1,5 +1,6 @@
 //! The names of classes, and those that a run must have: without one of them it has not tried what it is there to try.
 
+use super::pieces::READS;
 use super::{CHUNK, CHUNKS};
 
 /// A group and a name.
@@ -17,6 +18,7 @@ pub const BYTES: &str = "bytes in readings";
 pub const PRINTED: &str = "printed";
 pub const ROWS: &str = "rows";
 pub const STRETCHES: &str = "stretches";
+pub const PIPES: &str = "readings through a pipe";
 
 /// Lengths of records that are counted one by one.
 pub const RECORDS: [usize; 4] = [8_191, 8_192, 8_193, 8_194];
@@ -31,6 +33,8 @@ pub const NAMES_BEYOND: [usize; 6] = [4_096, 8_192, 16_384, 20_000, CHUNK, 2 * C
 pub const ODD_BYTES: [u8; 4] = [0, 9, 13, 255];
 pub const STRETCH: usize = 1_000;
 pub const MANY_CELLS: usize = 100;
+/// Every folder with a pipe is of this class.
+pub const ANY_PIPE: &str = "any";
 /// Where a record lies.
 pub const WITHIN: &str = "in one chunk";
 pub const ACROSS: &str = "across chunks";
@@ -65,9 +69,13 @@ pub fn end_name(chunk: usize, what: &str) -> String {
     format!("{chunk} {what}")
 }
 
+pub fn piece_name(read: usize, off: isize) -> String {
+    format!("a piece of {read}{off:+} bytes")
+}
+
 /// Every class that a run must have.
 pub fn required() -> Vec<Class> {
-    let groups: [(&'static str, Vec<String>); 12] = [
+    let groups: [(&'static str, Vec<String>); 13] = [
         (FILES, files()),
         (INPUT, input()),
         (TEXTS, texts()),
@@ -80,6 +88,7 @@ pub fn required() -> Vec<Class> {
         (PRINTED, printed()),
         (ROWS, words(&["no cell", "one cell", "a hundred cells or more", "more than 4096 bytes", "more than 16384 bytes"])),
         (STRETCHES, stretches()),
+        (PIPES, pipes()),
     ];
     groups.into_iter().flat_map(|(group, names)| names.into_iter().map(move |name| (group, name))).collect()
 }
@@ -162,4 +171,13 @@ fn printed() -> Vec<String> {
 
 fn stretches() -> Vec<String> {
     words(&["1000 lines refused", "1000 lines resent", "more than 65536 bytes refused", "more than 65536 bytes resent"])
+}
+
+fn pipes() -> Vec<String> {
+    let mut names = words(&[ANY_PIPE, "refused bench", "refused line of names", "cut inside a line of names", "a piece of one byte"]);
+    names.extend(words(&["cut after a line's first byte", "cut within a line's number", "a line in three pieces or more"]));
+    names.extend(words(&["cut right before a line feed", "cut right after a line feed", "a record of more than 8192 bytes, cut"]));
+    names.push("a record too long before a cut, regular after it".into());
+    names.extend(READS.iter().flat_map(|&read| [-1, 1].map(|off| piece_name(read, off))));
+    names
 }
