@@ -6,7 +6,6 @@ use second::replay::program::{self, start, Ended, Outcome};
 use second::replay::required::PIPES;
 use second::replay::{classes, exact, folder, Folder};
 use std::process::Command;
-use std::time::{Duration, Instant};
 use std::{fs, io};
 
 /// Feeds readings in pieces to a few words of the shell, in a place of this name.
@@ -49,9 +48,9 @@ fn reads_end_where_pieces_do() {
     assert_eq!(reads(&[32_769]), "2+2 records in");
 }
 
+/// A program that is given up ends as `Hung`, not by a code.
 #[test]
 fn a_program_that_does_not_read_holds_nobody_up() {
-    let start = Instant::now();
     let ended = |words: &str| {
         let outcome = fed("unread", words, &[b'1'; 200_000], &[1, 2, 100_000]).expect("the shell runs");
         (outcome.ended, String::from_utf8_lossy(&outcome.printed).to_string())
@@ -60,7 +59,6 @@ fn a_program_that_does_not_read_holds_nobody_up() {
     assert_eq!(ended("echo opened only <readings.txt"), (Ended::Code(0), "opened only\n".into()));
     assert_eq!(ended("head -c 2 readings.txt"), (Ended::Code(0), "11".into()));
     assert_eq!(ended("head -c 70000 readings.txt | wc -c; exit 3"), (Ended::Code(3), "70000\n".into()));
-    assert!(start.elapsed() < Duration::from_secs(20), "some program was given up");
 }
 
 #[test]
