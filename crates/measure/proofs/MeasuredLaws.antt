@@ -1,13 +1,13 @@
 -- An answer of `read` fits one number.
-use mathlib.Core.Path.{_≡_, subst}
+use mathlib.Core.Path.{_≡_, ap, _∙_, subst}
 use mathlib.Core.List.{List}
 use Prim.Native.Nat.{ℕ, _+_, _≤_}
 use native.Mathlib.Omega.{arith}
 use Rattle.text.specs.declared.reading.Syntax.{Syntax}
 use Rattle.text.specs.declared.reading.Syntax.the-variants.{File, TooLong, NoTokenAt, UnfitAt, NoRoom}
 use Rattle.text.specs.TokenTable.{Token-columns}
-use Rattle.text.specs.Syntaxes.{syntax-offset, Says}
-use Rattle.measure.specs.Measured.{syntax-count}
+use Rattle.text.specs.Syntaxes.{syntax-offset, Says, Reads-text}
+use Rattle.measure.specs.Measured.{syntax-count, syntax-number, Measures}
 
 pub answer-fits : (text : List ℕ) (t u : Token-columns) (s : Syntax) → Says text t u s → syntax-offset s + syntax-count s ≤ 32768
 unfolding syntax-offset syntax-count
@@ -19,3 +19,6 @@ answer-fits text t u NoRoom h = omega arith
 
 pub fits-as : {r s : Syntax} → r ≡ s → syntax-offset r + syntax-count r ≤ 32768 → syntax-offset s + syntax-count s ≤ 32768
 fits-as e h = subst (λ x. syntax-offset x + syntax-count x ≤ 32768) e h
+
+pub measured : {text : List ℕ} {t u : Token-columns} {s : Syntax} {r : ℕ} → Reads-text text t u s → r ≡ syntax-number s → Measures text t u r
+measured {text} {t} {u} l e = record { number = e ∙ ap syntax-number (l .exact); reads = subst (Reads-text text t u) (l .exact) l }

@@ -1,8 +1,11 @@
 -- What reading a text answers, in one number.
 use Prim.Native.Nat.{ℕ, _+_, _*_}
+use mathlib.Core.Path.{_≡_}
+use mathlib.Core.List.{List}
 use Rattle.text.specs.declared.reading.Syntax.{Syntax}
 use Rattle.text.specs.declared.reading.Syntax.the-variants.{File, TooLong, NoTokenAt, UnfitAt, NoRoom}
-use Rattle.text.specs.Syntaxes.{syntax-code, syntax-offset}
+use Rattle.text.specs.TokenTable.{Token-columns}
+use Rattle.text.specs.Syntaxes.{syntax-code, syntax-offset, syntax-of, Reads-text}
 
 -- how many tokens a file has
 unfoldable pub syntax-count : Syntax → ℕ
@@ -16,3 +19,8 @@ syntax-count NoRoom = 0
 unfoldable pub syntax-number : Syntax → ℕ
 unfolding syntax-code syntax-offset syntax-count
 syntax-number s = syntax-code s + 256 * (syntax-offset s + syntax-count s)
+
+-- the right answer in one number, and what the columns, which were t and are u, hold then: of a file the rows of all its tokens
+pub record Measures (text : List ℕ) (t u : Token-columns) (r : ℕ) : Type 0 where
+  pub number : r ≡ syntax-number (syntax-of text t)
+  pub reads : Reads-text text t u (syntax-of text t)

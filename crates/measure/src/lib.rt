@@ -5,8 +5,8 @@
 ghost use mathlib.Core.Path.{_≡_};
 ghost use Prim.Native.Nat.{_+_, _*_, _≤_};
 ghost use Rattle.text.specs.TokenTable.{columns-of};
-ghost use Rattle.text.specs.Syntaxes.{syntax-offset, syntax-of};
-ghost use Rattle.measure.specs.Measured.{syntax-count, syntax-number};
+ghost use Rattle.text.specs.Syntaxes.{syntax-offset};
+ghost use Rattle.measure.specs.Measured.{syntax-count, syntax-number, Measures};
 use text::Syntax;
 use text::read;
 
@@ -40,8 +40,10 @@ pub extern "C" fn measure_text(
     lengths: &mut [u8],
     values: &mut [u32],
 ) -> u64
-    ensures { λ r. ⌜ r ≡ syntax-number (syntax-of (now (text .entry))
-        (columns-of (now (classes .entry)) (now (offsets .entry)) (now (lengths .entry)) (now (values .entry)))) ⌝ }
+    ensures { λ r. ⌜
+        Measures (now (text .entry))
+        (columns-of (now (classes .entry)) (now (offsets .entry)) (now (lengths .entry)) (now (values .entry)))
+        (columns-of (now (classes .exit)) (now (offsets .exit)) (now (lengths .exit)) (now (values .exit))) r ⌝ }
 {
     number(read(text, classes, offsets, lengths, values))
 }

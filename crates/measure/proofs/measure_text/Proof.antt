@@ -1,7 +1,5 @@
 -- `measure_text` meets its contract: the answer of `read`, which fits one number.
-use mathlib.Core.Path.{ap, _∙_}
-use Rattle.measure.specs.Measured.{syntax-number}
-use Rattle.measure.proofs.MeasuredLaws.{answer-fits}
+use Rattle.measure.proofs.MeasuredLaws.{answer-fits, measured}
 use borrow.Author.Needs.{needs}
 use Rattle.measure.proofs.measure_text.Statement.{statement}
 use Rattle.measure.proofs.measure_text.Tie as tie
@@ -25,7 +23,7 @@ same-length-4 : tie.Need-same-length-4
 same-length-4 c = c .before .before .before .before .before .before .before .before .before .read .ensures .values-kept
 
 returns : tie.Need-returns
-returns c = c .number .ensures ∙ ap syntax-number (c .before .before .before .before .before .before .before .before .before .read .ensures .exact)
+returns c = measured (c .before .before .before .before .before .before .before .before .before .read .ensures) (c .number .ensures)
 
 pub measure-text-spec : {M : Type 1} → statement M
 measure-text-spec =
