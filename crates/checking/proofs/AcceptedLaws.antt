@@ -16,6 +16,7 @@ use Rattle.checking.specs.CountFaults.{beyond, interface-counts, rule-co
 use Rattle.checking.specs.NameFaults.{name-faults}
 use Rattle.checking.specs.KindFaults.{kind-faults}
 use Rattle.checking.specs.Verdict.{Verdict, accepted, refused, refused-by, file-verdict, parsing-verdict, lexing-verdict, verdict, MOST-BYTES}
+use Rattle.checking.specs.Admitted.{Faultless}
 use Rattle.checking.proofs.WithinCounts.{Within-counts}
 use Rattle.text.proofs.ListLaws.{some-injective, none-some, five-empty, flatMap-empty, mapped-empty, drop-empty}
 use Rattle.checking.proofs.LookUpLaws.{found-member}
@@ -29,11 +30,6 @@ no-refusal [] v h = (refl, h)
 no-refusal (x ∷ fs) v h = absurd (refused-accepted h)
 
 -- ---- a file
-
-pub record Faultless (f : File) : Type 0 where
-  pub counts : count-faults f ≡ []
-  pub names : name-faults f ≡ []
-  pub kinds : kind-faults f ≡ []
 
 verdict-parts : (g : File) {f : File} → file-verdict g ≡ accepted f → Faultless g × (accepted g ≡ accepted f)
 unfolding file-verdict

@@ -70,7 +70,8 @@ use Rattle.checking.specs.KindFaults.{kinds-fit, member-kind, assignment
 use Rattle.checking.specs.Verdict.{accepted, file-verdict}
 use Rattle.text.proofs.ListLaws.{none-some, both-empty, three-empty, four-empty, five-empty, flatMap-empty, flatMap-member, member-flatMap}
 use Rattle.checking.proofs.LookUpLaws.{same-bytes-refl, found-some, found-member, member-found}
-use Rattle.checking.proofs.AcceptedLaws.{Faultless, accepted-faultless}
+use Rattle.checking.specs.Admitted.{Faultless}
+use Rattle.checking.proofs.AcceptedLaws.{accepted-faultless}
 use Rattle.checking.proofs.CheckedExpressions.{no-fault, kinds-fit-eq, member-kind-found, Known-clause, Known-call, clause-known, call-known}
 
 -- ---- what is known

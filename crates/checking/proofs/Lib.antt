@@ -42,3 +42,5 @@ pub mod ReferenceLaws
 pub mod ResolvedNames
 pub mod ScopeLaws
 pub mod ResolutionLaws
+pub mod FaultCodes
+pub mod AdmittedLaws

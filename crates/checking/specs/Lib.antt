@@ -4,6 +4,7 @@ pub mod CountFaults
 pub mod NameFaults
 pub mod KindFaults
 pub mod Verdict
+pub mod Admitted
 pub mod Directory
 pub mod FoundFaults
 pub mod DirectoryReads

@@ -56,3 +56,4 @@ pub mod GuardLaws
 pub mod GuardPuts
 pub mod GuardWalks
 pub mod RuleGuards
+pub mod RowReads

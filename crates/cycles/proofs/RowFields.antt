@@ -4,7 +4,7 @@ use native.Mathlib.Nat.{add-zero}
 use native.Mathlib.Numerals.{add-one}
 use native.Mathlib.Omega.{arith}
 use mathlib.Core.Path.{_≡_, refl, sym, ap, ap₂, _∙_, subst}
-use mathlib.Core.Bool.{true, false}
+use mathlib.Core.Bool.{Bool, true, false}
 use mathlib.Core.List.{List, [], _∷_, _++_, map, flatMap, append-nil}
 use mathlib.Core.Option.{Option, none, some}
 use lib.ListN.{length, getElem?}
@@ -13,7 +13,7 @@ use Rattle.checking.specs.Scope.{Found, interface-of, nth-member, member-of, is
 use Rattle.checking.proofs.WithinCounts.{Within-counts}
 use Rattle.text.proofs.ListLaws.{flatMap-flatMap}
 use Rattle.cycles.specs.Spots.{Spot, numbered, members-of, entity-cells, cells}
-use Rattle.cycles.specs.Row.{action-fields}
+use Rattle.cycles.specs.Row.{action-cells, action-fields}
 use Rattle.cycles.specs.StateImage.{table, entity-count}
 use Rattle.cycles.specs.RowMemory.{field-of, field-at}
 use Rattle.cycles.proofs.TableLaws.{table-append}
@@ -116,9 +116,24 @@ module _ (f : File) (w : Within-counts f) (field : Spot → List ℕ) where
           ∙ table-longer (λ m. field-of field e m (getElem? (i .members) m)) (length (i .members)) 12 (w .members e i s)
           (λ j l. rw (none-past (i .members) j l)))
 
+  abbrev cell-if : Spot → List Spot
+  cell-if p = elim (is-action (p .what .sort)) [ true ↦ p ∷ [] | false ↦ [] ]
+
+  -- a field stands where its cell does
+  fields-by-cell : action-fields f field ≡ flatMap spot-field (cells f)
+  unfolding action-fields action-cells flatMap
+  fields-by-cell = flatMap-flatMap (λ p. 32 ∷ field p) cell-if spot-field (λ p. by-sort p (is-action (p .what .sort))) (cells f)
+    where
+      by-sort : (p : Spot) (b : Bool)
+          → flatMap (λ (q : Spot). 32 ∷ field q) (elim b as (λ (x : Bool). List Spot) [ true ↦ p ∷ [] | false ↦ [] ])
+          ≡ (elim b as (λ (x : Bool). List ℕ) [ true ↦ 32 ∷ field p | false ↦ [] ])
+      by-sort p true = append-nil (32 ∷ field p)
+      by-sort p false = refl
+
   pub fields-table : action-fields f field ≡ table (field-at f field) 0 (12 * entity-count f)
-  unfolding action-fields cells field-at
+  unfolding cells field-at
   fields-table =
-      flatMap-flatMap spot-field (λ e. entity-cells f (e .number)) (λ e. flatMap spot-field (entity-cells f (e .number))) (λ e. refl) (numbered 0 (f .entities))
+      fields-by-cell
+      ∙ flatMap-flatMap spot-field (λ e. entity-cells f (e .number)) (λ e. flatMap spot-field (entity-cells f (e .number))) (λ e. refl) (numbered 0 (f .entities))
       ∙ numbered-table (λ e. flatMap spot-field (entity-cells f (e .number))) (λ e. table (piece e) 0 12) 0 (f .entities) (λ j x q. entity-fields (0 + j))
       ∙ table-by-twelve piece 0 (length (f .entities))

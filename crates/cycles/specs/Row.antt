@@ -11,12 +11,17 @@ use Rattle.checking.specs.Verdict.{name-if-found}
 use Rattle.cycles.specs.Store.{State}
 use Rattle.cycles.specs.Spots.{Spot, cells}
 
--- a space and a field for each action cell
-unfoldable pub action-fields : File → (Spot → List ℕ) → List ℕ
+-- "every action cell .., in entity and member order"
+unfoldable pub action-cells : File → List Spot
 unfolding flatMap is-action cells
-action-fields f field = flatMap (λ p. elim (is-action (p .what .sort)) [ true ↦ 32 ∷ field p | false ↦ [] ]) (cells f)
+action-cells f = flatMap (λ p. elim (is-action (p .what .sort)) [ true ↦ p ∷ [] | false ↦ [] ]) (cells f)
 
--- "`n` and every action cell as `entity.action`, in entity and member order"
+-- a space and a field for each of them: "one space between fields"
+unfoldable pub action-fields : File → (Spot → List ℕ) → List ℕ
+unfolding flatMap action-cells
+action-fields f field = flatMap (λ p. 32 ∷ field p) (action-cells f)
+
+-- "`n` and every action cell as `entity.action`"
 unfoldable pub row-header : File → List ℕ
 unfolding action-fields name-if-found
 row-header f = 110 ∷ action-fields f (λ p. name-if-found (getElem? (f .entities) (p .entity)) ++ 46 ∷ p .what .name .bytes)

@@ -1,12 +1,13 @@
 -- One call of a run, where the memory lent to it stands for a bench and a state: what it gives and leaves, by the machine's answer.
-use Prim.Native.Nat.{ℕ, _%_, _≤_}
+use Prim.Native.Nat.{ℕ, _/_, _%_, _≤_}
 use native.Mathlib.Omega.{arith}
 use mathlib.Core.Path.{_≡_, refl, ap}
 use mathlib.Core.Bool.{Bool, true, false}
 use mathlib.Core.List.{List}
 use mathlib.Core.Option.{some}
 use lib.Dec.{ltb, eqb}
-use lib.ListN.{length}
+use lib.ListN.{length, take, drop}
+use lib.Seq.{take-append-seam}
 use borrow.Author.Tests.{le-ltb}
 use Rattle.text.specs.Syntax.{File}
 use Rattle.checking.specs.Verdict.{Verdict, verdict}
@@ -68,11 +69,22 @@ pub gives-sight : (f : File) (b : List ℕ) (t : State) (n : ℕ) (w : List ℕ)
 unfolding sight
 gives-sight f b t n w r h = rw (h .answer-is, h .row-is, h .stands .state-is)
 
--- by the machine's answer: a refusal leaves the state, an accepted line follows it, and the reference machine is not stuck
-abbrev pub Answered : File → List ℕ → State → Request → After-line → Answer Line → Type 0
-Answered f b s q r (refused code) = Gives f b s code (q .row) r
-Answered f b s q r (accepted l) =
-    Gives f b (follow f s l) (row-answer (row f (follow f s l))) (with-row (row f (follow f s l)) (q .row)) r × (ref-follow f s l ≡ running (follow f s l))
+-- what the call of an accepted line gives, by the state before it and that state's memory: the reference machine is not stuck, and a line that
+-- is sent again leaves the memory
+pub record Accepts (f : File) (bench memory : List ℕ) (s : State) (q : Request) (r : After-line) (l : Line) : Type 0 where
+  pub gives : Gives f bench (follow f s l) (row-answer (row f (follow f s l))) (with-row (row f (follow f s l)) (q .row)) r
+  pub runs : ref-follow f s l ≡ running (follow f s l)
+  pub stays : l .number ≡ s .last → r .state ≡ memory
+
+-- by the machine's answer: a refusal leaves the state, an accepted line follows it
+abbrev pub Answered : File → List ℕ → List ℕ → State → Request → After-line → Answer Line → Type 0
+Answered f b m s q r (refused code) = Gives f b s code (q .row) r
+Answered f b m s q r (accepted l) = Accepts f b m s q r l
+
+-- the row that was written is found by the answer
+pub given-read : (g m : List ℕ) → take (row-answer g / 256) (with-row g m) ≡ g
+unfolding with-row
+given-read g m = let e : row-answer g / 256 ≡ length g = omega arith in rw e (take-append-seam g (drop (length g) m))
 
 pub answer-line : (f : File) (s : State) (q : Request) {l : Line} → machine-answer f s q ≡ accepted l → line f s (q .names) (q .values) ≡ accepted l
 unfolding machine-answer

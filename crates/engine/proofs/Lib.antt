@@ -4,7 +4,10 @@ pub mod ImageRoundTrip
 pub mod Replies
 pub mod CallLaws
 pub mod RunLaws
-pub mod DemandThree
+pub mod NumberLaws
+pub mod CheckLaws
+pub mod FollowsLaws
+pub mod Demands
 pub mod LineLaws
 pub mod ServingLaws
 pub mod EntryLaws

@@ -3,12 +3,10 @@ use Prim.Native.Nat.{ℕ, _≤_}
 use mathlib.Core.Path.{_≡_, refl, ap, ap₂, _∙_}
 use mathlib.Core.List.{List, [], _∷_}
 use lib.ListN.{length}
-use Rattle.text.specs.Syntax.{File}
 use Rattle.cycles.specs.StateImage.{STATE}
 use Rattle.engine.specs.BenchImage.{BENCH}
 use Rattle.engine.specs.Calls.{After-check, check-call, After-fresh, fresh-call, After-line, line-call}
-use Rattle.engine.specs.Runs.{Request, Run, ends, goes-on, Taken, taken-lines}
-use Rattle.engine.specs.DemandThree.{Begins}
+use Rattle.engine.specs.Runs.{Request, Run-start, Run, ends, goes-on}
 
 -- what the calls give and leave
 unfoldable pub replies : List ℕ → List ℕ → List Request → List After-line
@@ -33,23 +31,18 @@ unfoldable pub start-state : List ℕ → List ℕ → List ℕ → List ℕ
 unfolding fresh-call start-bench
 start-state text bench state = fresh-call (start-bench text bench) state .state
 
--- the accepted lines of a run over these requests
-unfoldable pub run-lines : File → List ℕ → List ℕ → List ℕ → List Request → List Taken
-unfolding taken-lines replies start-bench start-state
-run-lines f text bench state qs = taken-lines f qs (replies (start-bench text bench) (start-state text bench state) qs)
-
-pub begins-bench : {text bench state : List ℕ} (b : Begins text bench state) → bench ≡ start-bench text (b .lent-bench)
+pub begins-bench : {text bench state : List ℕ} (b : Run-start text bench state) → bench ≡ start-bench text (b .lent-bench)
 unfolding start-bench
 begins-bench b = ap (λ (r : After-check). r .bench) (b .is-checked)
 
-pub begins-state : {text bench state : List ℕ} (b : Begins text bench state) → state ≡ start-state text (b .lent-bench) (b .lent-state)
+pub begins-state : {text bench state : List ℕ} (b : Run-start text bench state) → state ≡ start-state text (b .lent-bench) (b .lent-state)
 unfolding start-state
 begins-state b =
     ap (λ (r : After-fresh). r .state) (b .is-fresh) ∙ ap (λ (m : List ℕ). fresh-call m (b .lent-state) .state) (begins-bench b)
 
 -- every text and memory has such a beginning, and every list of requests a run
 pub begins-so : (text bench state : List ℕ) → BENCH ≤ length bench → STATE ≤ length state
-    → Begins text (start-bench text bench) (start-state text bench state)
+    → Run-start text (start-bench text bench) (start-state text bench state)
 unfolding start-bench start-state
 begins-so text bench state h g = record {
   lent-bench = bench;
@@ -66,8 +59,3 @@ pub replies-run : (bench state : List ℕ) (qs : List Request) → Run bench sta
 unfolding replies
 replies-run bench state [] = ends
 replies-run bench state (q ∷ qs) = goes-on refl (replies-run bench (line-call bench state (q .names) (q .values) (q .row) .state) qs)
-
--- the replies of a run that begins so
-pub begun-replies : {text bench state : List ℕ} (b : Begins text bench state) {qs : List Request} {rs : List After-line} → Run bench state qs rs
-    → rs ≡ replies (start-bench text (b .lent-bench)) (start-state text (b .lent-bench) (b .lent-state)) qs
-begun-replies b {qs} run = run-replies run ∙ ap₂ (λ (m n : List ℕ). replies m n qs) (begins-bench b) (begins-state b)

@@ -1,24 +1,37 @@
 -- Runs: "a list of cycle calls, refused ones included, from a fresh state of one accepted bench file".
-use Prim.Native.Nat.{ℕ, _%_}
+use Prim.Native.Nat.{ℕ, _/_, _%_, _≤_}
 use mathlib.Core.List.{List, [], _∷_, _++_}
 use mathlib.Core.Bool.{Bool, true, false}
 use mathlib.Core.Option.{Option, some}
 use lib.Dec.{ltb, eqb}
-use lib.ListN.{length}
+use lib.ListN.{length, take}
 use Rattle.text.specs.Syntax.{File}
 use Rattle.cycles.specs.Outcome.{Outcome, running, proceed}
 use Rattle.cycles.specs.Store.{State, Line}
 use Rattle.cycles.specs.Cycle.{ref-follow}
 use Rattle.cycles.specs.Line.{Answer, refused, accepted, Reading, reading, line-of, line}
 use Rattle.cycles.specs.Row.{row}
-use Rattle.cycles.specs.StateImage.{state-of}
-use Rattle.engine.specs.Calls.{ROW, with-row, row-answer, After-line, Line-contract}
+use Rattle.cycles.specs.StateImage.{STATE, state-of}
+use Rattle.engine.specs.BenchImage.{BENCH}
+use Rattle.engine.specs.Calls.{ROW, with-row, row-answer, After-line, Check-contract, Fresh-contract, Line-contract}
 
 -- what is lent to one call beside bench and state: "whatever else is lent may be any bytes"
 pub record Request : Type 0 where
   pub names : List ℕ
   pub values : List ℕ
   pub row : List ℕ
+
+-- how a run begins: a check of the text, and a fresh state, as their contracts allow them, in memory of the stated sizes at least;
+-- bench and state as they are left
+pub record Run-start (text bench state : List ℕ) : Type 0 where
+  pub lent-bench : List ℕ
+  pub lent-state : List ℕ
+  pub bench-size : BENCH ≤ length lent-bench
+  pub state-size : STATE ≤ length lent-state
+  pub check-answer : ℕ
+  pub fresh-answer : ℕ
+  pub is-checked : Check-contract text lent-bench bench check-answer
+  pub is-fresh : Fresh-contract bench lent-state state fresh-answer
 
 -- a run: calls as the contract of the line call allows them. "Each gets bench and state as the last call left them"
 pub data Run (bench : List ℕ) : List ℕ → List Request → List After-line → Type 0 where
@@ -62,20 +75,26 @@ unfolding ref-answered machine-answer
 ref-run f s [] = running []
 ref-run f s (q ∷ qs) = ref-answered f s q (machine-answer f s q) (λ t. ref-run f t qs)
 
--- an accepted line of a run, and the memory of the state after it
+-- the row that a call gave: as many bytes as its answer says
+unfoldable pub given-by : After-line → List ℕ
+given-by r = take (r .answer / 256) (r .row)
+
+-- an accepted line of a run, the memory of the state before it, and what the call answered and left
 pub record Taken : Type 0 where
   pub line : Line
-  pub state : List ℕ
+  pub before : List ℕ
+  pub reply : After-line
 
-unfoldable pub taken-if : Bool → Answer Reading → List ℕ → List Taken
+unfoldable pub taken-if : Bool → Answer Reading → List ℕ → After-line → List Taken
 unfolding line-of
-taken-if false a m = []
-taken-if true (refused code) m = []
-taken-if true (accepted r) m = record { line = line-of r; state = m } ∷ []
+taken-if false a before r = []
+taken-if true (refused code) before r = []
+taken-if true (accepted l) before r = record { line = line-of l; before = before; reply = r } ∷ []
 
--- the accepted lines of a run: those whose answer has the number 0
-unfoldable pub taken-lines : File → List Request → List After-line → List Taken
+-- the accepted lines of a run from this memory of the state: those whose answer has the number 0
+unfoldable pub taken-lines : File → List ℕ → List Request → List After-line → List Taken
 unfolding taken-if reading
-taken-lines f [] rs = []
-taken-lines f (q ∷ qs) [] = []
-taken-lines f (q ∷ qs) (r ∷ rs) = taken-if (eqb (r .answer % 256) 0) (reading f (q .names) (q .values)) (r .state) ++ taken-lines f qs rs
+taken-lines f state [] rs = []
+taken-lines f state (q ∷ qs) [] = []
+taken-lines f state (q ∷ qs) (r ∷ rs) =
+    taken-if (eqb (r .answer % 256) 0) (reading f (q .names) (q .values)) state r ++ taken-lines f (r .state) qs rs

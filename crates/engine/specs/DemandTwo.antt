@@ -1,0 +1,49 @@
+-- Demand 2: what an accepted line does, what a line sent again gives, and how a row reads back.
+use Prim.Native.Nat.{ℕ, suc}
+use mathlib.Core.Path.{_≡_}
+use mathlib.Core.List.{List, [], _∷_}
+use mathlib.Core.Option.{some}
+use lib.ListN.{length, getElem?}
+use Rattle.values.specs.declared.Number.the-variants.{Is}
+use Rattle.values.specs.Forms.{magnitude, event-field}
+use Rattle.values.proofs.ReadBack.{read-back}
+use Rattle.text.specs.Syntax.{File}
+use Rattle.cycles.specs.Outcome.{running}
+use Rattle.cycles.specs.Store.{State, Line}
+use Rattle.cycles.specs.Spots.{Spot}
+use Rattle.cycles.specs.Cycle.{ref-follow}
+use Rattle.cycles.specs.Fields.{fields}
+use Rattle.cycles.specs.Line.{accepted, line}
+use Rattle.cycles.specs.Row.{action-cells, row}
+use Rattle.cycles.specs.StateImage.{state-of}
+use Rattle.cycles.specs.ClosedSet.{Among}
+use Rattle.engine.specs.Calls.{After-line}
+use Rattle.engine.specs.Runs.{given-by, Taken}
+
+-- "each accepted line leaves the state and fires the actions" of the machine: `line` is taken in state s, the machine goes on to `after`, the
+-- memory left stands for it, and its row is what the call gave
+pub record Follows (f : File) (s : State) (names values : List ℕ) (r : After-line) : Type 0 where
+  pub taken : Line
+  pub after : State
+  pub is-taken : line f s names values ≡ accepted taken
+  pub runs : ref-follow f s taken ≡ running after
+  pub leaves : state-of f (r .state) ≡ some after
+  pub fires : given-by r ≡ row f after
+
+-- of two accepted lines of a run with one number: the later one leaves the state's bytes, and gives the row that the earlier one gave
+pub record Given-again (x y : Taken) : Type 0 where
+  pub stays : y .reply .state ≡ y .before
+  pub again : given-by (y .reply) ≡ given-by (x .reply)
+
+-- "then it is resent, the state stays, the fired actions are given again", at any later point of a run
+abbrev pub Resent : List Taken → Type 0
+Resent [] = Unit {0}
+Resent (x ∷ xs) = ((y : Taken) → Among y xs → x .line .number ≡ y .line .number → Given-again x y) × Resent xs
+
+-- "every printed value reads back as itself": a row has a field for the number and one for each action cell, and reading them as fields of a
+-- record gives the state's number and values, and no reading where a cell is unset
+pub record Reads-back (f : File) (s : State) (r : List ℕ) : Type 0 where
+  pub count : length (fields r) ≡ suc (length (action-cells f))
+  pub number : (x : List ℕ) → getElem? (fields r) 0 ≡ some x → magnitude x ≡ Is (s .last)
+  pub fired : (i : ℕ) (p : Spot) (x : List ℕ) → getElem? (action-cells f) i ≡ some p → getElem? (fields r) (suc i) ≡ some x
+      → event-field (p .what .kind) x ≡ read-back (s .now .cell (p .entity) (p .member))
