@@ -83,6 +83,7 @@ Own-names i = (m : Member) → List·Memᴰ m (i .members) → (r : Found Member
 pub record Known-assignment (i : Interface) (a : Assignment) : Type 0 where
   pub found : Found Member
   pub named : member-named i (a .name .bytes) ≡ some found
+  pub of-sort : T (is-attribute (found .item .sort))
   pub kind : literal-kind (a .literal) ≡ found .item .kind
 
 pub record Known-entity (f : File) (e : Entity) : Type 0 where
@@ -171,6 +172,7 @@ assignment-known i a n k = go (member-named i (a .name .bytes)) refl (no-fault (
     go (some r) e t = record {
       found = r;
       named = e;
+      of-sort = t;
       kind = sym (kinds-fit-eq (r .item .kind) (literal-kind (a .literal)) (rw (member-kind-found i (a .name) e) at fit));
     }
 

@@ -1,4 +1,4 @@
--- The fresh state of a known file with literals that are set is sound.
+-- The fresh state of a known file: the reference machine runs to it; with literals that are set it is sound.
 use Prim.Native.Nat.{ℕ}
 use mathlib.Core.Path.{_≡_, refl, sym, ap, _∙_, subst}
 use mathlib.Core.Bool.{Bool, true, false, cond}
@@ -6,22 +6,26 @@ use mathlib.Core.List.{List·Memᴰ}
 use mathlib.Core.Option.{Option, none, some}
 use lib.Dec.{T, lit≤}
 use lib.Ieee.Bits.{is-true}
+use lib.Ieee.Fits.{and-i}
 use lib.ListN.{getElem?}
 use Rattle.values.specs.declared.Value.the-variants.{Unset}
 use Rattle.values.specs.declared.Kind.{Kind}
 use Rattle.values.specs.Value.{is-set}
-use Rattle.values.specs.Storable.{storable}
-use Rattle.values.proofs.StorableLaws.{unset-storable}
-use Rattle.text.specs.Syntax.{Member, literal-kind, literal-value, Assignment, Entity, File}
+use Rattle.values.specs.Storable.{of-kind, storable}
+use Rattle.values.proofs.StorableLaws.{unset-storable, storable-of-kind}
+use Rattle.text.specs.Syntax.{Member, Interface, literal-kind, literal-value, Assignment, Entity, File}
 use Rattle.text.proofs.ListLaws.{some-injective, none-some, All, number-member}
 use Rattle.text.proofs.NumberLaws.{Small-assignments}
 use Rattle.text.proofs.LiteralLaws.{literal-storable, literal-set}
-use Rattle.checking.specs.Scope.{Found, look-up, member-named, member-of, is-attribute}
+use Rattle.checking.specs.Scope.{Found, look-up, interface-named, member-named, member-of, is-attribute}
 use Rattle.checking.proofs.LookUpLaws.{found-name, found-member}
 use Rattle.checking.proofs.AcceptedLaws.{named-interface}
-use Rattle.checking.proofs.CheckedFile.{Known-entity, Known-file}
-use Rattle.cycles.specs.Cycle.{assigned, initial-value, fresh}
+use Rattle.checking.proofs.CheckedFile.{Known-assignment, Known-entity, Known-file}
+use Rattle.cycles.specs.Outcome.{running}
+use Rattle.cycles.specs.Spots.{every}
+use Rattle.cycles.specs.Cycle.{assigned, initial-value, fresh, assignment-fits, assignments-fit, ref-fresh}
 use Rattle.cycles.specs.SoundState.{Sound-store, Sound-inputs, Sound-state}
+use Rattle.cycles.proofs.WalkLaws.{every-passes}
 
 -- the members of an entity are those of its interface
 member-in : (f : File) (e m : ℕ) {x : Member} {y : Entity} → getElem? (f .entities) e ≡ some y → (k : Known-entity f y) → member-of f e m ≡ some x
@@ -99,3 +103,28 @@ known-fresh-sound f known small = record {
   inputs = no-inputs-sound f;
   last = lit≤ tt;
 }
+
+-- ---- the reference machine
+
+assignment-passes : (i : Interface) (a : Assignment) → Known-assignment i a → T (assignment-fits (member-named i (a .name .bytes)) (literal-value (a .literal)))
+unfolding assignment-fits
+assignment-passes i a k =
+    let x = k .found .item in
+    let v = literal-value (a .literal) in
+    rw (k .named)
+    (and-i (is-attribute (x .sort)) (of-kind (x .kind) v) (k .of-sort)
+    (subst (λ (u : Kind). T (of-kind u v)) (k .kind) (storable-of-kind (literal-kind (a .literal)) v (literal-storable (a .literal)))))
+
+entity-passes : (f : File) (e : Entity) → Known-entity f e → T (assignments-fit (interface-named f (e .interface .bytes)) (e .assignments))
+unfolding assignments-fit
+entity-passes f e k =
+    let i = k .interface in
+    rw (k .named)
+    (every-passes (λ (a : Assignment). assignment-fits (member-named i (a .name .bytes)) (literal-value (a .literal))) (e .assignments)
+    (λ a m. assignment-passes i a (k .assignment a m)))
+
+pub known-fresh-runs : (f : File) → Known-file f → ref-fresh f ≡ running (fresh f)
+unfolding ref-fresh
+known-fresh-runs f known =
+    let fits : Entity → Bool = λ e. assignments-fit (interface-named f (e .interface .bytes)) (e .assignments) in
+    rw (is-true (every fits (f .entities)) (every-passes fits (f .entities) (λ e m. entity-passes f e (known .entity e m))))

@@ -9,8 +9,8 @@ use Rattle.values.specs.declared.Value.{Value}
 use Rattle.values.specs.declared.Value.the-variants.{Unset}
 use Rattle.values.specs.declared.Kind.{Kind}
 use Rattle.values.specs.Storable.{of-kind}
-use Rattle.text.specs.Syntax.{Name, Sort, Member, Assignment, literal-value, Entity, File}
-use Rattle.checking.specs.Scope.{Found, look-up, is-found, member-of, interface-named, is-attribute, is-action}
+use Rattle.text.specs.Syntax.{Name, Sort, Member, Interface, Assignment, literal-value, Entity, File}
+use Rattle.checking.specs.Scope.{Found, look-up, is-found, member-of, interface-named, member-named, is-attribute, is-action}
 use Rattle.cycles.specs.Outcome.{Outcome, running, proceed, run-if}
 use Rattle.cycles.specs.Store.{Store, Inputs, State, Line}
 use Rattle.cycles.specs.Spots.{Spot, every, cells}
@@ -112,3 +112,21 @@ fresh f = record {
   last = 0;
   inputs = record { presence = λ e. none; given = λ e m. none };
 }
+
+-- an assignment: its name is found among the attributes, and its literal is of the attribute's kind
+unfoldable pub assignment-fits : Option (Found Member) → Value → Bool
+unfolding is-attribute of-kind
+assignment-fits none v = false
+assignment-fits (some m) v = is-attribute (m .item .sort) && of-kind (m .item .kind) v
+
+unfoldable pub assignments-fit : Option Interface → List Assignment → Bool
+unfolding every assignment-fits member-named literal-value
+assignments-fit none xs = false
+assignments-fit (some i) xs = every (λ a. assignment-fits (member-named i (a .name .bytes)) (literal-value (a .literal))) xs
+
+-- the reference machine "stops where a name or member isn't found, where `=` .. meets values of unfitting kinds"
+unfoldable pub ref-fresh : File → Outcome State
+unfolding run-if every assignments-fit interface-named fresh
+ref-fresh f =
+    run-if (every (λ e. assignments-fit (interface-named f (e .interface .bytes)) (e .assignments)) (f .entities))
+    (running (fresh f))
