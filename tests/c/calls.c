@@ -358,6 +358,31 @@ static void refused_lines(void)
     check_answer(line(), 22, 0, "names of 32,769 bytes");
 }
 
+/* A state of one entity with an attribute: the flags now, before and read are bytes 4 to 6, its first cell before is the 9 bytes from 115 on. */
+static void attribute_unset_before(void)
+{
+    uint8_t *flag, *cell;
+    lend_exact();
+    flag = state.lent + 5;
+    cell = state.lent + 115;
+    state_used = STATE_USED(1);
+    put_text(&text, "interface I { attribute a : whole } entity e : I { a = 7 } rules end");
+    check_answer(checked(), 0, 0, "a bench with an attribute");
+    check_answer(fresh(), 0, 0, "its fresh state");
+    put_text(&names, "n");
+    put_text(&values, "1");
+    check(*flag == 0 && *cell == 0, "absent and unset before the first cycle");
+    check_row(line(), "1");
+    check(*flag == 1 && *cell == 1, "present and set after it");
+    put_text(&values, "2");
+    memset(cell, 0, 9);
+    check_answer(line(), 33, 0, "present before with an attribute unset");
+    check_answer(state_row(), 33, 0, "present before with an attribute unset");
+    *flag = 0;
+    check_row(state_row(), "1");
+    check_row(line(), "2");
+}
+
 /* Memory that is no bench, or no state of it. */
 static void foreign_memory(void)
 {
@@ -372,6 +397,7 @@ static void foreign_memory(void)
     bench.lent[4] = 'i';
     memset(bench.lent, 255, 4);
     check_answer(state_row(), 32, 0, "a length beyond the most");
+    attribute_unset_before();
     start_pedal();
     memset(state.lent, 255, 4);
     put_text(&values, "4294967295 - -");

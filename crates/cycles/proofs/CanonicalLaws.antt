@@ -168,7 +168,7 @@ module _ (n : ℕ) (fs cs : List ℕ) (l : n ≤ length fs) where
       go (suc (suc zero)) h = refl
       go (suc (suc (suc b))) h = absurd (omega arith)
 
-pub inputs-canonical : (f : File) (fs cs : List ℕ) → 108 * entity-count f ≤ length cs → ((k : ℕ) → getD cs k 0 < 256) → T (cells-fit input-fits-in f cs)
+pub inputs-canonical : (f : File) (fs cs : List ℕ) → 108 * entity-count f ≤ length cs → ((k : ℕ) → getD cs k 0 < 256) → T (cells-fit (λ present. input-fits-in) f fs cs)
     → take (108 * entity-count f) cs ≡ input-table (decode-inputs (entity-count f) fs cs) (entity-count f)
 unfolding cells-fit decode-inputs
 inputs-canonical f fs cs l b h =

@@ -32,8 +32,7 @@ use Rattle.cycles.specs.StateImage.{
   is-unset-cell,
   is-set-cell,
   is-value-cell,
-  now-fits,
-  previous-fits,
+  store-fits,
   is-blank-cell,
   input-fits-in,
 }
@@ -66,28 +65,18 @@ value-passes k v h = go v h (set-passes k v h)
     go (Real x) h g = or-right (is-unset-cell (tag (Real x)) (payload (Real x))) (is-set-cell k (tag (Real x)) (payload (Real x))) (g tt)
     go Unset h g = tt
 
--- a member's cell now and one cycle before; where there is no member, an unset cell
-module _ (o : Option Member) (v : Value) (of-kind : (x : Member) → o ≡ some x → T (storable (x .kind) v)) (no-cell : o ≡ none → v ≡ Unset) where
-  pub now-passes : ((x : Member) → o ≡ some x → T (is-attribute (x .sort)) → T (is-set v)) → T (now-fits o (tag v) (payload v))
-  unfolding now-fits is-attribute
-  now-passes set = go o refl
-    where
-      at : (x : Member) → o ≡ some x → (s : Sort) → x .sort ≡ s → T (now-fits (some x) (tag v) (payload v))
-      at x e attribute q = rw (q, now-fits) (set-passes (x .kind) v (of-kind x e) (set x e (rw q tt)))
-      at x e event q = rw (q, now-fits) (value-passes (x .kind) v (of-kind x e))
-      at x e action q = rw (q, now-fits) (value-passes (x .kind) v (of-kind x e))
-
-      go : (p : Option Member) → o ≡ p → T (now-fits p (tag v) (payload v))
-      go none e = rw (no-cell e) tt
-      go (some x) e = at x e (x .sort) refl
-
-  pub previous-passes : T (previous-fits o (tag v) (payload v))
-  unfolding previous-fits
-  previous-passes = go o refl
-    where
-      go : (p : Option Member) → o ≡ p → T (previous-fits p (tag v) (payload v))
-      go none e = rw (no-cell e) tt
-      go (some x) e = value-passes (x .kind) v (of-kind x e)
+-- a member's cell in a store; where there is no member, an unset cell
+pub store-passes : (must-be-set : Bool) (o : Option Member) (v : Value) → ((x : Member) → o ≡ some x → T (storable (x .kind) v)) → (o ≡ none → v ≡ Unset)
+    → ((x : Member) → o ≡ some x → T (is-attribute (x .sort)) → must-be-set ≡ true → T (is-set v)) → T (store-fits must-be-set o (tag v) (payload v))
+unfolding store-fits
+store-passes must-be-set none v of-kind no-cell set = rw (no-cell refl) tt
+store-passes must-be-set (some x) v of-kind no-cell set = go must-be-set refl (is-attribute (x .sort)) refl
+  where
+    go : (a : Bool) → must-be-set ≡ a → (b : Bool) → is-attribute (x .sort) ≡ b
+        → T (cond (a && b) (is-set-cell (x .kind) (tag v) (payload v)) (is-value-cell (x .kind) (tag v) (payload v)))
+    go true p true q = set-passes (x .kind) v (of-kind x refl) (set x refl (rw q tt) p)
+    go true p false q = value-passes (x .kind) v (of-kind x refl)
+    go false p b q = value-passes (x .kind) v (of-kind x refl)
 
 -- ---- what passes can be held
 
@@ -125,32 +114,23 @@ value-storable k t w h = go (is-unset-cell t w) refl h
     go true e g = rw (unset-value t w (rw e tt)) (unset-storable k)
     go false e g = set-storable k t w g .0
 
--- a test of a store's cells that leaves only what a sound store has
-pub record Sound-test (fit : Option Member → ℕ → ℕ → Bool) : Type 0 where
-  pub of-kind : (x : Member) (t w : ℕ) → T (fit (some x) t w) → T (storable (x .kind) (unpacked t w))
-  pub no-cell : (t w : ℕ) → T (fit none t w) → unpacked t w ≡ Unset
+-- what passes the test of a store's cell is as a sound store has it
+module _ (must-be-set : Bool) (t w : ℕ) where
+  pub store-of-kind : (x : Member) → T (store-fits must-be-set (some x) t w) → T (storable (x .kind) (unpacked t w))
+  unfolding store-fits
+  store-of-kind x h = go (must-be-set && is-attribute (x .sort)) h
+    where
+      go : (b : Bool) → T (cond b (is-set-cell (x .kind) t w) (is-value-cell (x .kind) t w)) → T (storable (x .kind) (unpacked t w))
+      go true h = set-storable (x .kind) t w h .0
+      go false h = value-storable (x .kind) t w h
 
-pub now-sound : Sound-test now-fits
-unfolding now-fits
-now-sound = record { of-kind = λ x t w h. at x t w (x .sort) refl h; no-cell = unset-value }
-  where
-    at : (x : Member) (t w : ℕ) (s : Sort) → x .sort ≡ s → T (now-fits (some x) t w) → T (storable (x .kind) (unpacked t w))
-    at x t w attribute q h = set-storable (x .kind) t w (rw (q, now-fits) at h) .0
-    at x t w event q h = value-storable (x .kind) t w (rw (q, now-fits) at h)
-    at x t w action q h = value-storable (x .kind) t w (rw (q, now-fits) at h)
+  pub store-no-cell : T (store-fits must-be-set none t w) → unpacked t w ≡ Unset
+  unfolding store-fits
+  store-no-cell h = unset-value t w h
 
-pub now-set : (x : Member) (t w : ℕ) → T (is-attribute (x .sort)) → T (now-fits (some x) t w) → T (is-set (unpacked t w))
-unfolding now-fits is-attribute
-now-set x t w a h = at (x .sort) refl
-  where
-    at : (s : Sort) → x .sort ≡ s → T (is-set (unpacked t w))
-    at attribute q = set-storable (x .kind) t w (rw (q, now-fits) at h) .1
-    at event q = absurd (rw q at a)
-    at action q = absurd (rw q at a)
-
-pub previous-sound : Sound-test previous-fits
-unfolding previous-fits
-previous-sound = record { of-kind = λ x t w h. value-storable (x .kind) t w h; no-cell = unset-value }
+  pub store-set : (x : Member) → T (is-attribute (x .sort)) → must-be-set ≡ true → T (store-fits must-be-set (some x) t w) → T (is-set (unpacked t w))
+  unfolding store-fits
+  store-set x a e h = set-storable (x .kind) t w (rw (e, is-true (is-attribute (x .sort)) a) at h) .1
 
 -- ---- the bytes of a cell, read back
 

@@ -1,11 +1,11 @@
 -- The state image: a sound state that is written is read back, no byte is added, and what memory stands for is a sound state.
 use mathlib.Core.Path.{_≡_, refl, ap, ap₂, _∙_, subst}
-use mathlib.Core.Bool.{Bool, true, false}
+use mathlib.Core.Bool.{Bool, true, false, _&&_}
 use mathlib.Core.List.{List, _++_}
 use mathlib.Core.Option.{Option, none, some}
 use Prim.Native.Nat.{ℕ, _+_, _*_, _/_, _%_, _≤_, _<_}
 use native.Mathlib.Omega.{arith}
-use lib.Dec.{T, ltb, lt→ltb, ltb→lt}
+use lib.Dec.{T, ltb, eqb, lt→ltb, ltb→lt}
 use lib.ListN.{length, getD, drop, length-append, length-drop}
 use lib.Ieee.Fits.{and-i, and-l, and-r}
 use lib.Ieee.Bits.{is-true}
@@ -36,8 +36,7 @@ use Rattle.cycles.specs.StateImage.{
   decode-store,
   decode-inputs,
   decode,
-  now-fits,
-  previous-fits,
+  store-fits,
   input-fits-in,
   cells-fit,
   flags-below,
@@ -46,7 +45,7 @@ use Rattle.cycles.specs.StateImage.{
   with-state,
 }
 use Rattle.cycles.proofs.TableLaws.{word-low-first, each-at}
-use Rattle.cycles.proofs.CellFits.{now-passes, previous-passes, Sound-test, now-sound, now-set, previous-sound, Event-value, input-sound}
+use Rattle.cycles.proofs.CellFits.{store-passes, store-of-kind, store-no-cell, store-set, Event-value, input-sound}
 use Rattle.cycles.proofs.CellNumbers.{cell-entity, cell-member, cell-below, cell-cases, past-none, no-entity-no-cell, no-member-no-cell}
 use Rattle.cycles.proofs.ImageParts.{
   from-now-flags,
@@ -77,9 +76,9 @@ pub record Passes (f : File) (m : List ℕ) : Type 0 where
   pub now-present : T (flags-below 2 (entity-count f) (now-flags (entity-count f) m))
   pub previous-present : T (flags-below 2 (entity-count f) (previous-flags (entity-count f) m))
   pub presence-read : T (flags-below 3 (entity-count f) (read-flags (entity-count f) m))
-  pub now : T (cells-fit now-fits f (now-cells (entity-count f) m))
-  pub previous : T (cells-fit previous-fits f (previous-cells (entity-count f) m))
-  pub inputs : T (cells-fit input-fits-in f (input-cells (entity-count f) m))
+  pub now : T (cells-fit (λ present. store-fits true) f (now-flags (entity-count f) m) (now-cells (entity-count f) m))
+  pub previous : T (cells-fit (λ present. store-fits present) f (previous-flags (entity-count f) m) (previous-cells (entity-count f) m))
+  pub inputs : T (cells-fit (λ present. input-fits-in) f (read-flags (entity-count f) m) (input-cells (entity-count f) m))
 
 pub passes-is-state : (f : File) (m : List ℕ) → Passes f m → T (is-state f m)
 unfolding is-state
@@ -120,16 +119,21 @@ module _ (f : File) (s : State) (rest : List ℕ) where
       now-present = rw (at-now-flags n s rest) (present-pass (s .now .present) n (from-previous-flags n s rest));
       previous-present = rw (at-previous-flags n s rest) (present-pass (s .previous .present) n (from-read-flags n s rest));
       presence-read = rw (at-read-flags n s rest) (presence-pass (s .inputs .presence) n (from-now-cells n s rest));
-      now = rw (at-now-cells n s rest) (store-pass f now-fits (s .now) (h .now) now-cell (from-previous-cells n s rest));
-      previous = rw (at-previous-cells n s rest) (store-pass f previous-fits (s .previous) (h .previous) previous-cell (from-input-cells n s rest));
-      inputs = rw (at-input-cells n s rest) (inputs-pass f (s .inputs) (h .inputs) rest);
+      now = rw (at-now-flags n s rest, at-now-cells n s rest)
+          (store-pass f (λ present. store-fits true) (s .now) (h .now) now-cell (from-previous-flags n s rest) (from-previous-cells n s rest));
+      previous = rw (at-previous-flags n s rest, at-previous-cells n s rest)
+          (store-pass f (λ present. store-fits present) (s .previous) (h .previous) previous-cell (from-read-flags n s rest) (from-input-cells n s rest));
+      inputs = rw (at-input-cells n s rest) (inputs-pass f (s .inputs) (h .inputs) (read-flags n image) rest);
     }
       where
-        now-cell : (e m : ℕ) → T (now-fits (member-of f e m) (tag (s .now .cell e m)) (payload (s .now .cell e m)))
-        now-cell e m = now-passes (member-of f e m) (s .now .cell e m) (h .now .of-kind e m) (h .now .no-cell e m) (h .attributes e m)
+        now-cell : (e m : ℕ) → T (store-fits true (member-of f e m) (tag (s .now .cell e m)) (payload (s .now .cell e m)))
+        now-cell e m =
+            store-passes true (member-of f e m) (s .now .cell e m) (h .now .of-kind e m) (h .now .no-cell e m) (λ x q a p. h .attributes e m x q a)
 
-        previous-cell : (e m : ℕ) → T (previous-fits (member-of f e m) (tag (s .previous .cell e m)) (payload (s .previous .cell e m)))
-        previous-cell e m = previous-passes (member-of f e m) (s .previous .cell e m) (h .previous .of-kind e m) (h .previous .no-cell e m)
+        previous-cell : (e m : ℕ) → T (store-fits (s .previous .present e) (member-of f e m) (tag (s .previous .cell e m)) (payload (s .previous .cell e m)))
+        previous-cell e m =
+            store-passes (s .previous .present e) (member-of f e m) (s .previous .cell e m) (h .previous .of-kind e m) (h .previous .no-cell e m)
+            (h .attributes-before e m)
 
     image-read : decode n image ≡ s
     unfolding decode
@@ -157,57 +161,65 @@ module _ (f : File) where
   count = entity-count f
 
   -- the test of the cell of member m of entity e
-  cell-test : (fit : Option Member → ℕ → ℕ → Bool) (cs : List ℕ) → T (cells-fit fit f cs) → (e m : ℕ) → e < count → m < 12
-      → T (fit (member-of f e m) (getD cs ((e * 12 + m) * 9) 0) (word-at 8 cs ((e * 12 + m) * 9 + 1)))
+  cell-test : (fit : Bool → Option Member → ℕ → ℕ → Bool) (fs cs : List ℕ) → T (cells-fit fit f fs cs) → (e m : ℕ) → e < count → m < 12
+      → T (fit (eqb (getD fs e 0) 1) (member-of f e m) (getD cs ((e * 12 + m) * 9) 0) (word-at 8 cs ((e * 12 + m) * 9 + 1)))
   unfolding cells-fit
-  cell-test fit cs h e m a b =
-      let test : ℕ → Bool = λ i. fit (member-of f (i / 12) (i % 12)) (getD cs (i * 9) 0) (word-at 8 cs (i * 9 + 1)) in
+  cell-test fit fs cs h e m a b =
+      let test : ℕ → Bool =
+      λ i. fit (eqb (getD fs (i / 12) 0) 1) (member-of f (i / 12) (i % 12)) (getD cs (i * 9) 0) (word-at 8 cs (i * 9 + 1)) in
       let below = cell-below e m b count a in
       let t = each-at test 0 (12 * count) h (e * 12 + m) (omega arith) (omega arith) in
       rw (cell-entity e m b, cell-member e m b) at t
 
-  store-sound : (fit : Option Member → ℕ → ℕ → Bool) → Sound-test fit → (fs cs : List ℕ) → T (cells-fit fit f cs)
-      → Sound-store f (decode-store count fs cs)
-  unfolding decode-store
-  store-sound fit sound fs cs h = record {
-    of-kind = λ e m x p. cell-cases (λ v. T (storable (x .kind) v)) count e m (cell-at cs (e * 12 + m)) Unset
-        (λ a b. sound .of-kind x _ _ (rw p at (cell-test fit cs h e m a b)))
-        (λ a. unset-storable (x .kind))
-        (λ b. unset-storable (x .kind));
-    no-cell = λ e m p. cell-cases (λ v. v ≡ Unset) count e m (cell-at cs (e * 12 + m)) Unset
-        (λ a b. sound .no-cell _ _ (rw p at (cell-test fit cs h e m a b)))
-        (λ a. refl)
-        (λ b. refl);
-    no-entity = λ e p. rw (le-ltb e count (past-none (f .entities) e p));
-  }
+  -- a store whose attributes must be set where `must-be-set` says so, by the entity's flag
+  module _ (must-be-set : Bool → Bool) (fs cs : List ℕ) (h : T (cells-fit (λ present. store-fits (must-be-set present)) f fs cs)) where
+    store-sound : Sound-store f (decode-store count fs cs)
+    unfolding decode-store
+    store-sound = record {
+      of-kind = λ e m x p. cell-cases (λ v. T (storable (x .kind) v)) count e m (cell-at cs (e * 12 + m)) Unset
+          (λ a b. store-of-kind _ _ _ x (rw p at (cell-test (λ present. store-fits (must-be-set present)) fs cs h e m a b)))
+          (λ a. unset-storable (x .kind))
+          (λ b. unset-storable (x .kind));
+      no-cell = λ e m p. cell-cases (λ v. v ≡ Unset) count e m (cell-at cs (e * 12 + m)) Unset
+          (λ a b. store-no-cell _ _ _ (rw p at (cell-test (λ present. store-fits (must-be-set present)) fs cs h e m a b)))
+          (λ a. refl)
+          (λ b. refl);
+      no-entity = λ e p. rw (le-ltb e count (past-none (f .entities) e p));
+    }
 
-  attributes-set : Within-counts f → (fs cs : List ℕ) → T (cells-fit now-fits f cs)
-      → (e m : ℕ) (x : Member) → member-of f e m ≡ some x → T (is-attribute (x .sort)) → T (is-set (decode-store count fs cs .cell e m))
-  unfolding decode-store
-  attributes-set w fs cs h e m x p a = cell-cases (λ v. T (is-set v)) count e m (cell-at cs (e * 12 + m)) Unset
-      (λ b c. now-set x _ _ a (rw p at (cell-test now-fits cs h e m b c)))
-      (λ b. beyond (no-entity-no-cell f e m b))
-      (λ c. beyond (no-member-no-cell f e m w c))
-    where
-      beyond : member-of f e m ≡ none → T (is-set Unset)
-      beyond q = let z : _≡_ {A = ℕ} 0 1 = cc in absurd (omega arith)
+    attributes-set : Within-counts f → (e m : ℕ) (x : Member) → member-of f e m ≡ some x → T (is-attribute (x .sort))
+        → must-be-set (eqb (getD fs e 0) 1) ≡ true → T (is-set (decode-store count fs cs .cell e m))
+    unfolding decode-store
+    attributes-set w e m x p a s = cell-cases (λ v. T (is-set v)) count e m (cell-at cs (e * 12 + m)) Unset
+        (λ b c. store-set _ _ _ x a s (rw p at (cell-test (λ present. store-fits (must-be-set present)) fs cs h e m b c)))
+        (λ b. beyond (no-entity-no-cell f e m b))
+        (λ c. beyond (no-member-no-cell f e m w c))
+      where
+        beyond : member-of f e m ≡ none → T (is-set Unset)
+        beyond q = let z : _≡_ {A = ℕ} 0 1 = cc in absurd (omega arith)
 
-  inputs-sound : (fs cs : List ℕ) → T (cells-fit input-fits-in f cs) → Sound-inputs f (decode-inputs count fs cs)
+  inputs-sound : (fs cs : List ℕ) → T (cells-fit (λ present. input-fits-in) f fs cs) → Sound-inputs f (decode-inputs count fs cs)
   unfolding decode-inputs
   inputs-sound fs cs h = record {
     of-kind = λ e m v. cell-cases (λ o. o ≡ some v → Event-value (member-of f e m) v) count e m (input-at cs (e * 12 + m)) none
-        (λ a b p. input-sound (member-of f e m) _ _ v (cell-test input-fits-in cs h e m a b) p)
+        (λ a b p. input-sound (member-of f e m) _ _ v (cell-test (λ present. input-fits-in) fs cs h e m a b) p)
         (λ a p. let z : _≡_ {A = ℕ} 0 1 = cc in absurd (omega arith))
         (λ b p. let z : _≡_ {A = ℕ} 0 1 = cc in absurd (omega arith));
     no-entity = λ e p. rw (le-ltb e count (past-none (f .entities) e p));
   }
 
+  -- what a store has present is flagged
+  flagged : (e : ℕ) (fs : List ℕ) → (ltb e count && eqb (getD fs e 0) 1) ≡ true → eqb (getD fs e 0) 1 ≡ true
+  flagged e fs h = is-true (eqb (getD fs e 0) 1) (and-r (ltb e count) (eqb (getD fs e 0) 1) (rw h tt))
+
   decoded-sound : Within-counts f → (m : List ℕ) → Passes f m → Sound-state f (decode count m)
   unfolding decode
   decoded-sound w m p = record {
-    now = store-sound now-fits now-sound (now-flags count m) (now-cells count m) (p .now);
-    previous = store-sound previous-fits previous-sound (previous-flags count m) (previous-cells count m) (p .previous);
-    attributes = attributes-set w (now-flags count m) (now-cells count m) (p .now);
+    now = store-sound (λ present. true) (now-flags count m) (now-cells count m) (p .now);
+    previous = store-sound (λ present. present) (previous-flags count m) (previous-cells count m) (p .previous);
+    attributes = λ e n x q a. attributes-set (λ present. true) (now-flags count m) (now-cells count m) (p .now) w e n x q a refl;
+    attributes-before = λ e n x q a b.
+        attributes-set (λ present. present) (previous-flags count m) (previous-cells count m) (p .previous) w e n x q a (flagged e (previous-flags count m) b);
     inputs = inputs-sound (read-flags count m) (input-cells count m) (p .inputs);
     last = let g = ltb→lt (word-at 4 m 0) 4294967296 (p .last) in omega arith;
   }

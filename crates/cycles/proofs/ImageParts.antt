@@ -272,29 +272,38 @@ presence-pass p n r = flags-pass 3 (presence-piece p) (presence-sized p) (λ e. 
     low (some true) = omega arith
     low (some false) = omega arith
 
-cells-pass : (fit : Option Member → ℕ → ℕ → Bool) (f : File) (piece : ℕ → List ℕ) → ((i : ℕ) → length (piece i) ≡ 9)
-    → ((i : ℕ) → T (fit (member-of f (i / 12) (i % 12)) (getD (piece i) 0 0) (word-at 8 (piece i) 1))) → (r : List ℕ)
-    → T (cells-fit fit f (table piece 0 (12 * entity-count f) ++ r))
+cells-pass : (fit : Bool → Option Member → ℕ → ℕ → Bool) (f : File) (fs : List ℕ) (piece : ℕ → List ℕ) → ((i : ℕ) → length (piece i) ≡ 9)
+    → ((i : ℕ) → i / 12 < entity-count f → T (fit (eqb (getD fs (i / 12) 0) 1) (member-of f (i / 12) (i % 12)) (getD (piece i) 0 0) (word-at 8 (piece i) 1)))
+    → (r : List ℕ) → T (cells-fit fit f fs (table piece 0 (12 * entity-count f) ++ r))
 unfolding cells-fit
-cells-pass fit f piece sized h r =
+cells-pass fit f fs piece sized h r =
     let k = 12 * entity-count f in
     let cs = table piece 0 k ++ r in
-    each-holds (λ i. fit (member-of f (i / 12) (i % 12)) (getD cs (i * 9) 0) (word-at 8 cs (i * 9 + 1))) 0 k
-    (λ i a b. let c : i < k = omega arith in rw (table-tag piece sized k i r c, table-payload piece sized k i r c) (h i))
+    each-holds (λ i. fit (eqb (getD fs (i / 12) 0) 1) (member-of f (i / 12) (i % 12)) (getD cs (i * 9) 0) (word-at 8 cs (i * 9 + 1))) 0 k
+    (λ i a b. let c : i < k = omega arith in rw (table-tag piece sized k i r c, table-payload piece sized k i r c) (h i (omega arith)))
 
 module _ (f : File) where
-  pub store-pass : (fit : Option Member → ℕ → ℕ → Bool) (s : Store) → Sound-store f s
-      → ((e m : ℕ) → T (fit (member-of f e m) (tag (s .cell e m)) (payload (s .cell e m)))) → (r : List ℕ)
-      → T (cells-fit fit f (table (cell-piece (s .cell)) 0 (12 * entity-count f) ++ r))
-  store-pass fit s h g r = cells-pass fit f (cell-piece (s .cell)) (cell-sized (s .cell)) one r
+  -- the cells of a store, after its flags
+  pub store-pass : (fit : Bool → Option Member → ℕ → ℕ → Bool) (s : Store) → Sound-store f s
+      → ((e m : ℕ) → T (fit (s .present e) (member-of f e m) (tag (s .cell e m)) (payload (s .cell e m)))) → (q r : List ℕ)
+      → T (cells-fit fit f (table (flag-piece (s .present)) 0 (entity-count f) ++ q) (table (cell-piece (s .cell)) 0 (12 * entity-count f) ++ r))
+  store-pass fit s h g q r = cells-pass fit f fs (cell-piece (s .cell)) (cell-sized (s .cell)) one r
     where
-      one : (i : ℕ) → T (fit (member-of f (i / 12) (i % 12)) (tag (s .cell (i / 12) (i % 12))) (word-at 8 (cell-piece (s .cell) i) 1))
-      one i =
-          let k = some-kind f s h (i / 12) (i % 12) in
-          rw (payload-read (k .0) (s .cell (i / 12) (i % 12)) (k .1)) (g (i / 12) (i % 12))
+      fs : List ℕ
+      fs = table (flag-piece (s .present)) 0 (entity-count f) ++ q
 
-  pub inputs-pass : (i : Inputs) → Sound-inputs f i → (r : List ℕ)
-      → T (cells-fit input-fits-in f (table (input-piece (i .given)) 0 (12 * entity-count f) ++ r))
-  inputs-pass i h r =
-      cells-pass input-fits-in f (input-piece (i .given)) (input-sized (i .given))
-      (λ j. input-passes (member-of f (j / 12) (j % 12)) (i .given (j / 12) (j % 12)) (h .of-kind (j / 12) (j % 12))) r
+      one : (i : ℕ) → i / 12 < entity-count f
+          → T (fit (eqb (getD fs (i / 12) 0) 1) (member-of f (i / 12) (i % 12)) (tag (s .cell (i / 12) (i % 12))) (word-at 8 (cell-piece (s .cell) i) 1))
+      one i b =
+          let k = some-kind f s h (i / 12) (i % 12) in
+          rw (
+            payload-read (k .0) (s .cell (i / 12) (i % 12)) (k .1),
+            table-flag (flag-piece (s .present)) (flag-sized (s .present)) (entity-count f) (i / 12) q b,
+            read-flag (s .present (i / 12)),
+          ) (g (i / 12) (i % 12))
+
+  pub inputs-pass : (i : Inputs) → Sound-inputs f i → (fs r : List ℕ)
+      → T (cells-fit (λ present. input-fits-in) f fs (table (input-piece (i .given)) 0 (12 * entity-count f) ++ r))
+  inputs-pass i h fs r =
+      cells-pass (λ present. input-fits-in) f fs (input-piece (i .given)) (input-sized (i .given))
+      (λ j b. input-passes (member-of f (j / 12) (j % 12)) (i .given (j / 12) (j % 12)) (h .of-kind (j / 12) (j % 12))) r

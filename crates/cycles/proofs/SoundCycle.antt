@@ -74,6 +74,7 @@ module _ (f : File) (known : Known-file f) (s : State) (sound : Sound-state f s)
                 stored-attribute f (seen f (s .now) (l .inputs)) (all-writes f (seen f (s .now) (l .inputs)) (s .previous)) e m x q t,
                 seen-attribute f (s .now) (l .inputs) (sound .now) taken e m x q t,
               ) (sound .attributes e m x q t);
+          attributes-before = λ e m x q t p. rw (seen-attribute f (s .now) (l .inputs) (sound .now) taken e m x q t) (sound .attributes e m x q t);
           inputs = taken;
           last = bound;
         },

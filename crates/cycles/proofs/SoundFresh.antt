@@ -1,7 +1,7 @@
 -- The fresh state of a known file: the reference machine runs to it; with literals that are set it is sound.
 use Prim.Native.Nat.{ℕ}
 use mathlib.Core.Path.{_≡_, refl, sym, ap, _∙_, subst}
-use mathlib.Core.Bool.{Bool, true, false, cond}
+use mathlib.Core.Bool.{Bool, true, false, cond, false≢true}
 use mathlib.Core.List.{List·Memᴰ}
 use mathlib.Core.Option.{Option, none, some}
 use lib.Dec.{T, lit≤}
@@ -100,6 +100,7 @@ known-fresh-sound f known small = record {
   };
   previous = empty-sound f;
   attributes = fresh-attribute f known small;
+  attributes-before = λ e m x q t p. absurd (false≢true p);
   inputs = no-inputs-sound f;
   last = lit≤ tt;
 }

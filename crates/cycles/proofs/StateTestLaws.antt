@@ -5,6 +5,7 @@ use mathlib.Core.Path.{_≡_, refl, sym, ap, _∙_, subst}
 use mathlib.Core.List.{List}
 use mathlib.Core.Bool.{Bool, true, false, _&&_}
 use mathlib.Core.Option.{Option, none, some}
+use lib.Dec.{eqb}
 use lib.ListN.{length, getD, take, drop, length-drop}
 use lib.Seq.{take-all}
 use borrow.Author.Tests.{lt-ltb}
@@ -13,19 +14,19 @@ use Rattle.values.specs.declared.Kind.the-variants.{Wholes, Bools, Reals}
 use Rattle.values.specs.Bytes.{word-at}
 use Rattle.text.specs.Syntax.{Sort, attribute, event, action, Member, File}
 use Rattle.checking.specs.DirectoryReads.{Few}
-use Rattle.checking.specs.Scope.{member-of}
+use Rattle.checking.specs.Scope.{member-of, is-attribute}
 use Rattle.checking.specs.Directory.{sort-class, kind-class, Bench}
 use Rattle.cycles.specs.declared.image.Plane.{Plane}
 use Rattle.cycles.specs.declared.image.Plane.the-variants.{Now, Previous, Inputs}
 use Rattle.cycles.specs.StateImage.{
+  STATE,
   each,
   entity-count,
   is-unset-cell,
   is-set-cell,
   is-value-cell,
   is-blank-cell,
-  now-fits,
-  previous-fits,
+  store-fits,
   input-fits-in,
   cells-fit,
   flags-below,
@@ -74,48 +75,50 @@ module _ {class t w : ℕ} where
 
 -- ---- a cell by its member's tokens
 
-module _ {plane : Plane} {classes : List ℕ} {at t w : ℕ} {r : Bool} where
-  pub no-token-tested : NO-TOKEN ≤ at → r ≡ fit-of plane none t w → Cell-test plane classes at t w r
+module _ {fit : Option Member → ℕ → ℕ → Bool} {classes : List ℕ} {at t w : ℕ} {r : Bool} where
+  pub no-token-tested : NO-TOKEN ≤ at → r ≡ fit none t w → Cell-test fit classes at t w r
   no-token-tested h e = record { is = λ text offsets lengths o. go text offsets lengths }
     where
-      go : (text offsets lengths : List ℕ) {o : Option Member} → Token-of text classes offsets lengths at o → r ≡ fit-of plane o t w
+      go : (text offsets lengths : List ℕ) {o : Option Member} → Token-of text classes offsets lengths at o → r ≡ fit o t w
       go text offsets lengths (no-member q) = e
       go text offsets lengths (a-member m) = absurd (omega (arith, m .within))
 
   pub token-tested : at < NO-TOKEN → {sort kind : ℕ} → sort ≡ getD classes at 0 → kind ≡ getD classes (at + 3) 0
-      → ((x : Member) → sort ≡ sort-class (x .sort) → kind ≡ kind-class (x .kind) → r ≡ fit-of plane (some x) t w)
-      → Cell-test plane classes at t w r
+      → ((x : Member) → sort ≡ sort-class (x .sort) → kind ≡ kind-class (x .kind) → r ≡ fit (some x) t w)
+      → Cell-test fit classes at t w r
   token-tested h {sort} {kind} s k e = record { is = λ text offsets lengths o. go text offsets lengths }
     where
-      go : (text offsets lengths : List ℕ) {o : Option Member} → Token-of text classes offsets lengths at o → r ≡ fit-of plane o t w
+      go : (text offsets lengths : List ℕ) {o : Option Member} → Token-of text classes offsets lengths at o → r ≡ fit o t w
       go text offsets lengths (no-member q) = absurd (omega arith)
       go text offsets lengths (a-member {x} m) = e x (s ∙ m .sort) (k ∙ m .kind)
 
+attribute-class : (q : Sort) → sort-class q ≡ 4 → is-attribute q ≡ true
+unfolding sort-class is-attribute
+attribute-class attribute e = refl
+attribute-class event e = absurd (omega arith)
+attribute-class action e = absurd (omega arith)
+
+other-class : (q : Sort) → (sort-class q ≡ 4 → ⊥) → is-attribute q ≡ false
+unfolding sort-class is-attribute
+other-class attribute e = absurd (e refl)
+other-class event e = refl
+other-class action e = refl
+
 module _ {sort kind t w : ℕ} {r : Bool} where
-  pub now-attribute : sort ≡ 4 → Kind-test is-set-cell kind t w r → (x : Member) → sort ≡ sort-class (x .sort) → kind ≡ kind-class (x .kind)
-      → r ≡ now-fits (some x) t w
-  unfolding sort-class now-fits
-  now-attribute c h x s k = go (x .sort) refl
-    where
-      go : (q : Sort) → x .sort ≡ q → r ≡ now-fits (some x) t w
-      go attribute e = rw (e, now-fits) (h .is (x .kind) k)
-      go event e = let z : sort ≡ 5 = s ∙ ap sort-class e in absurd (omega arith)
-      go action e = let z : sort ≡ 6 = s ∙ ap sort-class e in absurd (omega arith)
+  pub store-any : {must-be-set : Bool} → must-be-set ≡ false → Kind-test is-value-cell kind t w r
+      → (x : Member) → sort ≡ sort-class (x .sort) → kind ≡ kind-class (x .kind) → r ≡ store-fits must-be-set (some x) t w
+  unfolding store-fits
+  store-any e h x s k = rw e (h .is (x .kind) k)
 
-  pub now-other : (sort ≡ 4 → ⊥) → Kind-test is-value-cell kind t w r → (x : Member) → sort ≡ sort-class (x .sort) → kind ≡ kind-class (x .kind)
-      → r ≡ now-fits (some x) t w
-  unfolding sort-class now-fits
-  now-other c h x s k = go (x .sort) refl
-    where
-      go : (q : Sort) → x .sort ≡ q → r ≡ now-fits (some x) t w
-      go attribute e = absurd (c (s ∙ ap sort-class e))
-      go event e = rw (e, now-fits) (h .is (x .kind) k)
-      go action e = rw (e, now-fits) (h .is (x .kind) k)
+  pub store-attribute : {must-be-set : Bool} → must-be-set ≡ true → sort ≡ 4 → Kind-test is-set-cell kind t w r
+      → (x : Member) → sort ≡ sort-class (x .sort) → kind ≡ kind-class (x .kind) → r ≡ store-fits must-be-set (some x) t w
+  unfolding store-fits
+  store-attribute e c h x s k = rw (e, attribute-class (x .sort) (sym s ∙ c)) (h .is (x .kind) k)
 
-  pub previous-any : Kind-test is-value-cell kind t w r → (x : Member) → sort ≡ sort-class (x .sort) → kind ≡ kind-class (x .kind)
-      → r ≡ previous-fits (some x) t w
-  unfolding previous-fits
-  previous-any h x s k = h .is (x .kind) k
+  pub store-other : {must-be-set : Bool} → must-be-set ≡ true → (sort ≡ 4 → ⊥) → Kind-test is-value-cell kind t w r
+      → (x : Member) → sort ≡ sort-class (x .sort) → kind ≡ kind-class (x .kind) → r ≡ store-fits must-be-set (some x) t w
+  unfolding store-fits
+  store-other e c h x s k = rw (e, other-class (x .sort) (λ q. c (s ∙ q))) (h .is (x .kind) k)
 
   pub input-event : is-blank-cell t w ≡ false → sort ≡ 5 → Kind-test is-value-cell kind t w r
       → (x : Member) → sort ≡ sort-class (x .sort) → kind ≡ kind-class (x .kind) → r ≡ input-fits-in (some x) t w
@@ -149,51 +152,52 @@ module _ (t w : ℕ) where
 -- ---- every cell of a plane
 
 -- the test of cell number i
-abbrev pub test-at : (Option Member → ℕ → ℕ → Bool) → File → List ℕ → ℕ → Bool
-test-at fit f cells i = fit (member-of f (i / 12) (i % 12)) (getD cells (i * 9) 0) (word-at 8 cells (i * 9 + 1))
+abbrev pub test-at : (Bool → Option Member → ℕ → ℕ → Bool) → File → List ℕ → List ℕ → ℕ → Bool
+test-at fit f flags cells i = fit (eqb (getD flags (i / 12) 0) 1) (member-of f (i / 12) (i % 12)) (getD cells (i * 9) 0) (word-at 8 cells (i * 9 + 1))
 
 -- the first i cells pass
-pub record Cells-passed (plane : Plane) (classes d cells : List ℕ) (i : ℕ) : Type 0 where
+pub record Cells-passed (plane : Plane) (classes d flags cells : List ℕ) (i : ℕ) : Type 0 where
   pub is : (text offsets lengths : List ℕ) (w : Bench text classes offsets lengths d) → Few (w .file)
-      → each (test-at (fit-of plane) (w .file) cells) i (12 * entity-count (w .file) - i) ≡ cells-fit (fit-of plane) (w .file) cells
+      → each (test-at (fit-of plane) (w .file) flags cells) i (12 * entity-count (w .file) - i) ≡ cells-fit (fit-of plane) (w .file) flags cells
 
-module _ {plane : Plane} {classes d cells : List ℕ} where
-  pub cells-begin : Cells-passed plane classes d cells 0
+module _ {plane : Plane} {classes d flags cells : List ℕ} where
+  pub cells-begin : Cells-passed plane classes d flags cells 0
   unfolding cells-fit
   cells-begin = record {
     is = λ text offsets lengths w c.
         let k : 12 * entity-count (w .file) - 0 ≡ 12 * entity-count (w .file) = omega arith in
-        ap (each (test-at (fit-of plane) (w .file) cells) 0) k;
+        ap (each (test-at (fit-of plane) (w .file) flags cells) 0) k;
   }
 
-  module _ {i : ℕ} (p : Cells-passed plane classes d cells i) {n : ℕ} (e : n ≡ getD d 1 0) where
-    pub cells-pass-end : 12 * n ≤ i → Cells-test plane classes d cells true
+  module _ {i : ℕ} (p : Cells-passed plane classes d flags cells i) {n : ℕ} (e : n ≡ getD d 1 0) where
+    pub cells-pass-end : 12 * n ≤ i → Cells-test plane classes d flags cells true
     cells-pass-end h = record {
       is = λ text offsets lengths w c.
           let q = w .directory .entities in
-          each-ends (test-at (fit-of plane) (w .file) cells) (12 * entity-count (w .file)) i (omega arith) ∙ p .is text offsets lengths w c;
+          each-ends (test-at (fit-of plane) (w .file) flags cells) (12 * entity-count (w .file)) i (omega arith) ∙ p .is text offsets lengths w c;
     }
 
     module _ (h : i < 12 * n) {token word : ℕ} (t : Cell-token d i token) (o : word ≡ word-at 8 cells (i * 9 + 1))
-        {r : Bool} (s : Cell-test plane classes token (getD cells (i * 9) 0) word r) where
-      tested : (text offsets lengths : List ℕ) (w : Bench text classes offsets lengths d) → Few (w .file) → test-at (fit-of plane) (w .file) cells i ≡ r
+        {r : Bool} (s : Cell-test (fit-of plane (eqb (getD flags (i / 12) 0) 1)) classes token (getD cells (i * 9) 0) word r) where
+      tested : (text offsets lengths : List ℕ) (w : Bench text classes offsets lengths d) → Few (w .file) → test-at (fit-of plane) (w .file) flags cells i ≡ r
       tested text offsets lengths w c =
+          let present = eqb (getD flags (i / 12) 0) 1 in
           sym (s .is text offsets lengths (member-of (w .file) (i / 12) (i % 12)) (t .is text classes offsets lengths w c)
-          ∙ ap (fit-of plane (member-of (w .file) (i / 12) (i % 12)) (getD cells (i * 9) 0)) o)
+          ∙ ap (fit-of plane present (member-of (w .file) (i / 12) (i % 12)) (getD cells (i * 9) 0)) o)
 
-      pub cells-fail : r ≡ false → Cells-test plane classes d cells false
+      pub cells-fail : r ≡ false → Cells-test plane classes d flags cells false
       cells-fail f = record {
         is = λ text offsets lengths w c.
             let q = w .directory .entities in
-            each-fails (test-at (fit-of plane) (w .file) cells) (12 * entity-count (w .file)) i (omega arith) (tested text offsets lengths w c ∙ f)
+            each-fails (test-at (fit-of plane) (w .file) flags cells) (12 * entity-count (w .file)) i (omega arith) (tested text offsets lengths w c ∙ f)
             ∙ p .is text offsets lengths w c;
       }
 
-      pub cells-go-on : r ≡ true → Cells-passed plane classes d cells (i + 1)
+      pub cells-go-on : r ≡ true → Cells-passed plane classes d flags cells (i + 1)
       cells-go-on f = record {
         is = λ text offsets lengths w c.
             let q = w .directory .entities in
-            each-goes-on (test-at (fit-of plane) (w .file) cells) (12 * entity-count (w .file)) i (omega arith) (tested text offsets lengths w c ∙ f)
+            each-goes-on (test-at (fit-of plane) (w .file) flags cells) (12 * entity-count (w .file)) i (omega arith) (tested text offsets lengths w c ∙ f)
             ∙ p .is text offsets lengths w c;
       }
 
@@ -206,21 +210,39 @@ behind k m = take (length m - k) (drop k m)
 pub behind-all : (k : ℕ) (m : List ℕ) → behind k m ≡ drop k m
 behind-all k m = take-all (length m - k) (drop k m) (rw (length-drop k m) (omega arith))
 
+-- memory of the stated size has room for the last parts, of as many entities as a bench has (said apart: in `is_state` itself there are too many
+-- facts for omega)
+module _ (m : List ℕ) (big : STATE ≤ length m) {n count : ℕ} (e : n ≡ count) (few : n ≤ 32) where
+  pub previous-room : (count ≤ length (behind (4 + n) m)) × (108 * count ≤ length (behind (4 + 111 * n) m))
+  previous-room =
+      let a = length-drop (4 + n) m in
+      let b = length-drop (4 + 111 * n) m in
+      rw (behind-all (4 + n) m, behind-all (4 + 111 * n) m) (omega arith, omega arith)
+
+  pub inputs-begin : 4 + 219 * n ≤ length m
+  inputs-begin = omega arith
+
+  pub inputs-room : (count ≤ length (behind (4 + 2 * n) m)) × (108 * count ≤ length (behind (4 + 219 * n) m))
+  inputs-room =
+      let a = length-drop (4 + 2 * n) m in
+      let b = length-drop (4 + 219 * n) m in
+      rw (behind-all (4 + 2 * n) m, behind-all (4 + 219 * n) m) (omega arith, omega arith)
+
 -- the tests after that of the last number, by the number of entities
 abbrev pub parts-fit : File → ℕ → List ℕ → Bool
 parts-fit f n m =
     flags-below 2 n (behind 4 m)
     && (flags-below 2 n (behind (4 + n) m)
     && (flags-below 3 n (behind (4 + 2 * n) m)
-    && (cells-fit now-fits f (behind (4 + 3 * n) m)
-    && (cells-fit previous-fits f (behind (4 + 111 * n) m)
-    && cells-fit input-fits-in f (behind (4 + 219 * n) m)))))
+    && (cells-fit (fit-of Now) f (behind 4 m) (behind (4 + 3 * n) m)
+    && (cells-fit (fit-of Previous) f (behind (4 + n) m) (behind (4 + 111 * n) m)
+    && cells-fit (fit-of Inputs) f (behind (4 + 2 * n) m) (behind (4 + 219 * n) m)))))
 
 pub number-below : (m : List ℕ) → ((i : ℕ) → getD m i 0 < 256) → word-at 4 m 0 < 4294967296
 number-below m low = omega (arith, low 0, low 1, low 2, low 3)
 
 parts-state : (f : File) (m : List ℕ) → ((i : ℕ) → getD m i 0 < 256) → parts-fit f (entity-count f) m ≡ is-state f m
-unfolding is-state
+unfolding is-state fit-of
 parts-state f m low =
     rw (
       behind-all 4 m,
@@ -257,19 +279,16 @@ module _ {classes d m : List ℕ} (low : (i : ℕ) → getD m i 0 < 256) {n : �
       read-flags-fail x = tested-so (λ text offsets lengths w c. rw (a, b, x))
 
       module _ (g : flags-below 3 n (behind (4 + 2 * n) m) ≡ true) where
-        pub now-cells-fail : {x : Bool} → Cells-test Now classes d (behind (4 + 3 * n) m) x → x ≡ false → State-test classes d m false
-        unfolding fit-of
+        pub now-cells-fail : {x : Bool} → Cells-test Now classes d (behind 4 m) (behind (4 + 3 * n) m) x → x ≡ false → State-test classes d m false
         now-cells-fail x q = tested-so (λ text offsets lengths w c. rw (a, b, g, ← x .is text offsets lengths w c, q))
 
-        module _ {u : Bool} (s : Cells-test Now classes d (behind (4 + 3 * n) m) u) (p : u ≡ true) where
-          pub previous-cells-fail : {x : Bool} → Cells-test Previous classes d (behind (4 + 111 * n) m) x → x ≡ false → State-test classes d m false
-          unfolding fit-of
+        module _ {u : Bool} (s : Cells-test Now classes d (behind 4 m) (behind (4 + 3 * n) m) u) (p : u ≡ true) where
+          pub previous-cells-fail : {x : Bool} → Cells-test Previous classes d (behind (4 + n) m) (behind (4 + 111 * n) m) x → x ≡ false → State-test classes d m false
           previous-cells-fail x q =
               tested-so (λ text offsets lengths w c. rw (a, b, g, ← s .is text offsets lengths w c, p, ← x .is text offsets lengths w c, q))
 
-          pub inputs-say : {x : Bool} → Cells-test Previous classes d (behind (4 + 111 * n) m) x → x ≡ true
-              → {r : Bool} → Cells-test Inputs classes d (behind (4 + 219 * n) m) r → State-test classes d m r
-          unfolding fit-of
+          pub inputs-say : {x : Bool} → Cells-test Previous classes d (behind (4 + n) m) (behind (4 + 111 * n) m) x → x ≡ true
+              → {r : Bool} → Cells-test Inputs classes d (behind (4 + 2 * n) m) (behind (4 + 219 * n) m) r → State-test classes d m r
           inputs-say t q x =
               tested-so
               (λ text offsets lengths w c.

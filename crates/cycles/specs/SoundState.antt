@@ -1,7 +1,7 @@
 -- A state of a bench: "all attributes set, every value of its cell's kind and every real finite", and nothing where the bench has no cell.
 use Prim.Native.Nat.{ℕ, _≤_}
 use mathlib.Core.Path.{_≡_}
-use mathlib.Core.Bool.{Bool, false}
+use mathlib.Core.Bool.{Bool, true, false}
 use mathlib.Core.Option.{Option, none, some}
 use lib.Dec.{T}
 use lib.ListN.{getElem?}
@@ -29,5 +29,8 @@ pub record Sound-state (f : File) (s : State) : Type 0 where
   pub now : Sound-store f (s .now)
   pub previous : Sound-store f (s .previous)
   pub attributes : (e m : ℕ) (x : Member) → member-of f e m ≡ some x → T (is-attribute (x .sort)) → T (is-set (s .now .cell e m))
+  -- and as the rules saw them one cycle before, where their entity was present
+  pub attributes-before : (e m : ℕ) (x : Member) → member-of f e m ≡ some x → T (is-attribute (x .sort)) → s .previous .present e ≡ true
+      → T (is-set (s .previous .cell e m))
   pub inputs : Sound-inputs f (s .inputs)
   pub last : s .last ≤ MOST-LINES

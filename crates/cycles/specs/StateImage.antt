@@ -13,7 +13,7 @@ use Rattle.values.specs.declared.Kind.the-variants.{Wholes, Bools, Reals}
 use Rattle.values.specs.Bytes.{word-at, low-first}
 use Rattle.values.specs.Cells.{cell-bytes, cell-at, unpacked, finite-bits}
 use Rattle.text.specs.Syntax.{Sort, attribute, event, action, Member, File}
-use Rattle.checking.specs.Scope.{member-of}
+use Rattle.checking.specs.Scope.{member-of, is-attribute}
 use Rattle.cycles.specs.Store.{Store, Inputs, State}
 
 -- the stated size: for 32 entities
@@ -124,20 +124,12 @@ unfoldable pub is-value-cell : Kind → ℕ → ℕ → Bool
 unfolding is-unset-cell is-set-cell
 is-value-cell k t w = is-unset-cell t w || is-set-cell k t w
 
--- "a state of it with all attributes set, every value of its cell's kind and every real finite"
-unfoldable pub now-fits : Option Member → ℕ → ℕ → Bool
-unfolding is-unset-cell is-set-cell is-value-cell
-now-fits none t w = is-unset-cell t w
-now-fits (some m) t w = elim (m .sort) [
-  | attribute ↦ is-set-cell (m .kind) t w
-  | event ↦ is-value-cell (m .kind) t w
-  | action ↦ is-value-cell (m .kind) t w
-]
-
-unfoldable pub previous-fits : Option Member → ℕ → ℕ → Bool
-unfolding is-unset-cell is-value-cell
-previous-fits none t w = is-unset-cell t w
-previous-fits (some m) t w = is-value-cell (m .kind) t w
+-- "a state of it with all attributes set, every value of its cell's kind and every real finite": a store's cell, where an attribute must be
+-- set or may be unset
+unfoldable pub store-fits : Bool → Option Member → ℕ → ℕ → Bool
+unfolding is-unset-cell is-set-cell is-value-cell is-attribute
+store-fits must-be-set none t w = is-unset-cell t w
+store-fits must-be-set (some m) t w = cond (must-be-set && is-attribute (m .sort)) (is-set-cell (m .kind) t w) (is-value-cell (m .kind) t w)
 
 unfoldable pub is-blank-cell : ℕ → ℕ → Bool
 is-blank-cell t w = eqb t 4 && eqb w 0
@@ -152,27 +144,29 @@ input-fits-in (some m) t w = elim (m .sort) [
   | action ↦ is-blank-cell t w
 ]
 
--- every cell of a plane of cells fits its member
-unfoldable pub cells-fit : (Option Member → ℕ → ℕ → Bool) → File → List ℕ → Bool
+-- every cell of a plane of cells fits its member, by whether the plane's flags have its entity present
+unfoldable pub cells-fit : (Bool → Option Member → ℕ → ℕ → Bool) → File → List ℕ → List ℕ → Bool
 unfolding each member-of
-cells-fit fit f cs = each (λ i. fit (member-of f (i / 12) (i % 12)) (getD cs (i * 9) 0) (word-at 8 cs (i * 9 + 1))) 0 (12 * entity-count f)
+cells-fit fit f fs cs =
+    each (λ i. fit (eqb (getD fs (i / 12) 0) 1) (member-of f (i / 12) (i % 12)) (getD cs (i * 9) 0) (word-at 8 cs (i * 9 + 1))) 0 (12 * entity-count f)
 
 unfoldable pub flags-below : ℕ → ℕ → List ℕ → Bool
 unfolding each
 flags-below bound n fs = each (λ e. ltb (getD fs e 0) bound) 0 n
 
 -- "33: memory is no state of that bench", of memory of the stated size at least
--- (the first test holds of every memory of bytes; it is for lists of other numbers)
+-- (the first test holds of every memory of bytes; it is for lists of other numbers). Attributes are set now, and as the rules saw them one cycle
+-- before where their entity was present
 unfoldable pub is-state : File → List ℕ → Bool
-unfolding flags-below cells-fit now-fits previous-fits input-fits-in
+unfolding flags-below cells-fit store-fits input-fits-in
 is-state f m =
     ltb (word-at 4 m 0) 4294967296
     && (flags-below 2 (entity-count f) (now-flags (entity-count f) m)
     && (flags-below 2 (entity-count f) (previous-flags (entity-count f) m)
     && (flags-below 3 (entity-count f) (read-flags (entity-count f) m)
-    && (cells-fit now-fits f (now-cells (entity-count f) m)
-    && (cells-fit previous-fits f (previous-cells (entity-count f) m)
-    && cells-fit input-fits-in f (input-cells (entity-count f) m))))))
+    && (cells-fit (λ present. store-fits true) f (now-flags (entity-count f) m) (now-cells (entity-count f) m)
+    && (cells-fit (λ present. store-fits present) f (previous-flags (entity-count f) m) (previous-cells (entity-count f) m)
+    && cells-fit (λ present. input-fits-in) f (read-flags (entity-count f) m) (input-cells (entity-count f) m))))))
 
 -- the state that memory stands for, or none
 unfoldable pub state-of : File → List ℕ → Option State

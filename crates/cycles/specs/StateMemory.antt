@@ -2,7 +2,7 @@
 use Prim.Native.Nat.{ℕ, _+_, _*_}
 use mathlib.Core.Path.{_≡_}
 use mathlib.Core.List.{List, _++_}
-use mathlib.Core.Bool.{Bool}
+use mathlib.Core.Bool.{Bool, true}
 use mathlib.Core.Option.{Option}
 use lib.ListN.{length, take}
 use Rattle.values.specs.declared.Kind.{Kind}
@@ -12,7 +12,7 @@ use Rattle.checking.specs.DirectoryReads.{Few}
 use Rattle.checking.specs.Directory.{kind-class, Bench}
 use Rattle.cycles.specs.declared.image.Plane.{Plane}
 use Rattle.cycles.specs.declared.image.Plane.the-variants.{Now, Previous, Inputs}
-use Rattle.cycles.specs.StateImage.{now-fits, previous-fits, input-fits-in, cells-fit, is-state}
+use Rattle.cycles.specs.StateImage.{store-fits, input-fits-in, cells-fit, is-state}
 use Rattle.cycles.specs.CellTokens.{Token-of}
 
 -- ---- tests
@@ -22,18 +22,18 @@ pub record Kind-test (test : Kind → ℕ → ℕ → Bool) (class t w : ℕ) (r
   pub is : (k : Kind) → class ≡ kind-class k → r ≡ test k t w
 
 -- the test of each plane of cells
-unfoldable pub fit-of : Plane → Option Member → ℕ → ℕ → Bool
-unfolding now-fits previous-fits input-fits-in
-fit-of Now = now-fits
-fit-of Previous = previous-fits
-fit-of Inputs = input-fits-in
+unfoldable pub fit-of : Plane → Bool → Option Member → ℕ → ℕ → Bool
+unfolding store-fits input-fits-in
+fit-of Now present = store-fits true
+fit-of Previous present = store-fits present
+fit-of Inputs present = input-fits-in
 
 -- of one cell, by the first token of its member
-pub record Cell-test (plane : Plane) (classes : List ℕ) (at t w : ℕ) (r : Bool) : Type 0 where
-  pub is : (text offsets lengths : List ℕ) (o : Option Member) → Token-of text classes offsets lengths at o → r ≡ fit-of plane o t w
+pub record Cell-test (fit : Option Member → ℕ → ℕ → Bool) (classes : List ℕ) (at t w : ℕ) (r : Bool) : Type 0 where
+  pub is : (text offsets lengths : List ℕ) (o : Option Member) → Token-of text classes offsets lengths at o → r ≡ fit o t w
 
-pub record Cells-test (plane : Plane) (classes d cells : List ℕ) (r : Bool) : Type 0 where
-  pub is : (text offsets lengths : List ℕ) (w : Bench text classes offsets lengths d) → Few (w .file) → r ≡ cells-fit (fit-of plane) (w .file) cells
+pub record Cells-test (plane : Plane) (classes d flags cells : List ℕ) (r : Bool) : Type 0 where
+  pub is : (text offsets lengths : List ℕ) (w : Bench text classes offsets lengths d) → Few (w .file) → r ≡ cells-fit (fit-of plane) (w .file) flags cells
 
 pub record State-test (classes d state : List ℕ) (r : Bool) : Type 0 where
   pub is : (text offsets lengths : List ℕ) (w : Bench text classes offsets lengths d) → Few (w .file) → r ≡ is-state (w .file) state

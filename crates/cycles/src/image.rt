@@ -4,9 +4,9 @@ ghost use mathlib.Core.List.{_++_};
 ghost use Prim.Native.Nat.{_+_, _*_, _≤_};
 ghost use lib.ListN.{length, getD, take, drop};
 ghost use Rattle.values.specs.Bytes.{word-at, low-first, overwritten};
-ghost use Rattle.cycles.specs.StateImage.{STATE, image-size, flags-below, is-unset-cell, is-blank-cell, is-set-cell, is-value-cell};
+ghost use Rattle.cycles.specs.StateImage.{STATE, image-size, flags-below, is-unset-cell, is-blank-cell, is-set-cell, is-value-cell, store-fits, input-fits-in};
 ghost use Rattle.cycles.specs.CellTokens.{Cell-token, Sort-test};
-ghost use Rattle.cycles.specs.StateMemory.{Kind-test, Cell-test, Cells-test, State-test, Put, gathered};
+ghost use Rattle.cycles.specs.StateMemory.{Kind-test, fit-of, Cell-test, Cells-test, State-test, Put, gathered};
 
 // No token's number.
 pub const NO_TOKEN: usize = 65536;
@@ -98,36 +98,50 @@ fn is_value_cell(kind: u8, t: u8, w: u64) -> bool
     is_set_cell(kind, t, w)
 }
 
-// What a plane's cell may hold, by the first token of its member.
-fn fits(plane: Plane, classes: &[u8], at: usize, t: u8, w: u64) -> bool
-    ensures { λ r. ⌜ Cell-test plane (now (classes .entry)) at t w r ⌝ }
+// What a store's cell may hold, by the first token of its member: an attribute's may be unset, or must be set.
+fn store_fits(must_be_set: bool, classes: &[u8], at: usize, t: u8, w: u64) -> bool
+    ensures { λ r. ⌜ Cell-test (store-fits «must_be_set») (now (classes .entry)) at t w r ⌝ }
 {
     if NO_TOKEN <= at {
-        match plane {
-            Plane::Now => return is_unset_cell(t, w),
-            Plane::Previous => return is_unset_cell(t, w),
-            Plane::Inputs => return is_blank_cell(t, w),
-        }
+        return is_unset_cell(t, w);
     }
     let sort = text::walks::class_at(classes, at);
     let kind = text::walks::class_at(classes, at + 3);
+    if !must_be_set {
+        return is_value_cell(kind, t, w);
+    }
+    if sort == text::classes::ATTRIBUTE {
+        return is_set_cell(kind, t, w);
+    }
+    is_value_cell(kind, t, w)
+}
+
+// The same of a reading's cell.
+fn input_fits(classes: &[u8], at: usize, t: u8, w: u64) -> bool
+    ensures { λ r. ⌜ Cell-test input-fits-in (now (classes .entry)) at t w r ⌝ }
+{
+    if NO_TOKEN <= at {
+        return is_blank_cell(t, w);
+    }
+    let sort = text::walks::class_at(classes, at);
+    let kind = text::walks::class_at(classes, at + 3);
+    if is_blank_cell(t, w) {
+        return true;
+    }
+    if sort == text::classes::EVENT {
+        return is_value_cell(kind, t, w);
+    }
+    false
+}
+
+// The same of a plane's cell, by whether the plane has its entity present.
+fn fits(plane: Plane, present: bool, classes: &[u8], at: usize, t: u8, w: u64) -> bool
+    ensures { λ r. ⌜ Cell-test (fit-of plane present) (now (classes .entry)) at t w r ⌝ }
+{
     match plane {
-        Plane::Now => {
-            if sort == text::classes::ATTRIBUTE {
-                return is_set_cell(kind, t, w);
-            }
-            is_value_cell(kind, t, w)
-        }
-        Plane::Previous => is_value_cell(kind, t, w),
-        Plane::Inputs => {
-            if is_blank_cell(t, w) {
-                return true;
-            }
-            if sort == text::classes::EVENT {
-                return is_value_cell(kind, t, w);
-            }
-            false
-        }
+        Plane::Now => store_fits(true, classes, at, t, w),
+        Plane::Previous => store_fits(present, classes, at, t, w),
+        Plane::Inputs => input_fits(classes, at, t, w),
     }
 }
 
@@ -147,17 +161,19 @@ fn flags_below(flags: &[u8], n: usize, bound: u8) -> bool
     true
 }
 
-fn cells_fit(plane: Plane, classes: &[u8], d: &[u16], cells: &[u8]) -> bool
+fn cells_fit(plane: Plane, classes: &[u8], d: &[u16], flags: &[u8], cells: &[u8]) -> bool
+    requires { ⌜ getD (now d) 1 0 ≤ length (now flags) ⌝ }
     requires { ⌜ 108 * getD (now d) 1 0 ≤ length (now cells) ⌝ }
-    ensures { λ r. ⌜ Cells-test plane (now (classes .entry)) (now (d .entry)) (now (cells .entry)) r ⌝ }
+    ensures { λ r. ⌜ Cells-test plane (now (classes .entry)) (now (d .entry)) (now (flags .entry)) (now (cells .entry)) r ⌝ }
 {
     let end = 12 * checking::row(d, 1);
     let mut i = 0;
     while i < end {
+        let present = flags[i / 12] == 1;
         let at = i * 9;
         let next = at + 1;
         let w = values::word_at(cells, next);
-        if !fits(plane, classes, cell_token(d, i), cells[at], w) {
+        if !fits(plane, present, classes, cell_token(d, i), cells[at], w) {
             return false;
         }
         i += 1;
@@ -188,13 +204,25 @@ pub fn is_state(classes: &[u8], d: &[u16], state: &[u8]) -> bool
     if !flags_below(&state[read_flags..], n, 3) {
         return false;
     }
-    if !cells_fit(Plane::Now, classes, d, &state[now_cells..]) {
+    if !cells_fit(Plane::Now, classes, d, &state[4..], &state[now_cells..]) {
         return false;
     }
-    if !cells_fit(Plane::Previous, classes, d, &state[previous_cells..]) {
+    if !cells_fit(
+        Plane::Previous,
+        classes,
+        d,
+        &state[previous_flags..],
+        &state[previous_cells..],
+    ) {
         return false;
     }
-    cells_fit(Plane::Inputs, classes, d, &state[input_cells..])
+    cells_fit(
+        Plane::Inputs,
+        classes,
+        d,
+        &state[read_flags..],
+        &state[input_cells..],
+    )
 }
 
 // ---- reading and writing

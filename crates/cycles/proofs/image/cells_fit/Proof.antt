@@ -7,10 +7,10 @@ use Rattle.cycles.proofs.image.cells_fit.Statement.{statement}
 use Rattle.cycles.proofs.image.cells_fit.Tie as tie
 
 abbrev Inv-loop : tie.InvT-loop
-Inv-loop plane classes d cells end i₀ i = Cells-passed plane classes d cells i
+Inv-loop plane classes d flags cells end i₀ i = Cells-passed plane classes d flags cells i
 
 abbrev μ-loop : tie.MeasureT-loop
-μ-loop plane classes d cells end i₀ i = end - i
+μ-loop plane classes d flags cells end i₀ i = end - i
 
 row-requires : tie.Need-row-requires Inv-loop μ-loop
 row-requires c κs = search needs
@@ -20,6 +20,9 @@ mul-end c = search needs
 
 loop-holds : tie.Need-loop-holds Inv-loop μ-loop
 loop-holds c = cells-begin
+
+shared-slice-read-present : tie.Need-shared-slice-read-present Inv-loop μ-loop
+shared-slice-read-present c = search needs
 
 mul-at : tie.Need-mul-at Inv-loop μ-loop
 mul-at c = search needs
@@ -41,9 +44,9 @@ fits-requires c κs = search needs
 
 returns : tie.Need-returns Inv-loop μ-loop
 returns c =
-    let loop = c .before .before .before .before .before .before .loop in
-    let row = c .before .before .before .before .before .before .before .row in
-    let loop-test = c .before .before .before .before .before .loop-test in
+    let loop = c .before .before .before .before .before .before .before .loop in
+    let row = c .before .before .before .before .before .before .before .before .row in
+    let loop-test = c .before .before .before .before .before .before .loop-test in
     let cell-token = c .before .before .before .cell-token in
     let word-at = c .before .before .before .before .word-at in
     let fits2 = c .before .fits2 in
@@ -59,9 +62,9 @@ loop-less c = search needs
 
 loop-again : tie.Need-loop-again Inv-loop μ-loop
 loop-again c =
-    let loop = c .before .before .before .before .before .before .loop in
-    let row = c .before .before .before .before .before .before .before .row in
-    let loop-test = c .before .before .before .before .before .loop-test in
+    let loop = c .before .before .before .before .before .before .before .loop in
+    let row = c .before .before .before .before .before .before .before .before .row in
+    let loop-test = c .before .before .before .before .before .before .loop-test in
     let cell-token = c .before .before .before .cell-token in
     let word-at = c .before .before .before .before .word-at in
     let fits2 = c .before .fits2 in
@@ -81,6 +84,7 @@ cells-fit-spec =
     row-requires
     mul-end
     loop-holds
+    shared-slice-read-present
     mul-at
     add-next
     word-at-requires

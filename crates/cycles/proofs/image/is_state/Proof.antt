@@ -3,6 +3,9 @@ use native.Mathlib.Omega.{arith}
 use mathlib.Core.Path.{sym, _∙_}
 use borrow.Author.Tests.{not-true, not-false}
 use Rattle.cycles.proofs.StateTestLaws.{
+  previous-room,
+  inputs-begin,
+  inputs-room,
   state-impossible,
   now-flags-fail,
   previous-flags-fail,
@@ -129,27 +132,6 @@ part-cells-fit-start c = search needs
 part-cells-fit-end : tie.Need-part-cells-fit-end
 part-cells-fit-end c = search needs
 
-cells-fit-requires : tie.Need-cells-fit-requires
-cells-fit-requires c κs = search needs
-
-returns-5 : tie.Need-returns-5
-returns-5 c =
-    let shared-slice-known3 = c .before .before .before .before .before .before .before .before .before .before .before .before .before .before .shared-slice-known3 in
-    let row = c .before .before .before .before .before .before .before .before .before .before .before .before .before .row in
-    let flags-below = c .before .before .before .before .before .before .before .before .before .before .flags-below in
-    let if2 = c .before .before .before .before .before .before .before .before .before .if2 in
-    let flags-below2 = c .before .before .before .before .before .before .before .flags-below2 in
-    let if3 = c .before .before .before .before .before .before .if3 in
-    let flags-below3 = c .before .before .before .before .flags-below3 in
-    let if4 = c .before .before .before .if4 in
-    let cells-fit = c .before .cells-fit in
-    let if5 = c .if5 in
-    now-cells-fail (λ i. omega (arith, shared-slice-known3 .given i)) (row .ensures .0)
-    (sym (flags-below .ensures) ∙ not-false _ (if2 .left))
-    (sym (flags-below2 .ensures) ∙ not-false _ (if3 .left))
-    (sym (flags-below3 .ensures) ∙ not-false _ (if4 .left))
-    (cells-fit .ensures) (not-true _ (if5 .taken))
-
 sub-cells-fit-2 : tie.Need-sub-cells-fit-2
 sub-cells-fit-2 c = search needs
 
@@ -159,29 +141,26 @@ part-cells-fit-start-2 c = search needs
 part-cells-fit-end-2 : tie.Need-part-cells-fit-end-2
 part-cells-fit-end-2 c = search needs
 
-cells-fit-requires-2 : tie.Need-cells-fit-requires-2
-cells-fit-requires-2 c κs = search needs
+cells-fit-requires : tie.Need-cells-fit-requires
+cells-fit-requires c κs = search needs
 
-returns-6 : tie.Need-returns-6
-returns-6 c =
-    let shared-slice-known3 = c .before .before .before .before .before .before .before .before .before .before .before .before .before .before .before .before .before .shared-slice-known3 in
-    let row = c .before .before .before .before .before .before .before .before .before .before .before .before .before .before .before .before .row in
-    let flags-below = c .before .before .before .before .before .before .before .before .before .before .before .before .before .flags-below in
-    let if2 = c .before .before .before .before .before .before .before .before .before .before .before .before .if2 in
-    let flags-below2 = c .before .before .before .before .before .before .before .before .before .before .flags-below2 in
-    let if3 = c .before .before .before .before .before .before .before .before .before .if3 in
-    let flags-below3 = c .before .before .before .before .before .before .before .flags-below3 in
-    let if4 = c .before .before .before .before .before .before .if4 in
-    let cells-fit = c .before .before .before .before .cells-fit in
-    let if5 = c .before .before .before .if5 in
-    let cells-fit2 = c .before .cells-fit2 in
-    let if6 = c .if6 in
-    previous-cells-fail (λ i. omega (arith, shared-slice-known3 .given i)) (row .ensures .0)
+returns-5 : tie.Need-returns-5
+returns-5 c =
+    let shared-slice-known3 = c .before .before .before .before .before .before .before .before .before .before .before .before .before .before .before .shared-slice-known3 in
+    let row = c .before .before .before .before .before .before .before .before .before .before .before .before .before .before .row in
+    let flags-below = c .before .before .before .before .before .before .before .before .before .before .before .flags-below in
+    let if2 = c .before .before .before .before .before .before .before .before .before .before .if2 in
+    let flags-below2 = c .before .before .before .before .before .before .before .before .flags-below2 in
+    let if3 = c .before .before .before .before .before .before .before .if3 in
+    let flags-below3 = c .before .before .before .before .before .flags-below3 in
+    let if4 = c .before .before .before .before .if4 in
+    let cells-fit = c .before .cells-fit in
+    let if5 = c .if5 in
+    now-cells-fail (λ i. omega (arith, shared-slice-known3 .given i)) (row .ensures .0)
     (sym (flags-below .ensures) ∙ not-false _ (if2 .left))
     (sym (flags-below2 .ensures) ∙ not-false _ (if3 .left))
     (sym (flags-below3 .ensures) ∙ not-false _ (if4 .left))
-    (cells-fit .ensures) (not-false _ (if5 .left))
-    (cells-fit2 .ensures) (not-true _ (if6 .taken))
+    (cells-fit .ensures) (not-true _ (if5 .taken))
 
 sub-cells-fit-3 : tie.Need-sub-cells-fit-3
 sub-cells-fit-3 c = search needs
@@ -192,11 +171,24 @@ part-cells-fit-start-3 c = search needs
 part-cells-fit-end-3 : tie.Need-part-cells-fit-end-3
 part-cells-fit-end-3 c = search needs
 
-cells-fit-requires-3 : tie.Need-cells-fit-requires-3
-cells-fit-requires-3 c κs = search needs
+sub-cells-fit-4 : tie.Need-sub-cells-fit-4
+sub-cells-fit-4 c = search needs
 
-returns-7 : tie.Need-returns-7
-returns-7 c =
+part-cells-fit-start-4 : tie.Need-part-cells-fit-start-4
+part-cells-fit-start-4 c = search needs
+
+part-cells-fit-end-4 : tie.Need-part-cells-fit-end-4
+part-cells-fit-end-4 c = search needs
+
+cells-fit-requires-2 : tie.Need-cells-fit-requires-2
+cells-fit-requires-2 c κs =
+    let if1 = c .before .before .before .before .before .before .before .before .before .before .before .before .before .before .before .if1 in
+    let row = c .before .before .before .before .before .before .before .before .before .before .before .before .before .before .before .before .row in
+    let start = c .before .before .before .before .before .before .before .before .before .before .before .before .before .before .before .before .before .before .before .before in
+    previous-room (start .args .state .now) (start .pre) (row .ensures .0) (if1 .left)
+
+returns-6 : tie.Need-returns-6
+returns-6 c =
     let shared-slice-known3 = c .before .before .before .before .before .before .before .before .before .before .before .before .before .before .before .before .before .before .before .shared-slice-known3 in
     let row = c .before .before .before .before .before .before .before .before .before .before .before .before .before .before .before .before .before .before .row in
     let flags-below = c .before .before .before .before .before .before .before .before .before .before .before .before .before .before .before .flags-below in
@@ -205,10 +197,64 @@ returns-7 c =
     let if3 = c .before .before .before .before .before .before .before .before .before .before .before .if3 in
     let flags-below3 = c .before .before .before .before .before .before .before .before .before .flags-below3 in
     let if4 = c .before .before .before .before .before .before .before .before .if4 in
-    let cells-fit = c .before .before .before .before .before .before .cells-fit in
-    let if5 = c .before .before .before .before .before .if5 in
-    let cells-fit2 = c .before .before .before .cells-fit2 in
-    let if6 = c .before .before .if6 in
+    let cells-fit = c .before .before .before .before .before .cells-fit in
+    let if5 = c .before .before .before .before .if5 in
+    let cells-fit2 = c .before .cells-fit2 in
+    let if6 = c .if6 in
+    previous-cells-fail (λ i. omega (arith, shared-slice-known3 .given i)) (row .ensures .0)
+    (sym (flags-below .ensures) ∙ not-false _ (if2 .left))
+    (sym (flags-below2 .ensures) ∙ not-false _ (if3 .left))
+    (sym (flags-below3 .ensures) ∙ not-false _ (if4 .left))
+    (cells-fit .ensures) (not-false _ (if5 .left))
+    (cells-fit2 .ensures) (not-true _ (if6 .taken))
+
+sub-cells-fit-5 : tie.Need-sub-cells-fit-5
+sub-cells-fit-5 c = search needs
+
+part-cells-fit-start-5 : tie.Need-part-cells-fit-start-5
+part-cells-fit-start-5 c = search needs
+
+part-cells-fit-end-5 : tie.Need-part-cells-fit-end-5
+part-cells-fit-end-5 c = search needs
+
+sub-cells-fit-6 : tie.Need-sub-cells-fit-6
+sub-cells-fit-6 c =
+    let if1 = c .before .before .before .before .before .before .before .before .before .before .before .before .before .before .before .before .before .before .if1 in
+    let row = c .before .before .before .before .before .before .before .before .before .before .before .before .before .before .before .before .before .before .before .row in
+    let start = c .before .before .before .before .before .before .before .before .before .before .before .before .before .before .before .before .before .before .before .before .before .before .before in
+    inputs-begin (start .args .state .now) (start .pre) (row .ensures .0) (if1 .left)
+
+part-cells-fit-start-6 : tie.Need-part-cells-fit-start-6
+part-cells-fit-start-6 c =
+    let if1 = c .before .before .before .before .before .before .before .before .before .before .before .before .before .before .before .before .before .before .if1 in
+    let row = c .before .before .before .before .before .before .before .before .before .before .before .before .before .before .before .before .before .before .before .row in
+    let start = c .before .before .before .before .before .before .before .before .before .before .before .before .before .before .before .before .before .before .before .before .before .before .before in
+    inputs-begin (start .args .state .now) (start .pre) (row .ensures .0) (if1 .left)
+
+part-cells-fit-end-6 : tie.Need-part-cells-fit-end-6
+part-cells-fit-end-6 c = search needs
+
+cells-fit-requires-3 : tie.Need-cells-fit-requires-3
+cells-fit-requires-3 c κs =
+    let if1 = c .before .before .before .before .before .before .before .before .before .before .before .before .before .before .before .before .before .before .before .if1 in
+    let row = c .before .before .before .before .before .before .before .before .before .before .before .before .before .before .before .before .before .before .before .before .row in
+    let start = c .before .before .before .before .before .before .before .before .before .before .before .before .before .before .before .before .before .before .before .before .before .before .before .before in
+    inputs-room (start .args .state .now) (start .pre) (row .ensures .0) (if1 .left)
+
+returns-7 : tie.Need-returns-7
+returns-7 c =
+    let shared-slice-known3 = c .before .before .before .before .before .before .before .before .before .before .before .before .before .before .before .before .before .before .before .before .before .before .shared-slice-known3 in
+    let row = c .before .before .before .before .before .before .before .before .before .before .before .before .before .before .before .before .before .before .before .before .before .row in
+    let flags-below = c .before .before .before .before .before .before .before .before .before .before .before .before .before .before .before .before .before .before .flags-below in
+    let if2 = c .before .before .before .before .before .before .before .before .before .before .before .before .before .before .before .before .before .if2 in
+    let flags-below2 = c .before .before .before .before .before .before .before .before .before .before .before .before .before .before .before .flags-below2 in
+    let if3 = c .before .before .before .before .before .before .before .before .before .before .before .before .before .before .if3 in
+    let flags-below3 = c .before .before .before .before .before .before .before .before .before .before .before .before .flags-below3 in
+    let if4 = c .before .before .before .before .before .before .before .before .before .before .before .if4 in
+    let cells-fit = c .before .before .before .before .before .before .before .before .cells-fit in
+    let if5 = c .before .before .before .before .before .before .before .if5 in
+    let cells-fit2 = c .before .before .before .before .cells-fit2 in
+    let if6 = c .before .before .before .if6 in
     let cells-fit3 = c .cells-fit3 in
     inputs-say (λ i. omega (arith, shared-slice-known3 .given i)) (row .ensures .0)
     (sym (flags-below .ensures) ∙ not-false _ (if2 .left))
@@ -250,15 +296,24 @@ is-state-spec =
     sub-cells-fit
     part-cells-fit-start
     part-cells-fit-end
-    cells-fit-requires
-    returns-5
     sub-cells-fit-2
     part-cells-fit-start-2
     part-cells-fit-end-2
-    cells-fit-requires-2
-    returns-6
+    cells-fit-requires
+    returns-5
     sub-cells-fit-3
     part-cells-fit-start-3
     part-cells-fit-end-3
+    sub-cells-fit-4
+    part-cells-fit-start-4
+    part-cells-fit-end-4
+    cells-fit-requires-2
+    returns-6
+    sub-cells-fit-5
+    part-cells-fit-start-5
+    part-cells-fit-end-5
+    sub-cells-fit-6
+    part-cells-fit-start-6
+    part-cells-fit-end-6
     cells-fit-requires-3
     returns-7)
