@@ -8,9 +8,9 @@ use lib.ListN.{length}
 use Rattle.text.specs.Syntax.{File}
 use Rattle.checking.specs.Verdict.{Verdict, verdict}
 use Rattle.checking.specs.Admitted.{Admitted}
-use Rattle.cycles.specs.Outcome.{running}
+use Rattle.cycles.specs.Outcome.{running, proceed}
 use Rattle.cycles.specs.Store.{State}
-use Rattle.cycles.specs.Cycle.{fresh}
+use Rattle.cycles.specs.Cycle.{ref-fresh}
 use Rattle.cycles.specs.Row.{row}
 use Rattle.cycles.specs.StateImage.{state-of}
 use Rattle.cycles.specs.ClosedSet.{Closed}
@@ -68,7 +68,7 @@ pub record Demand-three : Type 1 where
   pub stays : (text : List ℕ) (f : File) → verdict text ≡ Verdict.accepted f
       → (bench state : List ℕ) → Run-start text bench state
       → (qs : List Request) (rs : List After-line) → Run bench state qs rs
-      → ref-run f (fresh f) qs ≡ running (map (sight f) rs)
+      → proceed (ref-fresh f) (λ s. ref-run f s qs) ≡ running (map (sight f) rs)
   -- "and two runs whose accepted lines agree on a closed set of entities agree on that set's values and fired actions, whatever the rest reads"
   pub apart : (text : List ℕ) (f : File) → verdict text ≡ Verdict.accepted f
       → (S : ℕ → Type 0) → Closed f S

@@ -15,9 +15,9 @@ use Rattle.text.specs.Syntax.{File}
 use Rattle.checking.specs.Verdict.{Verdict, file-verdict, verdict}
 use Rattle.checking.proofs.VerdictLaws.{accepted-length, accepted-verdict, accepted-is-file}
 use Rattle.checking.proofs.AcceptedLaws.{within-counts}
-use Rattle.cycles.specs.Outcome.{running}
+use Rattle.cycles.specs.Outcome.{running, proceed}
 use Rattle.cycles.specs.Store.{Store, State, Line}
-use Rattle.cycles.specs.Cycle.{fresh, cycle, follow, ref-follow}
+use Rattle.cycles.specs.Cycle.{fresh, ref-fresh, cycle, follow, ref-follow}
 use Rattle.cycles.specs.Line.{Answer, refused, accepted, reading}
 use Rattle.cycles.specs.Row.{row}
 use Rattle.cycles.specs.StateImage.{STATE, state-of}
@@ -29,6 +29,7 @@ use Rattle.cycles.proofs.Apart.{follow-apart}
 use Rattle.cycles.proofs.AnswerLaws.{Has-number, line-read}
 use Rattle.cycles.proofs.ImageLaws.{state-written, state-written-length}
 use Rattle.cycles.proofs.RowReads.{fired-text, row-fields, row-field}
+use Rattle.cycles.proofs.AcceptedSound.{accepted-fresh}
 use Rattle.cycles.proofs.SoundCycle.{fresh-sound, line-sound, follow-sound}
 use Rattle.engine.specs.BenchImage.{BENCH, bench-of}
 use Rattle.engine.specs.Calls.{with-row, row-answer, After-line, line-accepted, line-answered, line-call}
@@ -281,8 +282,9 @@ module _ (text : List ℕ) (f : File) (v : verdict text ≡ Verdict.accepted f) 
     chain {qs} run = rw (run-replies run) (replies-chain f ok bench qs state (fresh f) started)
 
   pub run-stays : (bench state : List ℕ) → Run-start text bench state → (qs : List Request) (rs : List After-line) → Run bench state qs rs
-      → ref-run f (fresh f) qs ≡ running (map (sight f) rs)
-  run-stays bench state b qs rs run = rw (run-replies run) (replies-stay f ok bench qs state (fresh f) (started b))
+      → proceed (ref-fresh f) (λ s. ref-run f s qs) ≡ running (map (sight f) rs)
+  unfolding proceed
+  run-stays bench state b qs rs run = rw (accepted-fresh text f v, run-replies run) (replies-stay f ok bench qs state (fresh f) (started b))
 
   pub runs-apart : (S : ℕ → Type 0) → Closed f S → (bench state bench′ state′ : List ℕ) → Run-start text bench state → Run-start text bench′ state′
       → (qs qs′ : List Request) (rs rs′ : List After-line) → Run bench state qs rs → Run bench′ state′ qs′ rs′
