@@ -13,16 +13,10 @@ HERE = Path(__file__).resolve().parent
 CRATES = HERE.parent.parent / "crates"
 
 TEXTS = """-- Bench texts, accepted and refused by each code. Made by tests/oracle/to_antt.py from tests/oracle/cases.json.
-use Prim.Native.Nat.{ℕ, _+_, _*_}
-use Prim.Native.String.{String}
+use Prim.Native.Nat.{_+_, _*_}
 use mathlib.Core.Path.{_≡_, refl}
 use Rattle.text.specs.Bytes.{ascii}
 use Rattle.checking.specs.Verdict.{verdict, verdict-answer}
-
--- a refusal's code and, above it, its place
-unfoldable pub answer-to : String → ℕ
-unfolding ascii verdict verdict-answer
-answer-to text = verdict-answer (verdict (ascii text))
 """
 
 LINES = """-- Readings, and all that is printed for them. Made by tests/oracle/to_antt.py from tests/oracle/cases.json.
@@ -42,7 +36,7 @@ def quoted(text: str) -> str:
 
 def of_text(case: dict) -> str:
     code, place = case["check"]
-    return f"answer-to {quoted(case['bench'])} ≡ {code} + 256 * {place}"
+    return f"verdict-answer (verdict (ascii {quoted(case['bench'])})) ≡ {code} + 256 * {place}"
 
 
 def of_readings(case: dict) -> str:
@@ -66,7 +60,7 @@ def main() -> int:
     texts = [case for case in cases if case["readings"] is None]
     runs = [case for case in cases if case["readings"] is not None]
     files = {
-        "stored_texts/proofs/StoredTexts.antt": file_of(TEXTS, texts, of_text, "answer-to ascii"),
+        "stored_texts/proofs/StoredTexts.antt": file_of(TEXTS, texts, of_text, "verdict verdict-answer ascii"),
         "replay_cases/proofs/StoredLines.antt": file_of(LINES, runs, of_readings, "replay ascii\n    " + REALS),
     }
     for name, text in files.items():

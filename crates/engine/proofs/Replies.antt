@@ -6,15 +6,7 @@ use lib.ListN.{length}
 use Rattle.cycles.specs.StateImage.{STATE}
 use Rattle.engine.specs.BenchImage.{BENCH}
 use Rattle.engine.specs.Calls.{After-check, check-call, After-fresh, fresh-call, After-line, line-call}
-use Rattle.engine.specs.Runs.{Request, Run-start, Run, ends, goes-on}
-
--- what the calls give and leave
-unfoldable pub replies : List ℕ → List ℕ → List Request → List After-line
-unfolding line-call
-replies bench state [] = []
-replies bench state (q ∷ qs) =
-    let r = line-call bench state (q .names) (q .values) (q .row) in
-    r ∷ replies bench (r .state) qs
+use Rattle.engine.specs.Runs.{Request, Run-start, Run, ends, goes-on, replies}
 
 pub run-replies : {bench state : List ℕ} {qs : List Request} {rs : List After-line} → Run bench state qs rs → rs ≡ replies bench state qs
 unfolding replies

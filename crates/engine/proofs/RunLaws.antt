@@ -37,6 +37,7 @@ use Rattle.engine.specs.Runs.{
   Request,
   Run-start,
   Run,
+  replies,
   sight,
   machine-answer,
   ref-answered,
@@ -48,7 +49,7 @@ use Rattle.engine.specs.Runs.{
 }
 use Rattle.engine.specs.DemandTwo.{Resent}
 use Rattle.engine.specs.DemandThree.{Same-stores, Same-lines, Same-rows, Same-values, Side-by-side}
-use Rattle.engine.proofs.Replies.{replies, run-replies, start-bench, start-state, begins-bench, begins-state}
+use Rattle.engine.proofs.Replies.{run-replies, start-bench, start-state, begins-bench, begins-state}
 use Rattle.engine.proofs.BenchLaws.{bench-written, bench-length}
 use Rattle.engine.proofs.CallLaws.{
   Stands-for,

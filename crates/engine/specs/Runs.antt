@@ -13,7 +13,7 @@ use Rattle.cycles.specs.Line.{Answer, refused, accepted, Reading, reading, line
 use Rattle.cycles.specs.Row.{row}
 use Rattle.cycles.specs.StateImage.{STATE, state-of}
 use Rattle.engine.specs.BenchImage.{BENCH}
-use Rattle.engine.specs.Calls.{ROW, with-row, row-answer, After-line, Check-contract, Fresh-contract, Line-contract}
+use Rattle.engine.specs.Calls.{ROW, with-row, row-answer, After-line, line-call, Check-contract, Fresh-contract, Line-contract}
 
 -- what is lent to one call beside bench and state: "whatever else is lent may be any bytes"
 pub record Request : Type 0 where
@@ -39,6 +39,14 @@ pub data Run (bench : List ℕ) : List ℕ → List Request → List After-line 
   goes-on : {state : List ℕ} {q : Request} {qs : List Request} {r : After-line} {rs : List After-line}
       → Line-contract bench state (q .names) (q .values) (q .row) (r .state) (r .row) (r .answer) → Run bench (r .state) qs rs
       → Run bench state (q ∷ qs) (r ∷ rs)
+
+-- the one such list: what the calls give and leave, each from the memory that the one before it left
+unfoldable pub replies : List ℕ → List ℕ → List Request → List After-line
+unfolding line-call
+replies bench state [] = []
+replies bench state (q ∷ qs) =
+    let r = line-call bench state (q .names) (q .values) (q .row) in
+    r ∷ replies bench (r .state) qs
 
 -- what a call shows: its answer, the state that its memory stands for, the row's memory
 pub record Sight : Type 0 where

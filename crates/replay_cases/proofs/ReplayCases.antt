@@ -1,15 +1,9 @@
 -- What the runner prints for whole files, in one statement: document 01's pedal table, and files with lines refused, empty or missing.
-use Prim.Native.Nat.{ℕ}
 use mathlib.Core.Path.{_≡_, refl}
-use mathlib.Core.List.{List, []}
+use mathlib.Core.List.{[]}
 use Rattle.text.specs.Bytes.{ascii}
 use Rattle.replay.specs.Replay.{replay}
-use Rattle.trial_cases.proofs.Trials.{pedal}
-
--- the smallest bench: no entity, no action
-unfoldable pub smallest : List ℕ
-unfolding ascii
-smallest = ascii "rules end"
+use Rattle.trial_cases.specs.Trials.{pedal, smallest}
 
 pub record Replay-cases : Type 0 where
   -- "Readings left, rows right"

@@ -11,7 +11,7 @@ use Rattle.cycles.specs.Store.{Store}
 use Rattle.cycles.specs.Spots.{Spots}
 use Rattle.cycles.specs.Evaluate.{clause-holds}
 use Rattle.cycles.specs.Cycle.{fresh}
-use Rattle.trial_cases.proofs.Trials.{
+use Rattle.trial_cases.specs.Trials.{
   pedal,
   calling,
   filtered,

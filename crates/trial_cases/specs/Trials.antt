@@ -7,13 +7,17 @@ use Rattle.text.specs.Bytes.{ascii}
 use Rattle.cycles.specs.StateImage.{STATE}
 use Rattle.engine.specs.BenchImage.{BENCH}
 use Rattle.engine.specs.Calls.{ROW, check-call, fresh-call, header-call, row-call, After-check, After-fresh, After-line, After-row}
-use Rattle.engine.specs.Runs.{Request}
-use Rattle.engine.proofs.Replies.{replies}
+use Rattle.engine.specs.Runs.{Request, replies}
 
 -- "Pedal bench (P)"
 unfoldable pub pedal : List ℕ
 unfolding ascii
 pedal = ascii "interface P { event down : bool } interface S { event pos : whole } interface L { action keep ( whole ) } entity p : P { } entity s : S { } entity k : L { } rules when event down from p value = true trigger action keep ( s.pos ) on k end end"
+
+-- the smallest bench: no entity, no action
+unfoldable pub smallest : List ℕ
+unfolding ascii
+smallest = ascii "rules end"
 
 -- a bench whose calls fire in cycle 1, with actions of this kind
 unfoldable pub calling : String → String → List ℕ
