@@ -1,4 +1,5 @@
 pub mod ReaderLaws
+pub mod SkipLaws
 pub mod LanguageLaws
 pub mod TraceLaws
 pub mod PredictiveLaws

@@ -2,7 +2,7 @@
 use mathlib.Core.Path.{_≡_, refl, sym, ap, _∙_}
 use mathlib.Core.List.{List, [], _∷_}
 use mathlib.Core.Bool.{Bool, true, false}
-use Prim.Native.Nat.{ℕ, zero, suc, _+_, _-_, _<_, _≤_}
+use Prim.Native.Nat.{ℕ, suc, _+_, _-_, _<_, _≤_}
 use native.Mathlib.Nat.{add-zero}
 use native.Mathlib.Omega.{arith}
 use mathlib.Core.Option.{Option·getD}
@@ -16,19 +16,11 @@ use Rattle.text.specs.Bytes.{is-letter, is-digit, is-name-byte, is-blank
 use Rattle.text.specs.Tokens.{NAME, name-item, number-item, class-in, marks}
 use Rattle.text.specs.Tokens.{Item, gap, found, bad, item, tokens, no-token-at, add-token, taken, tokens-from}
 use Rattle.text.specs.TokenTable.{part, located, token-at, after, offset-after}
+use Rattle.text.proofs.SkipLaws.{tokens-skip}
 use Rattle.text.proofs.RunLaws.{byte-at, run-yes, run-again, run-part}
 use Rattle.text.proofs.ItemLaws.{item-blank, item-comment, item-name, item-number, item-mark, mark-found, mark-none, Reaches, item-reaches}
 
 -- ---- the tokens after the bytes of an item
-
-tokens-skip : (skip at : ℕ) (bs : List ℕ) → tokens-from skip at bs ≡ tokens-from 0 (at + skip) (drop skip bs)
-unfolding tokens-from
-tokens-skip zero at bs = rw add-zero
-tokens-skip (suc skip) at [] = refl
-tokens-skip (suc skip) at (b ∷ bs) = tokens-skip skip (at + 1) bs ∙ ap (λ (n : ℕ). tokens-from 0 n (drop skip bs)) (next at skip)
-  where
-    next : (at skip : ℕ) → at + 1 + skip ≡ at + suc skip
-    next at skip = omega arith
 
 tokens-on : (text : List ℕ) (at more : ℕ) → tokens-from more at (drop at text) ≡ tokens-from 0 (at + more) (drop (at + more) text)
 tokens-on text at more = tokens-skip more at (drop at text) ∙ ap (tokens-from 0 (at + more)) (drop-drop more at text)

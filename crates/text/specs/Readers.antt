@@ -75,12 +75,19 @@ module _ {A : Type 0} where
   turned false a step go ts = read a 0
   turned true a step go ts = stepped (step ts) go
 
-  -- as long as the next token's class passes the test, one step more; the first `skip` tokens still belong to the last step
+  -- as long as the next token's class passes the test, one step more; the first `skip` tokens still belong to the last step, a count by which
+  -- the recursion is seen to end (`loop-equation` in proofs/SkipLaws is the equation without it)
   unfoldable pub loop : (ℕ → Bool) → (A → Token → Reader A) → A → ℕ → Reader A
   unfolding turned shift
   loop test step a skip [] = read a skip
   loop test step a (suc skip) (t ∷ ts) = shift 1 (loop test step a skip ts)
   loop test step a zero (t ∷ ts) = turned (test (t .class)) a (step a t) (λ b n. loop test step b n ts) ts
+
+  -- without the count: if the next token's class passes the test, a step, and then the loop again
+  unfoldable pub loop-step : (ℕ → Bool) → (A → Token → Reader A) → A → Reader A
+  unfolding shift and-then loop
+  loop-step test step a [] = read a 0
+  loop-step test step a (t ∷ ts) = elim (test (t .class)) [ true ↦ shift 1 (and-then (step a t) (λ b. loop test step b 0) ts) | false ↦ read a 0 ]
 
   unfoldable pub joined : Reader A → (Token → A → A → A) → A → Token → Reader A
   unfolding and-then give

@@ -223,12 +223,19 @@ taken (gap more) at b bs others = others more
 taken (found c v more) at b bs others = add-token (record { class = c; at = at; bytes = b ∷ take more bs; value = v }) (others more)
 taken bad at b bs others = no-token-at at
 
--- "Words are taken one after another from the text": the first `skip` bytes still belong to the last item
+-- "Words are taken one after another from the text": the first `skip` bytes still belong to the last item, a count by which the recursion is
+-- seen to end (`tokens-equation` in proofs/SkipLaws is the equation without it)
 unfoldable pub tokens-from : ℕ → ℕ → List ℕ → Lexing
 unfolding item taken
 tokens-from skip at [] = tokens []
 tokens-from (suc skip) at (b ∷ bs) = tokens-from skip (at + 1) bs
 tokens-from zero at (b ∷ bs) = taken (item b bs) at b bs (λ more. tokens-from more (at + 1) bs)
+
+-- without the count: the item at the front, and then the tokens of what is left
+unfoldable pub tokens-step : ℕ → List ℕ → Lexing
+unfolding taken item tokens-from
+tokens-step at [] = tokens []
+tokens-step at (b ∷ bs) = taken (item b bs) at b bs (λ more. tokens-from 0 (at + 1 + more) (drop more bs))
 
 unfoldable pub tokens-of : List ℕ → Lexing
 unfolding tokens-from
