@@ -13,22 +13,21 @@ use Rattle.text.specs.declared.reading.Syntax.{Syntax}
 use Rattle.text.specs.declared.reading.Syntax.the-variants.{File, TooLong, NoTokenAt, UnfitAt, NoRoom as Short}
 use Rattle.text.specs.Tokens.{Token}
 use Rattle.text.specs.Readers.{read}
-use Rattle.text.specs.TokenTable.{Token-columns, columns-of, row-token, rows, lacks-rows, into-columns, no-room}
-use Rattle.text.specs.Syntaxes.{columns-syntax, syntax-of, File-text, Reads-text}
+use Rattle.text.specs.TokenTable.{Token-columns, columns-of, row-token, rows, lacks-rows}
+use Rattle.text.specs.Syntaxes.{File-text, Reads-text}
 use Rattle.text.proofs.ListLaws.{some-injective}
 use Rattle.text.proofs.SpotLaws.{stands-below, drop-stands}
 use Rattle.text.proofs.RowLaws.{length-rows, drop-rows}
-use Rattle.text.proofs.IntoColumnsLaws.{into-columns-short}
-use Rattle.text.proofs.SyntaxLaws.{Has-room, said, file-room}
+use Rattle.text.proofs.SyntaxLaws.{Has-room, said, room-refused, file-room}
 use Rattle.checking.specs.declared.faults.Found.{Found}
 use Rattle.checking.specs.declared.faults.Found.the-variants as variants
 use Rattle.checking.specs.declared.check.Checked.{Checked}
 use Rattle.checking.specs.declared.check.Checked.the-variants.{Accepted, Refused, NoRoom}
 use Rattle.checking.specs.FoundFaults.{found-as}
-use Rattle.checking.specs.Verdict.{refused, accepted, refused-by, MOST-BYTES, verdict}
+use Rattle.checking.specs.Verdict.{refused, accepted, refused-by, MOST-BYTES, verdict, verdict-answer}
 use Rattle.checking.specs.Directory.{DIRECTORY, Columns-of}
 use Rattle.checking.specs.FileWalk.{Columned, Judged}
-use Rattle.checking.specs.CheckedBench.{Values-of, Accepts, Says, has-room, Checks}
+use Rattle.checking.specs.CheckedBench.{Values-of, checked-answer, Accepts, Says, has-room, check-answer, Checks}
 use Rattle.checking.specs.CheckSteps.{concluded, Refuses, Settles}
 use Rattle.checking.proofs.ReadingVerdict.{long-verdict, bad-verdict, unfit-verdict, file-verdicts}
 
@@ -77,15 +76,13 @@ module _ (text : List ℕ) (t : Token-columns) (d : List ℕ) where
 
   -- any other answer of `read` says that there is room
   room-enough : {u : Token-columns} {s : Syntax} → DIRECTORY ≤ length d → Reads-text text t u s → (s ≡ Short → ⊥) → has-room text t d ≡ true
-  unfolding has-room syntax-of columns-syntax
+  unfolding has-room
   room-enough h l n = go (ltb MOST-BYTES (length text)) refl (lacks-rows (length text) t) refl
     where
       go : (a : Bool) → ltb MOST-BYTES (length text) ≡ a → (b : Bool) → lacks-rows (length text) t ≡ b → has-room text t d ≡ true
       go true e b f = rw (le-leb DIRECTORY (length d) h, e)
       go false e false f = rw (le-leb DIRECTORY (length d) h, e, f)
-      go false e true f =
-          let i : into-columns text t ≡ no-room = into-columns-short text t (ltb-false MOST-BYTES (length text) e) f in
-          absurd (n (l .exact ∙ rw i))
+      go false e true f = absurd (n (room-refused l (ltb-false MOST-BYTES (length text) e) f))
 
   -- any text that is not too long fits
   pub room-for-all : 32768 ≤ length (t .classes) → 32768 ≤ length (t .offsets) → 32768 ≤ length (t .lengths) → 32768 ≤ length (t .values)
@@ -126,8 +123,22 @@ unfit-short h = let z : _≡_ {A = ℕ} 0 1 = cc in omega arith
 file-short : {n : ℕ} → File n ≡ Short → ⊥
 file-short h = let z : _≡_ {A = ℕ} 0 1 = cc in omega arith
 
+-- document 01's number, without room and with it
+
+module _ (text : List ℕ) (t u : Token-columns) (d e : List ℕ) where
+  short-answer : has-room text t d ≡ false → checked-answer NoRoom ≡ check-answer text t d
+  unfolding checked-answer check-answer
+  short-answer h = rw h
+
+  said-answer : (r : Checked) → has-room text t d ≡ true → (r ≡ NoRoom → ⊥) → Says text u e r → checked-answer r ≡ check-answer text t d
+  unfolding checked-answer check-answer verdict-answer
+  said-answer (Accepted n) h z s = rw (h, s .stands .accepts)
+  said-answer (Refused code at) h z s = rw (h, s)
+  said-answer NoRoom h z s = absurd (z refl)
+
 pub checks-short : {text : List ℕ} {t : Token-columns} {d : List ℕ} → length d < DIRECTORY → Checks text t t d d NoRoom
 checks-short {text} {t} {d} h = record {
+  answer = short-answer text t t d d (directory-short text t d h);
   short = λ e. refl;
   enough = λ e f. true≢false (sym e ∙ directory-short text t d h);
   says = tt;
@@ -150,6 +161,7 @@ module _ {text cs os ls d e : List ℕ} {s : Syntax} where
       → Settles text cs os ls d e s r
   room-told a h = record {
     told = λ vs t l k size. record {
+      answer = said-answer text t (columns-of cs os ls vs) d e _ (room-enough text t d k l a) (h vs t l k .0) (h vs t l k .1);
       short = λ x. absurd (true≢false (sym (room-enough text t d k l a) ∙ x));
       enough = λ x. h vs t l k .0;
       says = h vs t l k .1;
@@ -164,6 +176,7 @@ module _ {text cs os ls d e : List ℕ} {s : Syntax} where
   pub settles-short : s ≡ Short → Settles text cs os ls d e s NoRoom
   settles-short x = record {
     told = λ vs t l k size. record {
+      answer = short-answer text t t d d (columns-short text t d k (said l x .0) (said l x .1));
       short = λ y. refl;
       enough = λ y z. true≢false (sym y ∙ columns-short text t d k (said l x .0) (said l x .1));
       says = tt;

@@ -1,18 +1,19 @@
 -- What the check of a text into columns and a directory answers: document 01's 11 to 18, or an accepted file that they stand for.
-use Prim.Native.Nat.{ℕ, _+_, _*_, _≤_}
+use Prim.Native.Nat.{ℕ, _≤_}
 use mathlib.Core.Path.{_≡_}
 use mathlib.Core.List.{List}
-use mathlib.Core.Bool.{Bool, true, false, not, _&&_, _||_}
+use mathlib.Core.Bool.{Bool, true, false, not, cond, _&&_, _||_}
 use mathlib.Core.Option.{some}
 use lib.Dec.{leb, ltb}
 use lib.ListN.{length, getD, getElem?, take}
 use Rattle.text.specs.Tokens.{Token, tokens, tokens-of}
 use Rattle.text.specs.TokenTable.{Token-columns, lacks-rows}
+use Rattle.text.specs.Answers.{refusal-answer}
 use Rattle.text.specs.Readers.{read}
 use Rattle.text.specs.Grammar.{file-reader}
 use Rattle.checking.specs.declared.check.Checked.{Checked}
 use Rattle.checking.specs.declared.check.Checked.the-variants.{Accepted, Refused, NoRoom}
-use Rattle.checking.specs.Verdict.{accepted, refused, MOST-BYTES, verdict}
+use Rattle.checking.specs.Verdict.{accepted, refused, MOST-BYTES, verdict, verdict-answer}
 use Rattle.checking.specs.Directory.{DIRECTORY, Bench}
 use Rattle.checking.specs.DirectoryReads.{Few}
 
@@ -22,10 +23,10 @@ Values-of values ts = (i : ℕ) (t : Token) → getElem? ts i ≡ some t → t .
 
 -- ---- an answer as document 01's numbers
 
--- the number in the low 8 bits, a refusal's offset above them; "Acceptance returns 0"
+-- "Acceptance returns 0"; a refusal's code and offset; "31: lent memory shorter than the stated size"
 unfoldable pub checked-answer : Checked → ℕ
 checked-answer (Accepted n) = 0
-checked-answer (Refused code at) = code + 256 * at
+checked-answer (Refused code at) = refusal-answer code at
 checked-answer NoRoom = 31
 
 -- ---- what an answer says to a caller
@@ -56,8 +57,14 @@ unfoldable pub has-room : List ℕ → Token-columns → List ℕ → Bool
 unfolding lacks-rows
 has-room text t d = leb DIRECTORY (length d) && (ltb MOST-BYTES (length text) || not (lacks-rows (length text) t))
 
+-- document 01's answer: 31 without that room, else the verdict's
+unfoldable pub check-answer : List ℕ → Token-columns → List ℕ → ℕ
+unfolding has-room verdict-answer verdict
+check-answer text t d = cond (has-room text t d) (verdict-answer (verdict text)) 31
+
 -- the answer r, the columns, which were t and are u, and the directory, which was d and is e
 pub record Checks (text : List ℕ) (t u : Token-columns) (d e : List ℕ) (r : Checked) : Type 0 where
+  pub answer : checked-answer r ≡ check-answer text t d
   pub short : has-room text t d ≡ false → r ≡ NoRoom
   pub enough : has-room text t d ≡ true → r ≡ NoRoom → ⊥
   pub says : Says text u e r

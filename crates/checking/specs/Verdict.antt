@@ -1,5 +1,5 @@
 -- The verdict on a bench text: 11 to 18 in the order of document 01's table, or acceptance.
-use Prim.Native.Nat.{ℕ, _+_, _*_}
+use Prim.Native.Nat.{ℕ}
 use mathlib.Core.List.{List, [], _∷_}
 use mathlib.Core.Bool.{Bool, true, false}
 use mathlib.Core.Option.{Option, none, some}
@@ -8,6 +8,7 @@ use lib.ListN.{length, getElem?}
 use Rattle.text.specs.Tokens.{Token, Lexing, tokens, no-token-at, tokens-of}
 use Rattle.text.specs.Syntax.{Entity, File}
 use Rattle.text.specs.Parse.{Parsing, grammatical, ungrammatical-at, parse}
+use Rattle.text.specs.Answers.{refusal-answer}
 use Rattle.checking.specs.Faults.{Fault, earliest}
 use Rattle.checking.specs.CountFaults.{count-faults}
 use Rattle.checking.specs.NameFaults.{name-faults}
@@ -54,10 +55,10 @@ verdict text = elim (leb (length text) MOST-BYTES) [
   | false ↦ refused 11 MOST-BYTES
 ]
 
--- a refusal's code and offset in one number: the code in the low 8 bits, the offset above; "Acceptance returns 0"
+-- a refusal's code and offset; "Acceptance returns 0"
 unfoldable pub verdict-answer : Verdict → ℕ
 verdict-answer (accepted f) = 0
-verdict-answer (refused code at) = code + 256 * at
+verdict-answer (refused code at) = refusal-answer code at
 
 unfoldable pub file-of : Verdict → Option File
 file-of (accepted f) = some f

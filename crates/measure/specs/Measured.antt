@@ -5,7 +5,8 @@ use mathlib.Core.List.{List}
 use Rattle.text.specs.declared.reading.Syntax.{Syntax}
 use Rattle.text.specs.declared.reading.Syntax.the-variants.{File, TooLong, NoTokenAt, UnfitAt, NoRoom}
 use Rattle.text.specs.TokenTable.{Token-columns}
-use Rattle.text.specs.Syntaxes.{syntax-code, syntax-offset, syntax-of, Reads-text}
+use Rattle.text.specs.Answers.{syntax-answer}
+use Rattle.text.specs.Syntaxes.{Reads-text}
 
 -- how many tokens a file has
 unfoldable pub syntax-count : Syntax → ℕ
@@ -15,12 +16,13 @@ syntax-count (NoTokenAt p) = 0
 syntax-count (UnfitAt p) = 0
 syntax-count NoRoom = 0
 
--- the code in the low 8 bits, above them the offset, or the count of a file's tokens
+-- document 01's answer, above its low 8 bits the count of a file's tokens
 unfoldable pub syntax-number : Syntax → ℕ
-unfolding syntax-code syntax-offset syntax-count
-syntax-number s = syntax-code s + 256 * (syntax-offset s + syntax-count s)
+unfolding syntax-answer syntax-count
+syntax-number s = syntax-answer s + 256 * syntax-count s
 
--- the right answer in one number, and what the columns, which were t and are u, hold then: of a file the rows of all its tokens
+-- the one right answer in one number, and what the columns, which were t and are u, hold then: of a file the rows of all its tokens
 pub record Measures (text : List ℕ) (t u : Token-columns) (r : ℕ) : Type 0 where
-  pub number : r ≡ syntax-number (syntax-of text t)
-  pub reads : Reads-text text t u (syntax-of text t)
+  pub syntax : Syntax
+  pub reads : Reads-text text t u syntax
+  pub number : r ≡ syntax-number syntax

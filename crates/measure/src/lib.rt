@@ -3,10 +3,9 @@
 // The columns are lent, so that no clearing of memory is measured; rows may be written also where a text is refused. A number is not what a call
 // of the engine answers: 11 comes before 31, and a file has the count of its tokens above its 0.
 ghost use mathlib.Core.Path.{_≡_};
-ghost use Prim.Native.Nat.{_+_, _*_, _≤_};
+ghost use Prim.Native.Nat.{_+_, _*_, _≤_, _<_};
 ghost use Rattle.text.specs.TokenTable.{columns-of};
-ghost use Rattle.text.specs.Syntaxes.{syntax-offset};
-ghost use Rattle.measure.specs.Measured.{syntax-count, syntax-number, Measures};
+ghost use Rattle.measure.specs.Measured.{syntax-number, Measures};
 use text::Syntax;
 use text::read;
 
@@ -19,7 +18,7 @@ fn packed(code: u64, above: usize) -> u64
 }
 
 fn number(syntax: Syntax) -> u64
-    requires { ⌜ syntax-offset syntax + syntax-count syntax ≤ 32768 ⌝ }
+    requires { ⌜ syntax-number syntax < 256 * 32769 ⌝ }
     ensures { λ r. ⌜ r ≡ syntax-number syntax ⌝ }
 {
     match syntax {

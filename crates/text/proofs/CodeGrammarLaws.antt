@@ -28,6 +28,7 @@ use Rattle.text.specs.Grammar.{
   file-reader,
 }
 use Rattle.text.specs.Parse.{ungrammatical-at, offset-of, ended, parsed, parse}
+use Rattle.text.specs.Answers.{parsing-answer}
 use Rattle.text.specs.ParseAnswers.{
   classes-of,
   parse-answer,
@@ -41,6 +42,7 @@ use Rattle.text.specs.ParseAnswers.{
   Makes-file,
   Unfit-at,
   Agrees,
+  outcome-answer,
   Parses-as,
 }
 use Rattle.text.proofs.ReaderLaws.{count}
@@ -153,11 +155,21 @@ module _ {cs : List ℕ} {p q : Parsed} where
 same-length : (cs : List ℕ) (ts : List Token) → classes-of ts ≡ cs → length ts ≡ length cs
 same-length cs ts e = sym (length-map ts _) ∙ ap length e
 
+-- an answer that says enough of the tokens has document 01's number
+module _ {cs : List ℕ} where
+  answers-unfit : {at : ℕ} → ((ts : List Token) → classes-of ts ≡ cs → Unfit-at ts at) → Parses-as cs (UngrammaticalAt at)
+  unfolding Agrees parsing-answer outcome-answer
+  answers-unfit h = record { answered = λ ts e end. rw (h ts e .parses end); told = h }
+
+  answers-file : ((ts : List Token) → classes-of ts ≡ cs → Makes-file ts) → Parses-as cs Grammatical
+  unfolding Agrees parsing-answer outcome-answer
+  answers-file h = record { answered = λ ts e end. rw (h ts e .parses end); told = h }
+
 -- what a file's answer says of the tokens
 module _ {cs : List ℕ} {p : Parsed} {at : ℕ} (h : Reads-as cs file-reader (Next 0) p) where
   pub file-refused : p ≡ Refused at → Parses-as cs (UngrammaticalAt at)
   unfolding Agrees answer-from parse-answer parse parsed count
-  file-refused i = record { told = λ ts e. on ts (file-reader ts) refl (sym i ∙ h .told ts e) }
+  file-refused i = answers-unfit λ ts e. on ts (file-reader ts) refl (sym i ∙ h .told ts e)
     where
       on : (ts : List Token) (x : Parse File) → file-reader ts ≡ x → Refused at ≡ parse-answer 0 x → Unfit-at ts at
       on ts (read f n) e i = let z : _≡_ {A = ℕ} 0 1 = cc in absurd (omega arith)
@@ -170,7 +182,7 @@ module _ {cs : List ℕ} {p : Parsed} {at : ℕ} (h : Reads-as cs file-reader (N
 
   pub file-left : p ≡ Next at → at < length cs → Parses-as cs (UngrammaticalAt at)
   unfolding Agrees answer-from parse-answer parse parsed ended offset-of
-  file-left i l = record { told = λ ts e. on ts (file-reader ts) refl (sym i ∙ h .told ts e) (same-length cs ts e) }
+  file-left i l = answers-unfit λ ts e. on ts (file-reader ts) refl (sym i ∙ h .told ts e) (same-length cs ts e)
     where
       left : (end : ℕ) (f : File) (us : List Token) → 0 < length us → ended end f us ≡ ungrammatical-at (offset-of end us)
       left end f [] l = absurd (omega arith)
@@ -184,7 +196,7 @@ module _ {cs : List ℕ} {p : Parsed} {at : ℕ} (h : Reads-as cs file-reader (N
 
   pub file-whole : p ≡ Next at → length cs ≤ at → Parses-as cs Grammatical
   unfolding Agrees answer-from parse-answer parse parsed ended count
-  file-whole i l = record { told = λ ts e. on ts (file-reader ts) refl (sym i ∙ h .told ts e) (same-length cs ts e) }
+  file-whole i l = answers-file λ ts e. on ts (file-reader ts) refl (sym i ∙ h .told ts e) (same-length cs ts e)
     where
       on : (ts : List Token) (x : Parse File) → file-reader ts ≡ x → Next at ≡ parse-answer 0 x → length ts ≡ length cs → Makes-file ts
       on ts (refused n) e i j = let z : _≡_ {A = ℕ} 0 1 = cc in absurd (omega arith)

@@ -1,14 +1,16 @@
 -- Laws of what lexing gives: columns that are too short, what each answer of `lex` tells its caller, and the answers before the loop.
-use mathlib.Core.Path.{_≡_, refl, sym}
+use mathlib.Core.Path.{_≡_, refl, sym, ap, _∙_}
 use mathlib.Core.List.{List}
 use mathlib.Core.Bool.{Bool, true, false}
 use Prim.Native.Nat.{ℕ, _<_, _≤_}
 use lib.Dec.{ltb}
 use lib.ListN.{length}
 use borrow.Author.Tests.{lt-ltb, le-ltb, ltb-true, ltb-false}
+use Rattle.text.specs.declared.Lexed.{Lexed}
 use Rattle.text.specs.declared.Lexed.the-variants.{Count, TooLong, BadAt, NoRoom}
 use Rattle.text.specs.Tokens.{tokens, no-token-at, tokens-of}
-use Rattle.text.specs.TokenTable.{Token-columns, rows, lacks-rows, Into-columns, too-long, no-room, lexing, into-columns, told, Lexes}
+use Rattle.text.specs.Answers.{lexed-answer}
+use Rattle.text.specs.TokenTable.{Token-columns, rows, lacks-rows, Into-columns, too-long, no-room, lexing, into-columns, columns-answer, told, Lexes}
 
 -- ---- short columns
 
@@ -96,11 +98,25 @@ module _ (text : List ℕ) (t u : Token-columns) where
   unfolding told
   no-room-says l = rw (← l .says) at (into-columns-says text t)
 
+-- ---- an answer as document 01's number
+
+pub lexed-as : (x : Lexed) (text : List ℕ) (t u : Token-columns) → told x u text ≡ into-columns text t
+    → lexed-answer x ≡ columns-answer (λ ts. 0) (into-columns text t)
+unfolding lexed-answer columns-answer told
+lexed-as x text t u e = of-answer x ∙ ap (columns-answer (λ ts. 0)) e
+  where
+    of-answer : (y : Lexed) → lexed-answer y ≡ columns-answer (λ ts. 0) (told y u text)
+    of-answer (Count n) = refl
+    of-answer TooLong = refl
+    of-answer (BadAt p) = refl
+    of-answer NoRoom = refl
+
 -- ---- the answers before the loop
 
 pub too-long-lexes : (text : List ℕ) (t : Token-columns) → 32768 < length text → Lexes text t t TooLong
 unfolding told
 too-long-lexes text t h = record {
+  answer = lexed-as TooLong text t t (sym (into-columns-long text t h));
   says = sym (into-columns-long text t h);
   inside = tt;
   classes-kept = refl;
@@ -112,6 +128,7 @@ too-long-lexes text t h = record {
 pub no-room-lexes : (text : List ℕ) (t : Token-columns) → length text ≤ 32768 → lacks-rows (length text) t ≡ true → Lexes text t t NoRoom
 unfolding told
 no-room-lexes text t h e = record {
+  answer = lexed-as NoRoom text t t (sym (into-columns-short text t h e));
   says = sym (into-columns-short text t h e);
   inside = tt;
   classes-kept = refl;

@@ -12,7 +12,7 @@ use Rattle.text.specs.declared.Item.the-variants.{Gap, Found, Bad, End}
 use Rattle.text.specs.declared.Lexed.the-variants.{Count, BadAt}
 use Rattle.text.specs.Tokens.{Token, Lexing, tokens, no-token-at, add-token, tokens-from, tokens-of}
 use Rattle.text.specs.TokenTable.{token-at, Token-columns, columns-of, rows, lexing, into-columns, told, Lexes}
-use Rattle.text.proofs.IntoColumnsLaws.{has-rows, into-columns-lexing}
+use Rattle.text.proofs.IntoColumnsLaws.{has-rows, into-columns-lexing, lexed-as}
 use Rattle.text.proofs.StepLaws.{answer-says}
 use Rattle.text.proofs.RowLaws.{rows-put}
 
@@ -89,8 +89,10 @@ module _ {text : List ℕ} {t : Token-columns} {cs os ls vs : List ℕ} {at n : 
   unfolding told onto
   going-end e =
       let r = rw e at (answer-says text at) in
+      let s = lexes (tokens (rows n (columns-of cs os ls vs) text)) (rw (r .1) (ap tokens (append-nil (rows n (columns-of cs os ls vs) text)))) in
       record {
-        says = lexes (tokens (rows n (columns-of cs os ls vs) text)) (rw (r .1) (ap tokens (append-nil (rows n (columns-of cs os ls vs) text))));
+        answer = lexed-as (Count n) text t (columns-of cs os ls vs) s;
+        says = s;
         inside = (omega (arith, g), g .parts);
         classes-kept = g .kept-classes;
         offsets-kept = g .kept-offsets;
@@ -102,8 +104,10 @@ module _ {text : List ℕ} {t : Token-columns} {cs os ls vs : List ℕ} {at n : 
   unfolding told onto
   going-bad e =
       let r = rw e at (answer-says text at) in
+      let s = lexes (no-token-at at) (rw (r .1)) in
       record {
-        says = lexes (no-token-at at) (rw (r .1));
+        answer = lexed-as (BadAt at) text t (columns-of cs os ls vs) s;
+        says = s;
         inside = tt;
         classes-kept = g .kept-classes;
         offsets-kept = g .kept-offsets;

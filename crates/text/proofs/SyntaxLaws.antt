@@ -14,19 +14,12 @@ use Rattle.text.specs.declared.grammar.Parsing.the-variants.{Grammatical
 use Rattle.text.specs.declared.reading.Syntax.{Syntax}
 use Rattle.text.specs.declared.reading.Syntax.the-variants.{File, TooLong, NoTokenAt, UnfitAt, NoRoom}
 use Rattle.text.specs.Tokens.{Lexing}
-use Rattle.text.specs.TokenTable.{Token-columns, columns-of, part, row-token, rows, lacks-rows, no-room, lexing, into-columns, told, Lexes}
+use Rattle.text.specs.Answers.{syntax-answer}
+use Rattle.text.specs.TokenTable.{Token-columns, columns-of, part, row-token, rows, lacks-rows, lexing, into-columns, columns-answer, told, Lexes}
 use Rattle.text.specs.Readers.{read}
-use Rattle.text.specs.Parse.{ungrammatical-at, offset-of}
-use Rattle.text.specs.ParseAnswers.{classes-of, Parses-as}
-use Rattle.text.specs.Syntaxes.{
-  parsing-syntax,
-  columns-syntax,
-  syntax-of,
-  Says,
-  Reads-text,
-  Has-rows,
-  Settles,
-}
+use Rattle.text.specs.Parse.{ungrammatical-at, offset-of, parse}
+use Rattle.text.specs.ParseAnswers.{classes-of, outcome-answer, Parses-as}
+use Rattle.text.specs.Syntaxes.{text-answer, Says, Reads-text, Has-rows, Settles}
 use Rattle.text.proofs.RowLaws.{length-rows, drop-rows, drop-rows-past, rows-class}
 use Rattle.text.proofs.IntoColumnsLaws.{
   lacks-classes,
@@ -99,10 +92,11 @@ module _ {text : List ℕ} {t u : Token-columns} where
 
 -- what the answer of lexing leads to, and what it says
 module _ {text : List ℕ} {t u : Token-columns} {x : Lexed} (l : Lexes text t u x) where
-  reads : (s : Syntax) → columns-syntax (length text) (told x u text) ≡ s → Says text t u s → Reads-text text t u s
-  unfolding syntax-of
+  reads : (s : Syntax) → columns-answer (λ ts. outcome-answer (parse (length text) ts)) (told x u text) ≡ syntax-answer s → Says text t u s
+      → Reads-text text t u s
+  unfolding text-answer
   reads s e h = record {
-    exact = sym e ∙ ap (columns-syntax (length text)) (l .says);
+    answer = sym e ∙ ap (columns-answer (λ ts. outcome-answer (parse (length text) ts))) (l .says);
     says = h;
     classes-kept = l .classes-kept;
     offsets-kept = l .offsets-kept;
@@ -124,27 +118,27 @@ module _ {end : ℕ} {cs os : List ℕ} {x : Lexed} where
   settles y e h = record { told = λ text ls vs t f l. h text (columns-of cs os ls vs) t f refl refl (subst (Lexes text t (columns-of cs os ls vs)) e l) }
 
   pub settles-long : x ≡ Long → Settles end cs os x TooLong
-  unfolding told columns-syntax
+  unfolding told columns-answer syntax-answer
   settles-long e = settles Long e λ text u t f c o l. reads l TooLong refl (too-long-says text t u l)
 
   pub settles-short : x ≡ Short → Settles end cs os x NoRoom
-  unfolding told columns-syntax
+  unfolding told columns-answer syntax-answer
   settles-short e = settles Short e λ text u t f c o l. reads l NoRoom refl (no-room-says text t u l)
 
   pub settles-bad : {p : ℕ} → x ≡ BadAt p → Settles end cs os x (NoTokenAt p)
-  unfolding told columns-syntax
+  unfolding told columns-answer syntax-answer
   settles-bad {p} e = settles (BadAt p) e λ text u t f c o l.
       let h = bad-says text t u p l in
       reads l (NoTokenAt p) refl (record { allowed = h .0; lexed = h .1; within = refused-within text p (h .1) })
 
   module _ {n : ℕ} (e : x ≡ Count n) (h : Has-rows x cs os) {a : Parsing} (parsed : Parses-as (part 0 n cs) a) where
     pub settles-file : a ≡ Grammatical → Settles end cs os x (File n)
-    unfolding told columns-syntax parsing-syntax
+    unfolding told columns-answer outcome-answer syntax-answer
     settles-file g = settles (Count n) e λ text u t f c o l.
         let s = count-says text t u n l in
         let m = file-made parsed (rows n u text) (rows-of text u n cs (count-rows x n cs os e h .0) c) g in
         let k = length-rows n u text in
-        reads l (File n) (rw (m .parses (length text), k)) (record {
+        reads l (File n) (rw (m .parses (length text))) (record {
           allowed = s .0;
           lexed = s .1;
           count = k;
@@ -160,7 +154,7 @@ module _ {end : ℕ} {cs os : List ℕ} {x : Lexed} where
         → ((text : List ℕ) (u t : Token-columns) → length text ≡ end → u .offsets ≡ os → Lexes text t u (Count n)
         → (offset-of (length text) (drop i (rows n u text)) ≡ p) × (p ≤ length text))
         → Settles end cs os x (UnfitAt p)
-    unfolding told columns-syntax parsing-syntax
+    unfolding told columns-answer outcome-answer syntax-answer
     unfit {i} {p} g k = settles (Count n) e λ text u t f c o l.
         let s = count-says text t u n l in
         let q = k text u t f o l in
@@ -182,15 +176,59 @@ module _ {text : List ℕ} {t u : Token-columns} {r : Syntax} (l : Reads-text te
   pub said : {s : Syntax} → r ≡ s → Says text t u s
   said e = subst (Says text t u) e (l .says)
 
+  -- the columns are only too short for a text that is refused for it
+  pub room-refused : length text ≤ 32768 → lacks-rows (length text) t ≡ true → r ≡ NoRoom
+  unfolding text-answer columns-answer syntax-answer
+  room-refused h e = of-answer r (l .answer ∙ rw (into-columns-short text t h e))
+    where
+      of-answer : (s : Syntax) → syntax-answer s ≡ 31 → s ≡ NoRoom
+      of-answer (File n) z = absurd (omega arith)
+      of-answer TooLong z = absurd (omega arith)
+      of-answer (NoTokenAt p) z = absurd (omega arith)
+      of-answer (UnfitAt p) z = absurd (omega arith)
+      of-answer NoRoom z = refl
+
   -- a row for each byte of a text that is a file
   pub file-room : {n : ℕ} → r ≡ File n → Has-room (length text) u
-  unfolding syntax-of columns-syntax
   file-room {n} e = go (lacks-rows (length text) t) refl
     where
       go : (b : Bool) → lacks-rows (length text) t ≡ b → Has-room (length text) u
       go true f =
-          let i : into-columns text t ≡ no-room = into-columns-short text t (said e .allowed) f in
-          let j : syntax-of text t ≡ NoRoom = rw i in
-          let z : _≡_ {A = ℕ} 0 1 = cc (l .exact) in
+          let i : r ≡ NoRoom = room-refused (said e .allowed) f in
+          let z : _≡_ {A = ℕ} 0 1 = cc in
           absurd (omega arith)
       go false f = room-kept (has-room (length text) t f) (l .classes-kept) (l .offsets-kept) (l .lengths-kept) (l .values-kept)
+
+-- ---- no other answer meets the contract
+
+module _ (text : List ℕ) (t u v : Token-columns) where
+  same-answer : (r s : Syntax) → syntax-answer r ≡ syntax-answer s → Says text t u r → Says text t v s → r ≡ s
+  unfolding syntax-answer
+  same-answer (File n) (File m) e h k = let z : rows n u text ≡ rows m v text = cc (h .lexed, k .lexed) in ap File (sym (h .count) ∙ ap length z ∙ k .count)
+  same-answer (File n) TooLong e h k = absurd (omega arith)
+  same-answer (File n) (NoTokenAt q) e h k = absurd (omega arith)
+  same-answer (File n) (UnfitAt q) e h k = absurd (omega arith)
+  same-answer (File n) NoRoom e h k = absurd (omega arith)
+  same-answer TooLong (File m) e h k = absurd (omega arith)
+  same-answer TooLong TooLong e h k = refl
+  same-answer TooLong (NoTokenAt q) e h k = absurd (omega arith)
+  same-answer TooLong (UnfitAt q) e h k = absurd (omega arith)
+  same-answer TooLong NoRoom e h k = absurd (omega arith)
+  same-answer (NoTokenAt p) (File m) e h k = absurd (omega arith)
+  same-answer (NoTokenAt p) TooLong e h k = absurd (omega arith)
+  same-answer (NoTokenAt p) (NoTokenAt q) e h k = let z : p ≡ q = omega arith in ap NoTokenAt z
+  same-answer (NoTokenAt p) (UnfitAt q) e h k = absurd (omega arith)
+  same-answer (NoTokenAt p) NoRoom e h k = absurd (omega arith)
+  same-answer (UnfitAt p) (File m) e h k = absurd (omega arith)
+  same-answer (UnfitAt p) TooLong e h k = absurd (omega arith)
+  same-answer (UnfitAt p) (NoTokenAt q) e h k = absurd (omega arith)
+  same-answer (UnfitAt p) (UnfitAt q) e h k = let z : p ≡ q = omega arith in ap UnfitAt z
+  same-answer (UnfitAt p) NoRoom e h k = absurd (omega arith)
+  same-answer NoRoom (File m) e h k = absurd (omega arith)
+  same-answer NoRoom TooLong e h k = absurd (omega arith)
+  same-answer NoRoom (NoTokenAt q) e h k = absurd (omega arith)
+  same-answer NoRoom (UnfitAt q) e h k = absurd (omega arith)
+  same-answer NoRoom NoRoom e h k = refl
+
+  pub one-answer : {r s : Syntax} → Reads-text text t u r → Reads-text text t v s → r ≡ s
+  one-answer {r} {s} l k = same-answer r s (l .answer ∙ sym (k .answer)) (l .says) (k .says)

@@ -1,10 +1,11 @@
 pub mod Bytes
 pub mod Tokens
-pub mod TokenTable
 pub mod Syntax
 pub mod Readers
 pub mod Grammar
 pub mod Parse
+pub mod Answers
+pub mod TokenTable
 pub mod ParseAnswers
 pub mod Walks
 pub mod Language

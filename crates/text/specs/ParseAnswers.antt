@@ -13,7 +13,8 @@ use Rattle.text.specs.Tokens.{Token, TRUE, FALSE, WHOLE-NUMBER, REAL-NUM
 use Rattle.text.specs.Syntax.{File}
 use Rattle.text.specs.Readers.{Parse, read, refused, Reader}
 use Rattle.text.specs.Grammar.{file-reader}
-use Rattle.text.specs.Parse.{grammatical, ungrammatical-at, offset-of, parse}
+use Rattle.text.specs.Parse.{Parsing as Outcome, grammatical, ungrammatical-at, offset-of, parse}
+use Rattle.text.specs.Answers.{refusal-answer, parsing-answer}
 
 abbrev pub classes-of : List Token → List ℕ
 classes-of ts = map (λ t. t .class) ts
@@ -84,6 +85,12 @@ unfoldable pub Agrees : List Token → Parsing → Type 0
 Agrees ts Grammatical = Makes-file ts
 Agrees ts (UngrammaticalAt i) = Unfit-at ts i
 
--- the parser answers so, for all tokens that have these classes
+-- document 01's answer to what tokens parse to
+unfoldable pub outcome-answer : Outcome → ℕ
+outcome-answer (grammatical f) = 0
+outcome-answer (ungrammatical-at p) = refusal-answer 13 p
+
+-- the parser answers so, for all tokens that have these classes: with document 01's number, in a text of any length
 pub record Parses-as (classes : List ℕ) (answer : Parsing) : Type 0 where
+  pub answered : (ts : List Token) → classes-of ts ≡ classes → (end : ℕ) → parsing-answer end ts answer ≡ outcome-answer (parse end ts)
   pub told : (ts : List Token) → classes-of ts ≡ classes → Agrees ts answer

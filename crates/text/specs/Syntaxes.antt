@@ -9,48 +9,18 @@ use Rattle.text.specs.declared.Lexed.the-variants.{Count, TooLong as Lon
 use Rattle.text.specs.declared.reading.Syntax.{Syntax}
 use Rattle.text.specs.declared.reading.Syntax.the-variants.{File, TooLong, NoTokenAt, UnfitAt, NoRoom}
 use Rattle.text.specs.Tokens.{Token, tokens, no-token-at, tokens-of}
-use Rattle.text.specs.TokenTable.{Token-columns, rows, lacks-rows, Into-columns, too-long, no-room, lexing, into-columns, columns-of, Lexes}
+use Rattle.text.specs.TokenTable.{Token-columns, rows, lacks-rows, into-columns, columns-answer, columns-of, Lexes}
 use Rattle.text.specs.Syntax.{File as Syntax-tree}
 use Rattle.text.specs.Readers.{read}
 use Rattle.text.specs.Grammar.{file-reader}
-use Rattle.text.specs.Parse.{Parsing, grammatical, ungrammatical-at, parse}
+use Rattle.text.specs.Parse.{grammatical, ungrammatical-at, parse}
+use Rattle.text.specs.Answers.{syntax-answer}
+use Rattle.text.specs.ParseAnswers.{outcome-answer}
 
--- ---- an answer as document 01's numbers
-
--- "Returned": the number; "Acceptance returns 0"
-unfoldable pub syntax-code : Syntax → ℕ
-syntax-code (File n) = 0
-syntax-code TooLong = 11
-syntax-code (NoTokenAt p) = 12
-syntax-code (UnfitAt p) = 13
-syntax-code NoRoom = 31
-
--- "11, 32768", "12, place", "13, place"; 0 where the number stands alone
-unfoldable pub syntax-offset : Syntax → ℕ
-syntax-offset (File n) = 0
-syntax-offset TooLong = 32768
-syntax-offset (NoTokenAt p) = p
-syntax-offset (UnfitAt p) = p
-syntax-offset NoRoom = 0
-
--- ---- the one right answer
-
--- of n tokens, by what they parse to
-unfoldable pub parsing-syntax : ℕ → Parsing → Syntax
-parsing-syntax n (grammatical f) = File n
-parsing-syntax n (ungrammatical-at p) = UnfitAt p
-
--- of a text of this length, by what lexing it into columns comes to: 11, no room, 12, and then 13
-unfoldable pub columns-syntax : ℕ → Into-columns → Syntax
-unfolding parsing-syntax parse
-columns-syntax end too-long = TooLong
-columns-syntax end no-room = NoRoom
-columns-syntax end (lexing (no-token-at p)) = NoTokenAt p
-columns-syntax end (lexing (tokens ts)) = parsing-syntax (length ts) (parse end ts)
-
-unfoldable pub syntax-of : List ℕ → Token-columns → Syntax
-unfolding columns-syntax into-columns
-syntax-of text t = columns-syntax (length text) (into-columns text t)
+-- document 01's answer: 11, no room, 12, and then 13
+unfoldable pub text-answer : List ℕ → Token-columns → ℕ
+unfolding columns-answer outcome-answer parse into-columns
+text-answer text t = columns-answer (λ ts. outcome-answer (parse (length text) ts)) (into-columns text t)
 
 -- ---- what an answer says to a caller
 
@@ -86,9 +56,9 @@ Says text t u (NoTokenAt p) = Bad-text text p
 Says text t u (UnfitAt p) = Unfit-text text p
 Says text t u NoRoom = (length text ≤ 32768) × (lacks-rows (length text) t ≡ true)
 
--- the answer r and the columns, which were t and are u: it is the right answer, it says what a caller needs, and no column changed its length
+-- the answer r and the columns, which were t and are u: it is document 01's, it says what a caller needs, and no column changed its length
 pub record Reads-text (text : List ℕ) (t u : Token-columns) (r : Syntax) : Type 0 where
-  pub exact : r ≡ syntax-of text t
+  pub answer : syntax-answer r ≡ text-answer text t
   pub says : Says text t u r
   pub classes-kept : length (u .classes) ≡ length (t .classes)
   pub offsets-kept : length (u .offsets) ≡ length (t .offsets)

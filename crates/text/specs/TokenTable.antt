@@ -12,6 +12,7 @@ use Rattle.text.specs.declared.Lexed.the-variants.{Count, TooLong, BadAt
 use Rattle.text.specs.declared.Run.{Run}
 use Rattle.text.specs.declared.Run.the-variants.{Comment, Name, Digits}
 use Rattle.text.specs.Bytes.{is-digit, is-name-byte, is-comment-byte}
+use Rattle.text.specs.Answers.{refusal-answer, lexed-answer}
 use Rattle.text.specs.Tokens.{Fixed, Token, Item, gap, found, bad, item, Lexing, tokens, no-token-at, tokens-of}
 
 -- which bytes a run goes on with
@@ -108,6 +109,13 @@ unfoldable pub into-columns : List ℕ → Token-columns → Into-columns
 unfolding lacks-rows tokens-of
 into-columns text t = cond (ltb 32768 (length text)) too-long (cond (lacks-rows (length text) t) no-room (lexing (tokens-of text)))
 
+-- document 01's answer to that; of tokens, the one that they have
+unfoldable pub columns-answer : (List Token → ℕ) → Into-columns → ℕ
+columns-answer of-tokens too-long = refusal-answer 11 32768
+columns-answer of-tokens no-room = 31
+columns-answer of-tokens (lexing (no-token-at p)) = refusal-answer 12 p
+columns-answer of-tokens (lexing (tokens ts)) = of-tokens ts
+
 -- what an answer and the columns say
 unfoldable pub told : Lexed → Token-columns → List ℕ → Into-columns
 unfolding rows
@@ -123,8 +131,9 @@ Inside TooLong t text = Unit {0}
 Inside (BadAt p) t text = Unit {0}
 Inside NoRoom t text = Unit {0}
 
--- the answer r and the columns, which were t and are u: they say what lexing comes to, and no column changed its length
+-- the answer r and the columns, which were t and are u: it is document 01's, they say what lexing comes to, and no column changed its length
 pub record Lexes (text : List ℕ) (t u : Token-columns) (r : Lexed) : Type 0 where
+  pub answer : lexed-answer r ≡ columns-answer (λ ts. 0) (into-columns text t)
   pub says : told r u text ≡ into-columns text t
   pub inside : Inside r u text
   pub classes-kept : length (u .classes) ≡ length (t .classes)

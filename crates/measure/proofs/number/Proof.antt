@@ -1,7 +1,6 @@
 -- `number` meets its contract: each answer's code, and the number above it.
 use native.Mathlib.Omega.{arith}
-use Rattle.text.specs.Syntaxes.{syntax-offset}
-use Rattle.measure.specs.Measured.{syntax-number, syntax-count}
+use Rattle.measure.specs.Measured.{syntax-number}
 use Rattle.measure.proofs.MeasuredLaws.{fits-as}
 use borrow.Author.Needs.{needs}
 use Rattle.measure.proofs.number.Statement.{statement}
@@ -11,7 +10,7 @@ enum-known-syntax : tie.Need-enum-known-syntax
 enum-known-syntax c = search needs
 
 packed-requires : tie.Need-packed-requires
-unfolding syntax-offset syntax-count
+unfolding syntax-number
 packed-requires c κs = let h = fits-as (c .before .syntax .given .1) (c .before .before .before .pre) in omega arith
 
 enum-told : tie.Need-enum-told
@@ -24,14 +23,14 @@ enum-known-syntax-2 : tie.Need-enum-known-syntax-2
 enum-known-syntax-2 c = search needs
 
 packed-requires-3 : tie.Need-packed-requires-3
-unfolding syntax-offset syntax-count
+unfolding syntax-number
 packed-requires-3 c κs = let h = fits-as (c .before .syntax2 .given .1) (c .before .before .before .pre) in omega arith
 
 enum-known-syntax-3 : tie.Need-enum-known-syntax-3
 enum-known-syntax-3 c = search needs
 
 packed-requires-4 : tie.Need-packed-requires-4
-unfolding syntax-offset syntax-count
+unfolding syntax-number
 packed-requires-4 c κs = let h = fits-as (c .before .syntax3 .given .1) (c .before .before .before .pre) in omega arith
 
 enum-told-2 : tie.Need-enum-told-2
