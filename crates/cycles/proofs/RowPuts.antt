@@ -1,5 +1,5 @@
 -- Fields put into a row or into its header one by one, and all of them.
-use Prim.Native.Nat.{ℕ, zero, suc, _+_, _-_, _*_, _/_, _%_, _≤_, _<_}
+use Prim.Native.Nat.{ℕ, suc, _+_, _-_, _*_, _/_, _%_, _≤_, _<_}
 use native.Mathlib.Omega.{arith}
 use mathlib.Core.Path.{_≡_, refl, sym, ap, ap₂, _∙_}
 use mathlib.Core.Bool.{Bool, true, false, cond, true≢false}
@@ -8,7 +8,7 @@ use mathlib.Core.Option.{Option, none, some}
 use lib.Dec.{ltb}
 use lib.IntN.{ℤ, pos, negsuc}
 use lib.Ieee.{isNan, toBits, binary64}
-use lib.ListN.{length, getD, getElem?, set, drop, length-append, length-set, length-take, List·getD-eq-default}
+use lib.ListN.{length, getD, getElem?, set, drop, length-set, length-take, List·getD-eq-default}
 use borrow.Author.Tests.{ltb-true, ltb-false}
 use lib.Seq.{append-snoc}
 use Rattle.values.specs.declared.Value.{Value}
@@ -17,7 +17,8 @@ use Rattle.values.specs.declared.Kind.{Kind}
 use Rattle.values.specs.declared.Kind.the-variants.{Wholes, Bools, Reals}
 use Rattle.values.specs.Bytes.{overwritten}
 use Rattle.values.specs.Cells.{cell-at}
-use Rattle.values.specs.Forms.{digit-byte, digits, decimal, whole-text, printed, dash}
+use Rattle.values.specs.Forms.{hexadecimal, decimal, whole-text, printed, dash}
+use Rattle.values.proofs.DigitLaws.{decimal-length, hexadecimal-length}
 use Rattle.text.specs.Tokens.{Token, tokens, tokens-of}
 use Rattle.text.specs.Syntax.{Member, Entity, File}
 use Rattle.text.proofs.SpotLaws.{stands-drop}
@@ -78,17 +79,8 @@ module _ (field : Spot → List ℕ) (e m : ℕ) where
 
 -- ---- lengths
 
-digits-most : (b stop k n : ℕ) → length (digits b stop k n) ≤ k
-unfolding digits
-digits-most b stop zero n = omega arith
-digits-most b stop (suc k) n = go (ltb n stop) (digits-most b stop k (n / b))
-  where
-    go : (t : Bool) → length (digits b stop k (n / b)) ≤ k → length (cond t (digit-byte n ∷ []) (digits b stop k (n / b) ++ (digit-byte (n % b) ∷ []))) ≤ suc k
-    go true h = omega arith
-    go false h = rw (length-append (digits b stop k (n / b)) (digit-byte (n % b) ∷ [])) (omega arith)
-
 pub decimal-most : (n : ℕ) → length (decimal n) ≤ 10
-decimal-most n = digits-most 10 10 10 n
+decimal-most n = decimal-length 10 n
 
 pub printed-most : (v : Value) → length (printed v) ≤ 16
 printed-most (Whole z) = go z
@@ -100,9 +92,9 @@ printed-most (Truth true) = omega arith
 printed-most (Truth false) = omega arith
 printed-most (Real x) = go (isNan x)
   where
-    go : (t : Bool) → length (cond t dash (digits 16 0 16 (toBits binary64 x))) ≤ 16
+    go : (t : Bool) → length (cond t dash (hexadecimal 16 (toBits binary64 x))) ≤ 16
     go true = omega arith
-    go false = digits-most 16 0 16 (toBits binary64 x)
+    go false = omega (arith, hexadecimal-length 16 (toBits binary64 x))
 printed-most Unset = omega arith
 
 -- is the member of cell number i an action?

@@ -4,7 +4,7 @@ use mathlib.Core.List.{List, [], _∷_, _++_, flatMap}
 use mathlib.Core.Bool.{Bool, true, false}
 use mathlib.Core.Option.{Option}
 use lib.ListN.{getElem?}
-use Rattle.values.specs.Forms.{digit-byte, digits, decimal, printed}
+use Rattle.values.specs.Forms.{digit-byte, decimal-digits, hexadecimal, decimal, printed}
 use Rattle.text.specs.Syntax.{Name, Member, Entity, File}
 use Rattle.checking.specs.Scope.{is-action}
 use Rattle.checking.specs.Verdict.{name-if-found}
@@ -28,5 +28,5 @@ row-header f = 110 ∷ action-fields f (λ p. name-if-found (getElem? (f .entiti
 
 -- "the number and each fired value, in the form of readings, or `-`, one space between fields"
 unfoldable pub row : File → State → List ℕ
-unfolding action-fields digit-byte digits
+unfolding action-fields digit-byte decimal-digits hexadecimal
 row f s = decimal (s .last) ++ action-fields f (λ p. printed (s .now .cell (p .entity) (p .member)))

@@ -9,7 +9,7 @@ use lib.Dec.{ltb, eqb}
 use lib.ListN.{length, take, length-append}
 use lib.Seq.{take-append-seam}
 use borrow.Author.Tests.{eqb-false}
-use Rattle.values.specs.Forms.{decimal, digits, digit-byte}
+use Rattle.values.specs.Forms.{decimal, decimal-digits, digit-byte}
 use Rattle.text.specs.Syntax.{File}
 use Rattle.checking.specs.Verdict as Verdict
 use Rattle.checking.specs.Verdict.{file-verdict}
@@ -31,12 +31,12 @@ use Rattle.engine.proofs.CallLaws.{after-accepted, accepted-resent, accepted-ne
 
 -- a row has a byte at least
 decimal-some : (n : ℕ) → 0 < length (decimal n)
-unfolding digits
+unfolding decimal-digits
 decimal-some n = go (ltb n 10)
   where
-    go : (t : Bool) → 0 < length (cond t (digit-byte n ∷ []) (digits 10 10 9 (n / 10) ++ (digit-byte (n % 10) ∷ [])))
+    go : (t : Bool) → 0 < length (cond t (digit-byte n ∷ []) (decimal-digits 9 (n / 10) ++ (digit-byte (n % 10) ∷ [])))
     go true = omega arith
-    go false = rw (length-append (digits 10 10 9 (n / 10)) (digit-byte (n % 10) ∷ [])) (omega arith)
+    go false = rw (length-append (decimal-digits 9 (n / 10)) (digit-byte (n % 10) ∷ [])) (omega arith)
 
 row-some : (f : File) (s : State) → 0 < length (row f s)
 unfolding row

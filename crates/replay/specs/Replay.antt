@@ -3,7 +3,7 @@
 use Prim.Native.Nat.{ℕ}
 use mathlib.Core.List.{List, [], _∷_, _++_}
 use mathlib.Core.Option.{Option, none, some}
-use Rattle.values.specs.Forms.{decimal, digits, digit-byte}
+use Rattle.values.specs.Forms.{decimal, decimal-digits, digit-byte}
 use Rattle.text.specs.Syntax.{File}
 use Rattle.checking.specs.Verdict.{Verdict, verdict}
 use Rattle.cycles.specs.Store.{State, Line}
@@ -19,7 +19,7 @@ REFUSED = 114 ∷ 101 ∷ 102 ∷ 117 ∷ 115 ∷ 101 ∷ 100 ∷ 32 ∷ []
 
 -- "`refused` and the refusal's number"
 unfoldable pub refusal : ℕ → List ℕ
-unfolding digits digit-byte
+unfolding decimal-digits digit-byte
 refusal code = REFUSED ++ decimal code
 
 -- "A refused bench prints `refused`, number and place"

@@ -1,8 +1,8 @@
--- Digits are read as their number, in any base; so whole numbers and values are read back from their texts.
+-- Digits are read as their number; so whole numbers and values are read back from their texts.
 use mathlib.Core.Path.{_≡_, refl, ap, _∙_}
 use mathlib.Core.List.{List, [], _∷_, _++_}
 use mathlib.Core.Bool.{Bool, true, false}
-use Prim.Native.Nat.{ℕ, zero, suc, _+_, _*_, _/_, _%_, _^_, _≤_, _<_, zero-le}
+use Prim.Native.Nat.{ℕ, zero, suc, _+_, _*_, _/_, _%_, _^_, _≤_, _<_}
 use native.Mathlib.Nat.{zero-add, zero-mul, pow-zero, pow-suc, div-add-mod', mod-lt, div-lt-iff-lt-mul, lt-of-lt-of-le}
 use native.Mathlib.Omega.{arith}
 use lib.Dec.{T, ltb, eqb, lit<, lit≤, eqb·suc-zero, ltb→lt}
@@ -21,10 +21,22 @@ use Rattle.values.specs.declared.Field.the-variants.{Blank, Given}
 use Rattle.values.specs.Value.{is-finite}
 use Rattle.values.specs.Storable.{storable}
 use Rattle.values.specs.Bytes.{same-bytes}
-use Rattle.values.specs.Forms.{digit-byte, digit-of, digits, scanned, led, decimal, whole-text, printed, magnitude, event-field}
+use Rattle.values.specs.Forms.{
+  digit-byte,
+  digit-of,
+  decimal-digits,
+  hexadecimal,
+  scanned,
+  led,
+  decimal,
+  whole-text,
+  printed,
+  magnitude,
+  event-field,
+  read-back,
+}
 use Rattle.values.proofs.RealLaws.{finite-by-bits}
-use Rattle.values.proofs.DigitLaws.{length-snoc, led-one, led-by}
-use Rattle.values.proofs.ReadBack.{read-back}
+use Rattle.values.proofs.DigitLaws.{length-snoc, decimal-length, hexadecimal-length, led-one, led-by}
 
 -- ---- digits
 
@@ -49,23 +61,39 @@ scan-snoc b acc m (x ∷ xs) c h l = go (ltb (digit-of x) b) refl (λ k. scan-sn
     go true e f = rw e (f (rw e at h))
     go false e f = let k = rw e at h in let z : _≡_ {A = ℕ} 0 1 = cc in absurd (omega arith)
 
-pub digits-back : (b stop k n : ℕ) → 2 ≤ b → b ≤ 16 → stop ≤ b → n < b ^ k → scanned b 0 (digits b stop k n) ≡ Is n
-unfolding digits
-digits-back b stop zero n p q s h = ap Is (none n (rw (pow-zero b) at h))
+-- the last digit after those of the rest
+last-back : (b n : ℕ) (xs : List ℕ) → 2 ≤ b → b ≤ 16 → scanned b 0 xs ≡ Is (n / b) → scanned b 0 (xs ++ (digit-byte (n % b) ∷ [])) ≡ Is n
+last-back b n xs p q r =
+    let m : n % b < b = mod-lt n (omega arith) in
+    let g = digit-back (n % b) (lt-of-lt-of-le m q) in
+    scan-snoc b 0 (n / b) xs (digit-byte (n % b)) r (rw g m) ∙ rw (g, div-add-mod' n b)
+
+-- without its last digit, a number has one digit less
+rest-below : (b k n : ℕ) → 2 ≤ b → n < b ^ suc k → n / b < b ^ k
+rest-below b k n p h = div-lt-iff-lt-mul {k = b} {x = n} {y = b ^ k} (omega arith) .1 (rw (pow-suc b k) at h)
+
+none-back : (b n : ℕ) → n < b ^ 0 → 0 ≡ n
+none-back b n h = below-one (rw (pow-zero b) at h)
   where
-    none : (n : ℕ) → n < 1 → 0 ≡ n
-    none n h = omega arith
-digits-back b stop (suc k) n p q s h =
-    go (ltb n stop) refl (digits-back b stop k (n / b) p q s (div-lt-iff-lt-mul {k = b} {x = n} {y = b ^ k} (omega arith) .1 (rw (pow-suc b k) at h)))
+    below-one : n < 1 → 0 ≡ n
+    below-one h = omega arith
+
+decimal-digits-back : (k n : ℕ) → n < 10 ^ k → scanned 10 0 (decimal-digits k n) ≡ Is n
+unfolding decimal-digits
+decimal-digits-back zero n h = ap Is (none-back 10 n h)
+decimal-digits-back (suc k) n h = go (ltb n 10) refl (decimal-digits-back k (n / 10) (rest-below 10 k n (lit≤ tt) h))
   where
-    go : (t : Bool) → ltb n stop ≡ t → scanned b 0 (digits b stop k (n / b)) ≡ Is (n / b) → scanned b 0 (digits b stop (suc k) n) ≡ Is n
+    go : (t : Bool) → ltb n 10 ≡ t → scanned 10 0 (decimal-digits k (n / 10)) ≡ Is (n / 10) → scanned 10 0 (decimal-digits (suc k) n) ≡ Is n
     go true e r =
-        let l : n < b = lt-of-lt-of-le (ltb-true n stop e) s in
-        rw (e, digit-back n (lt-of-lt-of-le l q), lt-ltb n b l, zero-mul b, zero-add n)
-    go false e r =
-        let m : n % b < b = mod-lt n (omega arith) in
-        let g = digit-back (n % b) (lt-of-lt-of-le m q) in
-        rw e (scan-snoc b 0 (n / b) (digits b stop k (n / b)) (digit-byte (n % b)) r (rw g m) ∙ rw (g, div-add-mod' n b))
+        let l : n < 10 = ltb-true n 10 e in
+        rw (e, digit-back n (lt-of-lt-of-le l (lit≤ tt)), lt-ltb n 10 l, zero-mul 10, zero-add n)
+    go false e r = rw e (last-back 10 n (decimal-digits k (n / 10)) (lit≤ tt) (lit≤ tt) r)
+
+hexadecimal-back : (k n : ℕ) → n < 16 ^ k → scanned 16 0 (hexadecimal k n) ≡ Is n
+unfolding hexadecimal
+hexadecimal-back zero n h = ap Is (none-back 16 n h)
+hexadecimal-back (suc k) n h =
+    last-back 16 n (hexadecimal k (n / 16)) (lit≤ tt) (lit≤ tt) (hexadecimal-back k (n / 16) (rest-below 16 k n (lit≤ tt) h))
 
 -- what is read as a number begins with a digit, so with neither `-` nor `?`
 begins : (b n : ℕ) (xs : List ℕ) (c : ℕ) → b ≤ digit-of c → scanned b 0 xs ≡ Is n → 0 < length xs → getD xs 0 0 ≡ c → ⊥
@@ -85,24 +113,10 @@ not-empty [] l = absurd (none l)
     none h = omega arith
 not-empty (x ∷ xs) l = refl
 
--- ---- how many digits there are, and which is the first
+-- ---- the first digit
 
-length-most : (b stop k n : ℕ) → length (digits b stop k n) ≤ k
-unfolding digits
-length-most b stop zero n = zero-le
-length-most b stop (suc k) n = go (ltb n stop) refl (length-most b stop k (n / b))
-  where
-    go : (t : Bool) → ltb n stop ≡ t → length (digits b stop k (n / b)) ≤ k → length (digits b stop (suc k) n) ≤ suc k
-    go true e r = rw e (omega arith)
-    go false e r = rw (e, length-snoc (digits b stop k (n / b)) (digit-byte (n % b))) (omega arith)
-
-length-full : (b k n : ℕ) → length (digits b 0 k n) ≡ k
-unfolding digits
-length-full b zero n = refl
-length-full b (suc k) n = rw (le-ltb n 0 zero-le, length-snoc (digits b 0 k (n / b)) (digit-byte (n % b)), length-full b k (n / b)) (omega arith)
-
-first-digit : (k n : ℕ) → 0 < n → n < 10 ^ k → (48 < getD (digits 10 10 k n) 0 0) × (0 < length (digits 10 10 k n))
-unfolding digits digit-byte
+first-digit : (k n : ℕ) → 0 < n → n < 10 ^ k → (48 < getD (decimal-digits k n) 0 0) × (0 < length (decimal-digits k n))
+unfolding decimal-digits digit-byte
 first-digit zero n p h = absurd (none n p h)
   where
     none : (n : ℕ) → 0 < n → n < 10 ^ 0 → ⊥
@@ -113,17 +127,17 @@ first-digit (suc k) n p h = go (ltb n 10) refl (λ l. first-digit k (n / 10) l (
     less n m h = omega arith
 
     go : (t : Bool) → ltb n 10 ≡ t
-        → (0 < n / 10 → (48 < getD (digits 10 10 k (n / 10)) 0 0) × (0 < length (digits 10 10 k (n / 10))))
-        → (48 < getD (digits 10 10 (suc k) n) 0 0) × (0 < length (digits 10 10 (suc k) n))
+        → (0 < n / 10 → (48 < getD (decimal-digits k (n / 10)) 0 0) × (0 < length (decimal-digits k (n / 10))))
+        → (48 < getD (decimal-digits (suc k) n) 0 0) × (0 < length (decimal-digits (suc k) n))
     go true e f = rw e (omega arith, lit< tt)
     go false e f =
         let l = ltb-false n 10 e in
-        let xs = digits 10 10 k (n / 10) in
+        let xs = decimal-digits k (n / 10) in
         let r = f (omega arith) in
         rw (e, List·getD-append xs (digit-byte (n % 10) ∷ []) 0 0 (r .1), length-snoc xs (digit-byte (n % 10))) (r .0, omega arith)
 
 some-digit : (n : ℕ) → n < 10 ^ 10 → 0 < length (decimal n)
-unfolding digits
+unfolding decimal-digits
 some-digit zero h = lit< tt
 some-digit (suc n) h = first-digit 10 (suc n) (omega arith) h .1
 
@@ -131,7 +145,7 @@ two : (n : ℕ) → 0 < n → (n ≡ 1 → ⊥) → 2 ≤ n
 two n h o = omega (arith, h, o)
 
 led-decimal : (n : ℕ) → n < 10 ^ 10 → led (decimal n) ≡ true
-unfolding digits led
+unfolding decimal-digits led
 led-decimal zero h = refl
 led-decimal (suc n) h = go (eqb (length (decimal (suc n))) 1) refl
   where
@@ -140,12 +154,12 @@ led-decimal (suc n) h = go (eqb (length (decimal (suc n))) 1) refl
     go false e =
         let ds = decimal (suc n) in
         let r = first-digit 10 (suc n) (omega arith) h in
-        led-by ds false (two (length ds) (r .1) (eqb-false (length ds) 1 e)) (length-most 10 10 10 (suc n)) (ne-eqb (getD ds 0 0) 48 (λ k. omega (arith, r .0)))
+        led-by ds false (two (length ds) (r .1) (eqb-false (length ds) 1 e)) (decimal-length 10 (suc n)) (ne-eqb (getD ds 0 0) 48 (λ k. omega (arith, r .0)))
 
 -- ---- numbers and values
 
 scan-decimal : (n : ℕ) → n < 10 ^ 10 → scanned 10 0 (decimal n) ≡ Is n
-scan-decimal n h = digits-back 10 10 10 n (lit≤ tt) (lit≤ tt) (lit≤ tt) h
+scan-decimal n h = decimal-digits-back 10 n h
 
 pub decimal-back : (n : ℕ) → n < 10 ^ 10 → magnitude (decimal n) ≡ Is n
 decimal-back n h = rw (led-decimal n h, scan-decimal n h)
@@ -176,9 +190,9 @@ real-back (inf s) t f = absurd t
 real-back (fin s m e) t f =
     let x = fin s m e in
     let w = toBits binary64 x in
-    let ds = digits 16 0 16 w in
-    let r = digits-back 16 0 16 w (lit≤ tt) (lit≤ tt) (lit≤ tt) (toBits-lt binary64 x f) in
-    let n = length-full 16 16 w in
+    let ds = hexadecimal 16 w in
+    let r = hexadecimal-back 16 w (toBits-lt binary64 x f) in
+    let n = hexadecimal-length 16 w in
     let l : 0 < length ds = rw n (lit< tt) in
     rw (
       other-text ds 45 l (begins 16 w ds 45 (lit≤ tt) r l),

@@ -7,5 +7,4 @@ pub mod StorableLaws
 pub mod FittingLaws
 pub mod CellLaws
 pub mod FormLaws
-pub mod ReadBack
 pub mod PrintedReadsBack

@@ -7,8 +7,7 @@ use Rattle.values.specs.declared.Value.{Value}
 use Rattle.values.specs.declared.Kind.{Kind}
 use Rattle.values.specs.declared.Number.the-variants.{Is}
 use Rattle.values.specs.Storable.{storable}
-use Rattle.values.specs.Forms.{decimal, printed, magnitude, event-field}
-use Rattle.values.proofs.ReadBack.{read-back}
+use Rattle.values.specs.Forms.{decimal, printed, magnitude, event-field, read-back}
 use Rattle.values.proofs.FormLaws.{value-back, decimal-back}
 
 pub printed-reads-back : (k : Kind) (v : Value) → T (storable k v) → event-field k (printed v) ≡ read-back v

@@ -1,7 +1,7 @@
 -- The text form of a value: how it is printed, and which texts are read (document 01, "Lines of readings").
 use Prim.Native.Nat.{ℕ, zero, suc, _+_, _-_, _*_, _/_, _%_}
 use mathlib.Core.List.{List, [], _∷_, _++_}
-use mathlib.Core.Bool.{Bool, true, false, not, cond}
+use mathlib.Core.Bool.{Bool, true, false, not, cond, _&&_, _||_}
 use lib.Dec.{ltb, leb, eqb}
 use lib.IntN.{ℤ, pos, negsuc, negℤ}
 use lib.ListN.{length, getD, drop}
@@ -24,10 +24,15 @@ digit-byte d = cond (ltb d 10) (48 + d) (87 + d)
 unfoldable pub digit-of : ℕ → ℕ
 digit-of c = cond (ltb c 48) 16 (cond (leb c 57) (c - 48) (cond (ltb c 97) 16 (cond (leb c 102) (c - 87) 16)))
 
--- at most k digits of n in base b, the highest first, down to a number below `stop`: with b none is a zero in front, with 0 there are k
-unfoldable pub digits : ℕ → ℕ → ℕ → ℕ → List ℕ
-digits b stop zero n = []
-digits b stop (suc k) n = cond (ltb n stop) (digit-byte n ∷ []) (digits b stop k (n / b) ++ (digit-byte (n % b) ∷ []))
+-- the decimal digits of a number, at most k, the highest first and no zero in front
+unfoldable pub decimal-digits : ℕ → ℕ → List ℕ
+decimal-digits zero n = []
+decimal-digits (suc k) n = cond (ltb n 10) (digit-byte n ∷ []) (decimal-digits k (n / 10) ++ (digit-byte (n % 10) ∷ []))
+
+-- k lower-case hexadecimal digits of a number, the highest first
+unfoldable pub hexadecimal : ℕ → ℕ → List ℕ
+hexadecimal zero n = []
+hexadecimal (suc k) n = hexadecimal k (n / 16) ++ (digit-byte (n % 16) ∷ [])
 
 -- the number of digits in base b, after those that gave `acc`
 abbrev pub scanned : ℕ → ℕ → List ℕ → Number
@@ -47,9 +52,9 @@ true-text = 116 ∷ 114 ∷ 117 ∷ 101 ∷ []
 abbrev pub false-text : List ℕ
 false-text = 102 ∷ 97 ∷ 108 ∷ 115 ∷ 101 ∷ []
 
--- a number with no zero in front
+-- "1 to 10 digits, no leading zero unless it is 0"
 abbrev pub decimal : ℕ → List ℕ
-decimal n = digits 10 10 10 n
+decimal n = decimal-digits 10 n
 
 abbrev pub whole-text : ℤ → List ℕ
 whole-text (pos n) = decimal n
@@ -59,12 +64,12 @@ whole-text (negsuc n) = 45 ∷ decimal (suc n)
 abbrev pub printed : Value → List ℕ
 printed (Whole z) = whole-text z
 printed (Truth b) = cond b true-text false-text
-printed (Real x) = cond (isNan x) dash (digits 16 0 16 (toBits binary64 x))
+printed (Real x) = cond (isNan x) dash (hexadecimal 16 (toBits binary64 x))
 printed Unset = dash
 
--- 1 to 10 digits, "no leading zero unless it is 0"
+-- "1 to 10 digits, no leading zero unless it is 0"
 unfoldable pub led : List ℕ → Bool
-led ds = cond (eqb (length ds) 1) true (cond (ltb (length ds) 2) false (cond (ltb 10 (length ds)) false (not (eqb (getD ds 0 0) 48))))
+led ds = leb 1 (length ds) && (leb (length ds) 10 && (eqb (length ds) 1 || not (eqb (getD ds 0 0) 48)))
 
 abbrev pub magnitude : List ℕ → Number
 magnitude ds = cond (led ds) (scanned 10 0 ds) Not
@@ -105,3 +110,10 @@ event-field k s = cond (same-bytes s dash) Blank (cond (same-bytes s query) (Giv
 -- "`?` .. not for presence"; "presence is bool"
 abbrev pub presence-field : List ℕ → Field
 presence-field s = cond (same-bytes s dash) Blank (truth-field s)
+
+-- what the text of a value is to be read as: the value, or no reading for unset
+abbrev pub read-back : Value → Field
+read-back (Whole z) = Given (Whole z)
+read-back (Truth b) = Given (Truth b)
+read-back (Real x) = Given (Real x)
+read-back Unset = Blank

@@ -3,7 +3,7 @@ ghost use mathlib.Core.Path.{_≡_};
 ghost use Prim.Native.Nat.{_+_, _≤_, _<_};
 ghost use lib.ListN.{length, drop};
 ghost use Rattle.values.specs.Bytes.{overwritten};
-ghost use Rattle.values.specs.Forms.{digit-byte, digit-of, digits, scanned, decimal, whole-text, printed, magnitude};
+ghost use Rattle.values.specs.Forms.{digit-byte, digit-of, decimal-digits, hexadecimal, scanned, decimal, whole-text, printed, magnitude};
 ghost use Rattle.values.specs.Forms.{unsigned-whole, negative-whole, whole-field, truth-field, finite-real, real-field, event-field, presence-field};
 use crate::Field;
 use crate::Kind;
@@ -47,21 +47,20 @@ pub fn digit_of(c: u8) -> u64
 
 // ---- printing
 
-// At most `left` digits, the highest first, down to a number below `stop`.
-pub fn put_digits(s: &mut [u8], at: usize, base: u64, stop: u64, left: usize, n: u64) -> usize
-    requires { ⌜ (2 ≤ base) × (base ≤ 16) × (stop ≤ base) ⌝ }
-    requires { ⌜ at + length (digits base stop left n) ≤ length (now s) ⌝ }
-    ensures { λ r. ⌜ (r ≡ at + length (digits base stop left n)) × (now (s .exit) ≡ overwritten (now (s .entry)) at (digits base stop left n)) ⌝ }
+// The decimal digits, at most `left`, the highest first and no zero in front.
+fn put_decimal_digits(s: &mut [u8], at: usize, left: usize, n: u64) -> usize
+    requires { ⌜ at + length (decimal-digits left n) ≤ length (now s) ⌝ }
+    ensures { λ r. ⌜ (r ≡ at + length (decimal-digits left n)) × (now (s .exit) ≡ overwritten (now (s .entry)) at (decimal-digits left n)) ⌝ }
 {
     if left == 0 {
         return at;
     }
-    if n < stop {
+    if n < 10 {
         s[at] = digit_byte(n);
         return at + 1;
     }
-    let p = put_digits(s, at, base, stop, left - 1, n / base);
-    s[p] = digit_byte(n % base);
+    let p = put_decimal_digits(s, at, left - 1, n / 10);
+    s[p] = digit_byte(n % 10);
     p + 1
 }
 
@@ -69,7 +68,20 @@ pub fn put_decimal(s: &mut [u8], at: usize, n: u64) -> usize
     requires { ⌜ at + length (decimal n) ≤ length (now s) ⌝ }
     ensures { λ r. ⌜ (r ≡ at + length (decimal n)) × (now (s .exit) ≡ overwritten (now (s .entry)) at (decimal n)) ⌝ }
 {
-    put_digits(s, at, 10, 10, 10, n)
+    put_decimal_digits(s, at, 10, n)
+}
+
+// The last `left` hexadecimal digits, the highest first.
+pub fn put_hexadecimal(s: &mut [u8], at: usize, left: usize, n: u64) -> usize
+    requires { ⌜ at + length (hexadecimal left n) ≤ length (now s) ⌝ }
+    ensures { λ r. ⌜ (r ≡ at + length (hexadecimal left n)) × (now (s .exit) ≡ overwritten (now (s .entry)) at (hexadecimal left n)) ⌝ }
+{
+    if left == 0 {
+        return at;
+    }
+    let p = put_hexadecimal(s, at, left - 1, n / 16);
+    s[p] = digit_byte(n % 16);
+    p + 1
 }
 
 pub fn put_whole(s: &mut [u8], at: usize, z: i32) -> usize
@@ -100,7 +112,7 @@ pub fn put_value(s: &mut [u8], at: usize, v: Value) -> usize
             if x != x {
                 return put_bytes(s, at, b"-");
             }
-            put_digits(s, at, 16, 0, 16, f64::to_bits(x))
+            put_hexadecimal(s, at, 16, f64::to_bits(x))
         }
         Value::Unset => put_bytes(s, at, b"-"),
     }

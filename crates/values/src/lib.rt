@@ -16,7 +16,6 @@ pub use forms::digit_byte;
 pub use forms::digit_of;
 pub use forms::magnitude;
 pub use forms::put_decimal;
-pub use forms::put_digits;
 pub use forms::put_value;
 pub use forms::put_whole;
 pub use forms::read_event;

@@ -1,5 +1,4 @@
 -- `put_value` meets its contract.
-use lib.Dec.{lit≤}
 use lib.Ieee.{isNan}
 use lib.Ieee.Bits.{is-false}
 use mir.Syntax.{w32}
@@ -76,15 +75,15 @@ returns-2 c =
     let put-bytes3-call = c .before .before .put-bytes3 in
     rw (v3 .given .1, nan-only (v3 .given .0 .0) (if2 .taken)) (put-bytes3-call .ensures)
 
-float-to-bits-put-digits : tie.Need-float-to-bits-put-digits
-float-to-bits-put-digits c = no-nan (c .before .before .before .v3 .given .0 .0) (c .before .if2 .left)
+float-to-bits-put-hexadecimal : tie.Need-float-to-bits-put-hexadecimal
+float-to-bits-put-hexadecimal c = no-nan (c .before .before .before .v3 .given .0 .0) (c .before .if2 .left)
 
-put-digits-requires : tie.Need-put-digits-requires
-put-digits-requires c κs =
+put-hexadecimal-requires : tie.Need-put-hexadecimal-requires
+put-hexadecimal-requires c κs =
     let v3 = c .before .before .before .v3 in
     let pre = c .before .before .before .before .before .before .pre in
     let x = v3 .given .0 .0 in
-    ((lit≤ tt, lit≤ tt, lit≤ tt), rw (v3 .given .1, is-false (isNan x) (no-nan x (c .before .if2 .left))) at (pre))
+    rw (v3 .given .1, is-false (isNan x) (no-nan x (c .before .if2 .left))) at (pre)
 
 enum-told : tie.Need-enum-told
 enum-told c = search needs
@@ -120,9 +119,9 @@ returns-5 : tie.Need-returns-5
 returns-5 c =
     let v3 = c .before .before .before .before .before .before .v3 in
     let if2 = c .before .before .before .before .if2 in
-    let put-digits-call = c .before .before .put-digits in
+    let put-hexadecimal-call = c .before .before .put-hexadecimal in
     let x = v3 .given .0 .0 in
-    rw (v3 .given .1, is-false (isNan x) (no-nan x (if2 .left))) (put-digits-call .ensures)
+    rw (v3 .given .1, is-false (isNan x) (no-nan x (if2 .left))) (put-hexadecimal-call .ensures)
 
 same-length-6 : tie.Need-same-length-6
 same-length-6 c = search needs
@@ -148,8 +147,8 @@ put-value-spec =
     put-bytes-requires-3
     same-length-2
     returns-2
-    float-to-bits-put-digits
-    put-digits-requires
+    float-to-bits-put-hexadecimal
+    put-hexadecimal-requires
     enum-told
     slice-aggregate-put-bytes-4
     put-bytes-requires-4
