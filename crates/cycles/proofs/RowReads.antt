@@ -12,7 +12,7 @@ use lib.Ieee.{toBits, isNan, binary64}
 use borrow.Author.Tests.{ne-eqb}
 use Rattle.values.specs.declared.Value.{Value}
 use Rattle.values.specs.declared.Value.the-variants.{Whole, Truth, Real, Unset}
-use Rattle.values.specs.Forms.{digit-byte, digits, decimal, dash, printed}
+use Rattle.values.specs.Forms.{digit-byte, decimal-digits, hexadecimal, decimal, dash, printed}
 use Rattle.text.specs.Syntax.{File}
 use Rattle.text.proofs.ListLaws.{none-some, some-injective, number-member}
 use Rattle.checking.specs.Scope.{is-action}
@@ -44,26 +44,33 @@ clear-digit d = go (ltb d 10)
     go true = rw (ne-eqb (48 + d) 32 (λ e. omega arith))
     go false = rw (ne-eqb (87 + d) 32 (λ e. omega arith))
 
-clear-digits : (b stop k n : ℕ) → Clear (digits b stop k n)
-unfolding digits has-byte
-clear-digits b stop zero n = refl
-clear-digits b stop (suc k) n = go (ltb n stop) (clear-digits b stop k (n / b))
+clear-decimal : (k n : ℕ) → Clear (decimal-digits k n)
+unfolding decimal-digits has-byte
+clear-decimal zero n = refl
+clear-decimal (suc k) n = go (ltb n 10) (clear-decimal k (n / 10))
   where
-    go : (t : Bool) → Clear (digits b stop k (n / b)) → Clear (cond t (digit-byte n ∷ []) (digits b stop k (n / b) ++ (digit-byte (n % b) ∷ [])))
+    go : (t : Bool) → Clear (decimal-digits k (n / 10))
+        → Clear (cond t (digit-byte n ∷ []) (decimal-digits k (n / 10) ++ (digit-byte (n % 10) ∷ [])))
     go true h = clear-digit n
-    go false h = clear-append (digits b stop k (n / b)) (digit-byte (n % b) ∷ []) h (clear-digit (n % b))
+    go false h = clear-append (decimal-digits k (n / 10)) (digit-byte (n % 10) ∷ []) h (clear-digit (n % 10))
+
+clear-hexadecimal : (k n : ℕ) → Clear (hexadecimal k n)
+unfolding hexadecimal has-byte
+clear-hexadecimal zero n = refl
+clear-hexadecimal (suc k) n =
+    clear-append (hexadecimal k (n / 16)) (digit-byte (n % 16) ∷ []) (clear-hexadecimal k (n / 16)) (clear-digit (n % 16))
 
 clear-printed : (v : Value) → Clear (printed v)
 unfolding has-byte
-clear-printed (Whole (pos n)) = clear-digits 10 10 10 n
-clear-printed (Whole (negsuc n)) = clear-digits 10 10 10 (suc n)
+clear-printed (Whole (pos n)) = clear-decimal 10 n
+clear-printed (Whole (negsuc n)) = clear-decimal 10 (suc n)
 clear-printed (Truth true) = refl
 clear-printed (Truth false) = refl
 clear-printed (Real x) = go (isNan x)
   where
-    go : (b : Bool) → Clear (cond b dash (digits 16 0 16 (toBits binary64 x)))
+    go : (b : Bool) → Clear (cond b dash (hexadecimal 16 (toBits binary64 x)))
     go true = refl
-    go false = clear-digits 16 0 16 (toBits binary64 x)
+    go false = clear-hexadecimal 16 (toBits binary64 x)
 clear-printed Unset = refl
 
 -- ---- fields
@@ -104,7 +111,7 @@ pub row-fields : (f : File) (s : State) → fields (row f s) ≡ decimal (s .las
 unfolding fields row action-fields
 row-fields f s =
     split-fields (fired-text s) (λ p. clear-printed (s .now .cell (p .entity) (p .member))) (action-cells f) (decimal (s .last))
-    (clear-digits 10 10 10 (s .last))
+    (clear-decimal 10 (s .last))
 
 -- ---- the action cells
 

@@ -5,8 +5,7 @@ use mathlib.Core.List.{List, [], _∷_}
 use mathlib.Core.Option.{some}
 use lib.ListN.{length, getElem?}
 use Rattle.values.specs.declared.Number.the-variants.{Is}
-use Rattle.values.specs.Forms.{magnitude, event-field}
-use Rattle.values.proofs.ReadBack.{read-back}
+use Rattle.values.specs.Forms.{magnitude, event-field, read-back}
 use Rattle.text.specs.Syntax.{File}
 use Rattle.cycles.specs.Outcome.{running}
 use Rattle.cycles.specs.Store.{State, Line}
