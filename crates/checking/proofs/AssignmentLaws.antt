@@ -10,7 +10,7 @@ use lib.ListN.{length, getD, getElem?}
 use borrow.Author.Tests.{eq-eqb, ne-eqb}
 use Rattle.values.specs.Bytes.{same-bytes}
 use Rattle.values.specs.declared.Kind.{Kind}
-use Rattle.values.specs.declared.Kind.the-variants.{Wholes, Bools, Reals}
+use Rattle.values.specs.Fitting.{kinds-fit}
 use Rattle.text.specs.Tokens.{Token, NAME, WHOLE-NUMBER, REAL-NUMBER, ATTRIBUTE, WHOLE, BOOL, REAL, MINUS}
 use Rattle.text.specs.Syntax.{Name, Sort, attribute, event, action, Member, Interface, literal-kind, Assignment}
 use Rattle.text.specs.Grammar.{assignment-after}
@@ -19,7 +19,7 @@ use Rattle.checking.specs.Faults.{fault-unless, earliest}
 use Rattle.checking.specs.FoundFaults.{found-as}
 use Rattle.checking.specs.Scope.{Found as Numbered, here-or-later, look-up, is-found, is-attribute, member-named}
 use Rattle.checking.specs.NameFaults.{is-of-sort, member-faults}
-use Rattle.checking.specs.KindFaults.{same-kind, kinds-fit, kind-if-found, member-kind, assignment-kinds}
+use Rattle.checking.specs.KindFaults.{kind-if-found, member-kind, assignment-kinds}
 use Rattle.checking.specs.Directory.{name-in, Columns-of, Named, Bench, sort-class, kind-class, number-or, member-number}
 use Rattle.checking.specs.DirectoryReads.{Few, Member-class}
 use Rattle.checking.specs.Sequences.{Sequence, over}
@@ -36,6 +36,7 @@ use Rattle.checking.proofs.FaultLaws.{earliest-passed}
 use Rattle.checking.proofs.LookUpLaws.{found-at}
 use Rattle.checking.proofs.DirectoryLaws.{number-below, number-beyond, number-inside, column-bytes, column-offset}
 use Rattle.checking.proofs.WalkedFaults.{unless-same}
+use Rattle.checking.proofs.KindCodes.{same-class}
 use Rattle.checking.proofs.SequenceLaws.{sequence-first, First, sequence-ends}
 use Rattle.checking.proofs.EntityTokens.{Assignment-at, assignment-stands}
 
@@ -218,18 +219,6 @@ module _ {classes offsets d : List ℕ} {face m q interfaces : ℕ} (n : interfa
           (o ∙ column-offset (w .columns) named))
 
 -- ---- the kind of an assignment
-
-same-class : (j k : Kind) → eqb (kind-class j) (kind-class k) ≡ same-kind j k
-unfolding kind-class same-kind
-same-class Wholes Wholes = refl
-same-class Wholes Bools = refl
-same-class Wholes Reals = refl
-same-class Bools Wholes = refl
-same-class Bools Bools = refl
-same-class Bools Reals = refl
-same-class Reals Wholes = refl
-same-class Reals Bools = refl
-same-class Reals Reals = refl
 
 module _ {text classes offsets lengths d : List ℕ} (w : Bench text classes offsets lengths d) (few : Few (w .file)) (face : ℕ) {m : ℕ}
     (n : Name) (k : Kind) where

@@ -3,10 +3,11 @@ use Prim.Native.Nat.{ℕ}
 use mathlib.Core.Path.{_≡_, refl, sym, ap, _∙_}
 use mathlib.Core.Bool.{Bool, true, false}
 use mathlib.Core.List.{List, [], cons≢nil}
-use mathlib.Core.Option.{Option, none, some}
+use mathlib.Core.Option.{Option, none, some, bind}
 use lib.Dec.{T}
 use Rattle.values.specs.declared.Kind.{Kind}
-use Rattle.values.specs.declared.Kind.the-variants.{Wholes, Bools, Reals}
+use Rattle.values.specs.Fitting.{number-kind, operated-kind, real-kind, has-kind, operand-fits, operands-fit, kinds-fit}
+use Rattle.values.proofs.FittingLaws.{same-kind-eq}
 use Rattle.text.specs.Syntax.{
   Name,
   Sort,
@@ -41,16 +42,9 @@ use Rattle.checking.specs.NameFaults.{
   call-names,
 }
 use Rattle.checking.specs.KindFaults.{
-  same-kind,
-  kinds-fit,
-  fits-operator,
-  operands-fit,
   kind-if-found,
   member-kind,
   kind-in,
-  real-kind,
-  negated-kind,
-  operated-kind,
   kind-of,
   expression-kinds,
   matched-kinds,
@@ -100,12 +94,6 @@ pub record Known-call (s : Scope) (c : Call) : Type 0 where
 
 -- ---- kinds
 
-pub same-kind-eq : (j k : Kind) → T (same-kind j k) → j ≡ k
-unfolding same-kind
-same-kind-eq Wholes Wholes h = refl
-same-kind-eq Bools Bools h = refl
-same-kind-eq Reals Reals h = refl
-
 pub kinds-fit-eq : (j k : Kind) → T (kinds-fit (some j) (some k)) → j ≡ k
 unfolding kinds-fit
 kinds-fit-eq j k h = same-kind-eq j k h
@@ -122,25 +110,17 @@ cell-kind s n m c = ap (λ (i : Option Interface). member-kind i m) (c .of-inter
 Kinded : Option Kind → Type 0
 Kinded o = (k : Kind) × (o ≡ some k)
 
-real-kinded : (o : Option Kind) → Kinded o → T (kinds-fit o (some Wholes)) → Kinded (real-kind o)
-unfolding Kinded real-kind kinds-fit
-real-kinded o (Wholes, e) h = (Reals, rw e)
-real-kinded o (Bools, e) h = absurd (rw e at h)
-real-kinded o (Reals, e) h = absurd (rw e at h)
+there : (o : Option Kind) → T (has-kind o) → Kinded o
+unfolding Kinded has-kind
+there (some k) h = (k, refl)
 
-negated-kinded : (o : Option Kind) → Kinded o → T (fits-operator o) → Kinded (negated-kind o)
-unfolding Kinded negated-kind fits-operator
-negated-kinded o (Wholes, e) h = (Wholes, rw e)
-negated-kinded o (Bools, e) h = absurd (rw e at h)
-negated-kinded o (Reals, e) h = (Reals, rw e)
+operand-kinded : (result : Kind → Option Kind) (o : Option Kind) → Kinded o → T (operand-fits result o) → Kinded (bind o result)
+unfolding Kinded bind operand-fits
+operand-kinded result o (k, e) h = rw e (there (result k) (rw e at h))
 
-operated-kinded : (o p : Option Kind) → Kinded o → Kinded p → T (operands-fit o p) → Kinded (operated-kind o p)
-unfolding Kinded operated-kind operands-fit
-operated-kinded o p (j, d) (k, e) h = go j k d e (rw (d, e) at h)
-  where
-    go : (j k : Kind) → o ≡ some j → p ≡ some k → T (operands-fit (some j) (some k)) → Kinded (operated-kind o p)
-    go Wholes Wholes d e h = (Wholes, rw (d, e))
-    go Reals Reals d e h = (Reals, rw (d, e))
+operands-kinded : (o p : Option Kind) → Kinded o → Kinded p → T (operands-fit o p) → Kinded (bind o λ j. bind p λ k. operated-kind j k)
+unfolding Kinded bind operands-fit
+operands-kinded o p (j, d) (k, e) h = rw (d, e) (there (operated-kind j k) (rw (d, e) at h))
 
 -- ---- no fault
 
@@ -166,16 +146,16 @@ module _ (s : Scope) (known-interface : (n : List ℕ) → T (is-known s n) → 
       let c = member-known is-member (x .bytes) m (no-fault (is-known s (x .bytes)) 16 (x .at) (p .0)) (p .1) in
       (c .found .item .kind, cell-kind s x m c)
   expression-kinded (to-real at a) n k =
-      let p : (fault-unless (kinds-fit (kind-of s a) (some Wholes)) 18 at ≡ []) × (expression-kinds s a ≡ []) = both-empty k in
-      real-kinded (kind-of s a) (expression-kinded a n (p .1)) (no-fault (kinds-fit (kind-of s a) (some Wholes)) 18 at (p .0))
+      let p : (fault-unless (operand-fits real-kind (kind-of s a)) 18 at ≡ []) × (expression-kinds s a ≡ []) = both-empty k in
+      operand-kinded real-kind (kind-of s a) (expression-kinded a n (p .1)) (no-fault (operand-fits real-kind (kind-of s a)) 18 at (p .0))
   expression-kinded (negate at a) n k =
-      let p : (fault-unless (fits-operator (kind-of s a)) 18 at ≡ []) × (expression-kinds s a ≡ []) = both-empty k in
-      negated-kinded (kind-of s a) (expression-kinded a n (p .1)) (no-fault (fits-operator (kind-of s a)) 18 at (p .0))
+      let p : (fault-unless (operand-fits number-kind (kind-of s a)) 18 at ≡ []) × (expression-kinds s a ≡ []) = both-empty k in
+      operand-kinded number-kind (kind-of s a) (expression-kinded a n (p .1)) (no-fault (operand-fits number-kind (kind-of s a)) 18 at (p .0))
   expression-kinded (apply o at a b) n k =
       let p : (fault-unless (operands-fit (kind-of s a) (kind-of s b)) 18 at ≡ []) × (expression-kinds s a ≡ []) × (expression-kinds s b ≡ []) =
       three-empty k in
       let q : (expression-names s a ≡ []) × (expression-names s b ≡ []) = both-empty n in
-      operated-kinded (kind-of s a) (kind-of s b) (expression-kinded a (q .0) (p .1)) (expression-kinded b (q .1) (p .2))
+      operands-kinded (kind-of s a) (kind-of s b) (expression-kinded a (q .0) (p .1)) (expression-kinded b (q .1) (p .2))
       (no-fault (operands-fit (kind-of s a) (kind-of s b)) 18 at (p .0))
 
   -- beside a cell

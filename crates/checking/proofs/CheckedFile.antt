@@ -20,6 +20,7 @@ use mathlib.Core.List.{
 use mathlib.Core.Option.{Option, none, some}
 use lib.Dec.{T}
 use Rattle.values.specs.Bytes.{same-bytes}
+use Rattle.values.specs.Fitting.{kinds-fit}
 use Rattle.text.specs.Syntax.{Name, Member, Interface, literal-kind, Assignment, Entity, Target, Clause, Call, Rule, File}
 use Rattle.checking.specs.Faults.{fault-unless}
 use Rattle.checking.specs.Scope.{
@@ -66,7 +67,7 @@ use Rattle.checking.specs.NameFaults.{
   rule-names,
   name-faults,
 }
-use Rattle.checking.specs.KindFaults.{kinds-fit, member-kind, assignment-kinds, entity-kinds, clause-kinds, call-kinds, rule-kinds, kind-faults}
+use Rattle.checking.specs.KindFaults.{member-kind, assignment-kinds, entity-kinds, clause-kinds, call-kinds, rule-kinds, kind-faults}
 use Rattle.checking.specs.Verdict.{accepted, file-verdict}
 use Rattle.text.proofs.ListLaws.{none-some, both-empty, three-empty, four-empty, five-empty, flatMap-empty, flatMap-member, member-flatMap}
 use Rattle.checking.proofs.LookUpLaws.{same-bytes-refl, found-some, found-member, member-found}

@@ -5,6 +5,7 @@ use mathlib.Core.Bool.{Bool, false}
 use mathlib.Core.List.{List, [], _++_, append-assoc}
 use mathlib.Core.Option.{Option, some}
 use Rattle.values.specs.declared.Kind.the-variants.{Wholes}
+use Rattle.values.specs.Fitting.{operands-fit}
 use Rattle.text.specs.Tokens.{WHOLE, BOOL, REAL}
 use Rattle.text.specs.Syntax.{Expression, to-real}
 use Rattle.checking.specs.declared.faults.Found.{Found}
@@ -15,7 +16,7 @@ use Rattle.checking.specs.Faults.{Fault, fault-unless, earliest}
 use Rattle.checking.specs.FoundFaults.{found-as, merged}
 use Rattle.checking.specs.Scope.{Scope}
 use Rattle.checking.specs.NameFaults.{expression-names}
-use Rattle.checking.specs.KindFaults.{operands-fit, kind-of, expression-kinds, matched-kinds}
+use Rattle.checking.specs.KindFaults.{kind-of, expression-kinds, matched-kinds}
 use Rattle.checking.specs.RuleParts.{
   kind-code,
   Kinds-fit,
@@ -33,7 +34,7 @@ use Rattle.checking.specs.RuleParts.{
   Joined,
 }
 use Rattle.checking.proofs.FaultLaws.{earliest-append}
-use Rattle.checking.proofs.KindCodes.{real-whole, real-other, negated-bool, negated-other}
+use Rattle.checking.proofs.KindCodes.{real-fits, real-whole, real-other, negated-bool, negated-other}
 
 -- ---- faults, one after the other
 
@@ -64,7 +65,8 @@ module _ (offset : ℕ) {x : Checked} where
       → kinds ≡ earliest (expression-kinds s (to-real offset a))
   unfolding expression-kinds kind-code
   real-kinds f u m s a h =
-      found-both _ (expression-kinds s a) m (unless-same _ offset u (f .fits (kind-of s a) (some Wholes) (h .kind) refl)) (h .kinds)
+      found-both _ (expression-kinds s a) m (unless-same _ offset u (f .fits (kind-of s a) (some Wholes) (h .kind) refl ∙ real-fits (kind-of s a)))
+      (h .kinds)
 
   module _ {next : ℕ} {fit : Bool} {here : Option Fault} {kinds : Found} (f : Kinds-fit (x .kind) WHOLE fit)
       (u : here ≡ earliest (fault-unless fit 18 offset)) (m : found-as kinds ≡ merged here (found-as (x .kinds))) where

@@ -2,13 +2,16 @@
 use Prim.Native.Nat.{ℕ}
 use native.Mathlib.Omega.{arith}
 use mathlib.Core.Path.{_≡_, refl, sym, _∙_}
-use mathlib.Core.Bool.{Bool, true, false, _&&_}
-use mathlib.Core.Option.{Option, none, some}
+use mathlib.Core.Bool.{Bool, true, false, cond}
+use mathlib.Core.Option.{Option, none, some, bind}
 use lib.Dec.{eqb}
+use borrow.Author.Tests.{eq-eqb, ne-eqb}
 use Rattle.values.specs.declared.Kind.{Kind}
 use Rattle.values.specs.declared.Kind.the-variants.{Wholes, Bools, Reals}
+use Rattle.values.specs.Fitting.{same-kind, number-kind, operated-kind, real-kind, has-kind, operand-fits, operands-fit, kinds-fit}
+use Rattle.values.proofs.FittingLaws.{same-kind-self}
 use Rattle.text.specs.Tokens.{WHOLE, BOOL, REAL}
-use Rattle.checking.specs.KindFaults.{same-kind, kinds-fit, fits-operator, operands-fit, real-kind, negated-kind, operated-kind}
+use Rattle.text.proofs.ListLaws.{none-some}
 use Rattle.checking.specs.Directory.{kind-class}
 use Rattle.checking.specs.RuleParts.{kind-code, Kinds-fit, Operands-fit, Operated-kind}
 
@@ -37,7 +40,7 @@ code-whole (some Reals) h = absurd (omega arith)
 
 -- ---- what fits
 
-same-class : (j k : Kind) → eqb (kind-class j) (kind-class k) ≡ same-kind j k
+pub same-class : (j k : Kind) → eqb (kind-class j) (kind-class k) ≡ same-kind j k
 unfolding kind-class same-kind
 same-class Wholes Wholes = refl
 same-class Wholes Bools = refl
@@ -73,62 +76,74 @@ module _ {j k : ℕ} where
 
 -- ---- operators
 
-operator-takes : (a : Option Kind) → (kind-code a ≡ BOOL → ⊥) → fits-operator a ≡ true
-unfolding kind-code fits-operator
-operator-takes none h = refl
-operator-takes (some Wholes) h = refl
-operator-takes (some Bools) h = absurd (h refl)
-operator-takes (some Reals) h = refl
+-- a kind that is no bool
+number-stays : (k : Kind) → (kind-class k ≡ BOOL → ⊥) → number-kind k ≡ some k
+unfolding kind-class number-kind
+number-stays Wholes h = refl
+number-stays Bools h = absurd (h refl)
+number-stays Reals h = refl
 
-and-false : (b : Bool) → false ≡ b && false
-and-false true = refl
-and-false false = refl
+has-kind-if : (t : Bool) (k : Kind) → t ≡ has-kind (cond t (some k) none)
+unfolding has-kind
+has-kind-if true k = refl
+has-kind-if false k = refl
 
-operated-bool : (b : Option Kind) → 0 ≡ kind-code (operated-kind (some Bools) b)
-unfolding kind-code operated-kind
+-- beside a bool nothing fits, and nothing comes of it
+bool-first : (k : Kind) → operated-kind Bools k ≡ none
+unfolding operated-kind
+bool-first Wholes = refl
+bool-first Bools = refl
+bool-first Reals = refl
+
+bool-second : (j : Kind) → operated-kind j Bools ≡ none
+unfolding operated-kind
+bool-second Wholes = refl
+bool-second Bools = refl
+bool-second Reals = refl
+
+bool-fits-not : (b : Option Kind) → (false ≡ operands-fit (some Bools) b) × (false ≡ operands-fit b (some Bools))
+unfolding operands-fit
+bool-fits-not none = (refl, refl)
+bool-fits-not (some k) = (rw (bool-first k), rw (bool-second k))
+
+-- without bools, what fits is one kind
+numbers-fit : (a b : Option Kind) → (kind-code a ≡ BOOL → ⊥) → (kind-code b ≡ BOOL → ⊥) → kinds-fit a b ≡ operands-fit a b
+unfolding kind-code kinds-fit operands-fit operated-kind
+numbers-fit none none h g = refl
+numbers-fit none (some k) h g = rw (same-kind-self k, number-stays k g)
+numbers-fit (some j) none h g = rw (same-kind-self j, number-stays j h)
+numbers-fit (some j) (some k) h g = rw (number-stays j h) (has-kind-if (same-kind j k) j)
+
+operated-bool : (b : Option Kind) → 0 ≡ kind-code (bind b λ k. operated-kind Bools k)
+unfolding kind-code bind
 operated-bool none = refl
-operated-bool (some k) = refl
+operated-bool (some k) = rw (bool-first k)
 
-operated-other : (a b : Option Kind) → (kind-code a ≡ kind-code b → ⊥) → 0 ≡ kind-code (operated-kind a b)
-unfolding kind-code operated-kind
+operated-other : (a b : Option Kind) → (kind-code a ≡ kind-code b → ⊥) → 0 ≡ kind-code (bind a λ j. bind b λ k. operated-kind j k)
+unfolding kind-code bind operated-kind
 operated-other none b h = refl
 operated-other (some j) none h = refl
-operated-other (some Wholes) (some Wholes) h = absurd (h refl)
-operated-other (some Wholes) (some Bools) h = refl
-operated-other (some Wholes) (some Reals) h = refl
-operated-other (some Bools) (some k) h = refl
-operated-other (some Reals) (some Wholes) h = refl
-operated-other (some Reals) (some Bools) h = refl
-operated-other (some Reals) (some Reals) h = absurd (h refl)
+operated-other (some j) (some k) h = rw (sym (same-class j k) ∙ ne-eqb (kind-class j) (kind-class k) h)
 
-operated-alike : (a b : Option Kind) → (kind-code a ≡ BOOL → ⊥) → kind-code a ≡ kind-code b → kind-code a ≡ kind-code (operated-kind a b)
-unfolding kind-code operated-kind
+operated-alike : (a b : Option Kind) → (kind-code a ≡ BOOL → ⊥) → kind-code a ≡ kind-code b
+    → kind-code a ≡ kind-code (bind a λ j. bind b λ k. operated-kind j k)
+unfolding kind-code bind operated-kind
 operated-alike none b h e = refl
-operated-alike (some Wholes) none h e = absurd (omega arith)
-operated-alike (some Bools) none h e = absurd (h refl)
-operated-alike (some Reals) none h e = absurd (omega arith)
-operated-alike (some Wholes) (some Wholes) h e = refl
-operated-alike (some Wholes) (some Bools) h e = absurd (omega arith)
-operated-alike (some Wholes) (some Reals) h e = absurd (omega arith)
-operated-alike (some Bools) (some k) h e = absurd (h refl)
-operated-alike (some Reals) (some Wholes) h e = absurd (omega arith)
-operated-alike (some Reals) (some Bools) h e = absurd (omega arith)
-operated-alike (some Reals) (some Reals) h e = refl
+operated-alike (some j) none h e = absurd (none-some (sym (code-none (some j) e)))
+operated-alike (some j) (some k) h e = rw (sym (same-class j k) ∙ eq-eqb (kind-class j) (kind-class k) e, number-stays j h)
 
 module _ {j k : ℕ} where
   pub left-bool : j ≡ BOOL → Operands-fit j k false
-  unfolding operands-fit fits-operator
-  left-bool e = record { fits = λ a b p q. rw (code-bool a (sym p ∙ e)) }
+  left-bool e = record { fits = λ a b p q. rw (code-bool a (sym p ∙ e)) (bool-fits-not b .0) }
 
   pub right-bool : k ≡ BOOL → Operands-fit j k false
-  unfolding operands-fit fits-operator
-  right-bool e = record { fits = λ a b p q. rw (code-bool b (sym q ∙ e)) (and-false (fits-operator a)) }
+  right-bool e = record { fits = λ a b p q. rw (code-bool b (sym q ∙ e)) (bool-fits-not a .1) }
 
   pub no-bool : (j ≡ BOOL → ⊥) → (k ≡ BOOL → ⊥) → {r : Bool} → Kinds-fit j k r → Operands-fit j k r
-  unfolding operands-fit
-  no-bool h g f = record { fits = λ a b p q. rw (operator-takes a (λ z. h (p ∙ z)), operator-takes b (λ z. g (q ∙ z))) (f .fits a b p q) }
+  no-bool h g f = record { fits = λ a b p q. f .fits a b p q ∙ numbers-fit a b (λ z. h (p ∙ z)) (λ z. g (q ∙ z)) }
 
   pub bool-operated : j ≡ BOOL → Operated-kind j k 0
+  unfolding bind
   bool-operated e = record { is = λ a b p q. rw (code-bool a (sym p ∙ e)) (operated-bool b) }
 
   pub other-operated : (j ≡ k → ⊥) → Operated-kind j k 0
@@ -139,24 +154,30 @@ module _ {j k : ℕ} where
 
 -- ---- `real` and unary `-`
 
-pub real-whole : (a : Option Kind) → kind-code a ≡ WHOLE → REAL ≡ kind-code (real-kind a)
-unfolding kind-code real-kind
+pub real-fits : (a : Option Kind) → kinds-fit a (some Wholes) ≡ operand-fits real-kind a
+unfolding kinds-fit operand-fits real-kind
+real-fits none = refl
+real-fits (some Wholes) = refl
+real-fits (some Bools) = refl
+real-fits (some Reals) = refl
+
+pub real-whole : (a : Option Kind) → kind-code a ≡ WHOLE → REAL ≡ kind-code (bind a real-kind)
+unfolding kind-code bind real-kind
 real-whole a h = rw (code-whole a h)
 
-pub real-other : (a : Option Kind) → (kind-code a ≡ WHOLE → ⊥) → 0 ≡ kind-code (real-kind a)
-unfolding kind-code real-kind
+pub real-other : (a : Option Kind) → (kind-code a ≡ WHOLE → ⊥) → 0 ≡ kind-code (bind a real-kind)
+unfolding kind-code bind real-kind
 real-other none h = refl
 real-other (some Wholes) h = absurd (h refl)
 real-other (some Bools) h = refl
 real-other (some Reals) h = refl
 
-pub negated-bool : (a : Option Kind) → kind-code a ≡ BOOL → (0 ≡ kind-code (negated-kind a)) × (fits-operator a ≡ false)
-unfolding kind-code negated-kind fits-operator
+pub negated-bool : (a : Option Kind) → kind-code a ≡ BOOL → (0 ≡ kind-code (bind a number-kind)) × (operand-fits number-kind a ≡ false)
+unfolding kind-code bind number-kind operand-fits
 negated-bool a h = (rw (code-bool a h), rw (code-bool a h))
 
-pub negated-other : (a : Option Kind) → (kind-code a ≡ BOOL → ⊥) → (kind-code a ≡ kind-code (negated-kind a)) × (fits-operator a ≡ true)
-unfolding kind-code negated-kind fits-operator
+pub negated-other : (a : Option Kind) → (kind-code a ≡ BOOL → ⊥)
+    → (kind-code a ≡ kind-code (bind a number-kind)) × (operand-fits number-kind a ≡ true)
+unfolding kind-code bind operand-fits
 negated-other none h = (refl, refl)
-negated-other (some Wholes) h = (refl, refl)
-negated-other (some Bools) h = absurd (h refl)
-negated-other (some Reals) h = (refl, refl)
+negated-other (some k) h = (rw (number-stays k h), rw (number-stays k h))

@@ -1,10 +1,9 @@
 -- Kinds that do not fit: 18 of document 01's table ("Names and kinds").
 use Prim.Native.Nat.{ℕ}
 use mathlib.Core.List.{List, [], _∷_, _++_, flatMap}
-use mathlib.Core.Bool.{Bool, true, false, _&&_}
-use mathlib.Core.Option.{Option, none, some}
+use mathlib.Core.Option.{Option, none, some, bind}
 use Rattle.values.specs.declared.Kind.{Kind}
-use Rattle.values.specs.declared.Kind.the-variants.{Wholes, Bools, Reals}
+use Rattle.values.specs.Fitting.{number-kind, operated-kind, real-kind, operand-fits, operands-fit, kinds-fit}
 use Rattle.text.specs.Syntax.{
   Name,
   Member,
@@ -31,36 +30,6 @@ use Rattle.text.specs.Syntax.{
 use Rattle.checking.specs.Faults.{Fault, fault-unless}
 use Rattle.checking.specs.Scope.{Found, interface-named, member-named, clauses, Scope, scope-of, interface-in}
 
-unfoldable pub same-kind : Kind → Kind → Bool
-same-kind Wholes Wholes = true
-same-kind Wholes Bools = false
-same-kind Wholes Reals = false
-same-kind Bools Wholes = false
-same-kind Bools Bools = true
-same-kind Bools Reals = false
-same-kind Reals Wholes = false
-same-kind Reals Bools = false
-same-kind Reals Reals = true
-
--- one kind, or "has no kind and fits anywhere"
-unfoldable pub kinds-fit : Option Kind → Option Kind → Bool
-unfolding same-kind
-kinds-fit none k = true
-kinds-fit (some j) none = true
-kinds-fit (some j) (some k) = same-kind j k
-
--- "a bool never fits an operator"
-unfoldable pub fits-operator : Option Kind → Bool
-fits-operator none = true
-fits-operator (some Wholes) = true
-fits-operator (some Bools) = false
-fits-operator (some Reals) = true
-
--- "`+ - * /` .. take wholes or reals, both sides alike"
-unfoldable pub operands-fit : Option Kind → Option Kind → Bool
-unfolding fits-operator kinds-fit
-operands-fit j k = fits-operator j && (fits-operator k && kinds-fit j k)
-
 unfoldable pub kind-if-found : Option (Found Member) → Option Kind
 kind-if-found none = none
 kind-if-found (some m) = some (m .item .kind)
@@ -74,46 +43,22 @@ unfoldable pub kind-in : Scope → Name → Name → Option Kind
 unfolding member-kind interface-in
 kind-in s n m = member-kind (interface-in s (n .bytes)) m
 
--- the kind of `real`, unary `-` and an operator, after the kinds inside; none after a fault, of kinds or of names
-unfoldable pub real-kind : Option Kind → Option Kind
-real-kind none = none
-real-kind (some Wholes) = some Reals
-real-kind (some Bools) = none
-real-kind (some Reals) = none
-
-unfoldable pub negated-kind : Option Kind → Option Kind
-negated-kind none = none
-negated-kind (some Wholes) = some Wholes
-negated-kind (some Bools) = none
-negated-kind (some Reals) = some Reals
-
-unfoldable pub operated-kind : Option Kind → Option Kind → Option Kind
-operated-kind none k = none
-operated-kind (some j) none = none
-operated-kind (some Wholes) (some Wholes) = some Wholes
-operated-kind (some Wholes) (some Bools) = none
-operated-kind (some Wholes) (some Reals) = none
-operated-kind (some Bools) (some k) = none
-operated-kind (some Reals) (some Wholes) = none
-operated-kind (some Reals) (some Bools) = none
-operated-kind (some Reals) (some Reals) = some Reals
-
--- "A sum with a fault inside has no kind"
+-- "A sum with a fault inside has no kind": a name or member that is not found gives none, and so does the table for what does not fit
 unfoldable pub kind-of : Scope → Expression → Option Kind
-unfolding literal-kind kind-in real-kind negated-kind operated-kind
+unfolding literal-kind kind-in bind real-kind number-kind operated-kind
 kind-of s (literal l) = some (literal-kind l)
 kind-of s (member n m) = kind-in s n m
-kind-of s (to-real at a) = real-kind (kind-of s a)
-kind-of s (negate at a) = negated-kind (kind-of s a)
-kind-of s (apply o at a b) = operated-kind (kind-of s a) (kind-of s b)
+kind-of s (to-real at a) = bind (kind-of s a) real-kind
+kind-of s (negate at a) = bind (kind-of s a) number-kind
+kind-of s (apply o at a b) = bind (kind-of s a) λ j. bind (kind-of s b) λ k. operated-kind j k
 
--- "18, place: first .. operator, `real` .. of unfitting kinds"; "`real` takes a whole"
+-- "18, place: first .. operator, `real` .. of unfitting kinds"
 unfoldable pub expression-kinds : Scope → Expression → List Fault
-unfolding fault-unless kinds-fit fits-operator operands-fit kind-of
+unfolding fault-unless operand-fits real-kind number-kind operands-fit kind-of
 expression-kinds s (literal l) = []
 expression-kinds s (member n m) = []
-expression-kinds s (to-real at a) = fault-unless (kinds-fit (kind-of s a) (some Wholes)) 18 at ++ expression-kinds s a
-expression-kinds s (negate at a) = fault-unless (fits-operator (kind-of s a)) 18 at ++ expression-kinds s a
+expression-kinds s (to-real at a) = fault-unless (operand-fits real-kind (kind-of s a)) 18 at ++ expression-kinds s a
+expression-kinds s (negate at a) = fault-unless (operand-fits number-kind (kind-of s a)) 18 at ++ expression-kinds s a
 expression-kinds s (apply o at a b) =
     fault-unless (operands-fit (kind-of s a) (kind-of s b)) 18 at ++ expression-kinds s a ++ expression-kinds s b
 

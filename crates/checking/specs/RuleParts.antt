@@ -3,11 +3,12 @@ use Prim.Native.Nat.{ℕ, _+_}
 use mathlib.Core.Path.{_≡_}
 use mathlib.Core.Bool.{Bool, true, false, not, _&&_, _||_}
 use mathlib.Core.List.{List, [], _∷_, _++_, map, flatMap}
-use mathlib.Core.Option.{Option, none, some}
+use mathlib.Core.Option.{Option, none, some, bind}
 use lib.Dec.{eqb}
 use lib.ListN.{length, getD, getElem?, drop}
 use Rattle.values.specs.Bytes.{same-bytes}
 use Rattle.values.specs.declared.Kind.{Kind}
+use Rattle.values.specs.Fitting.{operated-kind, operands-fit, kinds-fit}
 use Rattle.text.specs.Tokens.{NAME, EVENT, ACTION, WHEN, END, COLON}
 use Rattle.text.specs.Syntax.{
   Name,
@@ -53,9 +54,6 @@ use Rattle.checking.specs.NameFaults.{
 }
 use Rattle.checking.specs.KindFaults.{
   member-kind,
-  kinds-fit,
-  operands-fit,
-  operated-kind,
   kind-of,
   expression-kinds,
   matched-kinds,
@@ -164,7 +162,7 @@ pub record Operands-fit (j k : ℕ) (r : Bool) : Type 0 where
   pub fits : (a b : Option Kind) → j ≡ kind-code a → k ≡ kind-code b → r ≡ operands-fit a b
 
 pub record Operated-kind (j k r : ℕ) : Type 0 where
-  pub is : (a b : Option Kind) → j ≡ kind-code a → k ≡ kind-code b → r ≡ kind-code (operated-kind a b)
+  pub is : (a b : Option Kind) → j ≡ kind-code a → k ≡ kind-code b → r ≡ kind-code (bind a λ x. bind b λ y. operated-kind x y)
 
 -- what the check of an expression gives
 pub record Expression-checked (s : Scope) (a : Expression) (r : Checked) : Type 0 where

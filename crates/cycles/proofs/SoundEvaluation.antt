@@ -1,9 +1,9 @@
 -- Where names resolve and stores are sound, the reference machine runs through a rule at one binding, to what the total machine gives.
 use Prim.Native.Nat.{ℕ}
-use mathlib.Core.Path.{_≡_, refl, subst}
-use mathlib.Core.Bool.{Bool, true, false, _&&_}
+use mathlib.Core.Path.{_≡_, refl, sym, ap, subst, _∙_}
+use mathlib.Core.Bool.{Bool, true, false, cond, _&&_}
 use mathlib.Core.List.{List, flatMap, List·Memᴰ·head, Memᴰ·append-left, Memᴰ·append-right}
-use mathlib.Core.Option.{Option, none, some}
+use mathlib.Core.Option.{Option, none, some, bind}
 use lib.Dec.{T}
 use lib.Ieee.Bits.{is-true}
 use Rattle.values.specs.declared.Value.{Value}
@@ -11,8 +11,9 @@ use Rattle.values.specs.declared.Kind.{Kind}
 use Rattle.values.specs.declared.Kind.the-variants.{Wholes, Bools, Reals}
 use Rattle.values.specs.Value.{is-set, equal}
 use Rattle.values.specs.Storable.{of-kind, storable}
-use Rattle.values.proofs.StorableLaws.{is-numeric, storable-of-kind, operated-storable, negated-storable, as-real-storable}
-use Rattle.values.proofs.FittingLaws.{storable-alike, storable-number, storable-numbers}
+use Rattle.values.specs.Fitting.{same-kind, number-kind, operated-kind, real-kind, has-kind}
+use Rattle.values.proofs.StorableLaws.{storable-of-kind, operated-storable, negated-storable, as-real-storable}
+use Rattle.values.proofs.FittingLaws.{same-kind-eq, storable-kinds-fit, storable-operand-fits, storable-operands-fit}
 use Rattle.text.specs.Syntax.{
   Name,
   Sort,
@@ -40,7 +41,7 @@ use Rattle.text.specs.Syntax.{
 use Rattle.text.proofs.ListLaws.{some-injective, none-some, All, all-none, all-cons}
 use Rattle.text.proofs.LiteralLaws.{literal-storable}
 use Rattle.checking.specs.Scope.{clauses, member-of, Scope, is-action, is-event}
-use Rattle.checking.specs.KindFaults.{real-kind, negated-kind, operated-kind, kind-of}
+use Rattle.checking.specs.KindFaults.{kind-of}
 use Rattle.checking.proofs.CheckedExpressions.{Known-equation, Known-filter, Known-test, Known-clause, Known-call}
 use Rattle.cycles.specs.Outcome.{Outcome, running, proceed}
 use Rattle.cycles.specs.Store.{Store}
@@ -77,31 +78,31 @@ use Rattle.cycles.proofs.SpotLaws.{Stands, read-storable, found-spot, R
 
 -- ---- kinds
 
-real-kind-of : (o : Option Kind) {k : Kind} → real-kind o ≡ some k → (o ≡ some Wholes) × (Reals ≡ k)
+-- where the table has a kind of the result, the operands have kinds
+bind-some : (o : Option Kind) (result : Kind → Option Kind) {k : Kind} → bind o result ≡ some k → (j : Kind) × (o ≡ some j) × (result j ≡ some k)
+unfolding bind
+bind-some none result h = absurd (none-some h)
+bind-some (some j) result h = (j, refl, h)
+
+real-kind-of : (j : Kind) {k : Kind} → real-kind j ≡ some k → (j ≡ Wholes) × (Reals ≡ k)
 unfolding real-kind
-real-kind-of none h = absurd (none-some h)
-real-kind-of (some Wholes) h = (refl, some-injective h)
-real-kind-of (some Bools) h = absurd (none-some h)
-real-kind-of (some Reals) h = absurd (none-some h)
+real-kind-of Wholes h = (refl, some-injective h)
+real-kind-of Bools h = absurd (none-some h)
+real-kind-of Reals h = absurd (none-some h)
 
-negated-kind-of : (o : Option Kind) {k : Kind} → negated-kind o ≡ some k → (o ≡ some k) × T (is-numeric k)
-unfolding negated-kind
-negated-kind-of none h = absurd (none-some h)
-negated-kind-of (some Wholes) h = (h, subst (λ (k : Kind). T (is-numeric k)) (some-injective h) tt)
-negated-kind-of (some Bools) h = absurd (none-some h)
-negated-kind-of (some Reals) h = (h, subst (λ (k : Kind). T (is-numeric k)) (some-injective h) tt)
+number-kind-of : (j : Kind) {k : Kind} → number-kind j ≡ some k → (j ≡ k) × T (has-kind (number-kind k))
+unfolding number-kind has-kind
+number-kind-of Wholes h = let e = some-injective h in (e, subst (λ (k : Kind). T (has-kind (number-kind k))) e tt)
+number-kind-of Bools h = absurd (none-some h)
+number-kind-of Reals h = let e = some-injective h in (e, subst (λ (k : Kind). T (has-kind (number-kind k))) e tt)
 
-operated-kind-of : (o p : Option Kind) {k : Kind} → operated-kind o p ≡ some k → (o ≡ some k) × (p ≡ some k) × T (is-numeric k)
+operated-kind-of : (i j : Kind) {k : Kind} → operated-kind i j ≡ some k → (i ≡ k) × (j ≡ k) × T (has-kind (number-kind k))
 unfolding operated-kind
-operated-kind-of none p h = absurd (none-some h)
-operated-kind-of (some j) none h = absurd (none-some h)
-operated-kind-of (some Wholes) (some Wholes) h = (h, h, subst (λ (k : Kind). T (is-numeric k)) (some-injective h) tt)
-operated-kind-of (some Wholes) (some Bools) h = absurd (none-some h)
-operated-kind-of (some Wholes) (some Reals) h = absurd (none-some h)
-operated-kind-of (some Bools) (some k) h = absurd (none-some h)
-operated-kind-of (some Reals) (some Wholes) h = absurd (none-some h)
-operated-kind-of (some Reals) (some Bools) h = absurd (none-some h)
-operated-kind-of (some Reals) (some Reals) h = (h, h, subst (λ (k : Kind). T (is-numeric k)) (some-injective h) tt)
+operated-kind-of i j {k} h = go (same-kind i j) refl h
+  where
+    go : (t : Bool) → same-kind i j ≡ t → cond t (number-kind i) none ≡ some k → (i ≡ k) × (j ≡ k) × T (has-kind (number-kind k))
+    go true e g = let (p, n) = number-kind-of i g in (p, sym (same-kind-eq i j (rw e tt)) ∙ p, n)
+    go false e g = absurd (none-some g)
 
 -- ---- expressions
 
@@ -112,7 +113,7 @@ pub record Runs-to (k : Kind) (o : Outcome Value) (v : Value) : Type 0 where
 
 pub equal-runs : (k : Kind) (a b : Value) → T (storable k a) → T (storable k b) → ref-equal a b ≡ running (equal a b)
 unfolding ref-equal
-equal-runs k a b h g = rw (storable-alike k a b h g)
+equal-runs k a b h g = rw (storable-kinds-fit k a b h g)
 
 module _ (f : File) (s : Scope) (sp : Spots) (resolves : Resolves f s sp) (st : Store) (sound : Sound-store f st) where
   cell-runs : (n m : Name) {k : Kind} → kind-of s (member n m) ≡ some k → Runs-to k (ref-value sp st (member n m)) (value sp st (member n m))
@@ -127,22 +128,29 @@ module _ (f : File) (s : Scope) (sp : Spots) (resolves : Resolves f s sp) (st : 
   expression-runs (literal l) h = record { runs = refl; fits = rw (some-injective h) at (literal-storable l) }
   expression-runs (member n m) h = cell-runs n m h
   expression-runs (to-real at a) h =
-      let (p, q) = real-kind-of (kind-of s a) h in
-      let r = expression-runs a p in
+      let (j, p, g) = bind-some (kind-of s a) real-kind h in
+      let (w, q) = real-kind-of j g in
+      let r = expression-runs a (p ∙ ap some w) in
       record {
-        runs = rw (r .runs, is-true (of-kind Wholes (value sp st a)) (storable-of-kind Wholes (value sp st a) (r .fits)));
+        runs = rw (r .runs, storable-operand-fits real-kind Wholes (value sp st a) tt (r .fits));
         fits = rw q at (as-real-storable (value sp st a) (r .fits));
       }
   expression-runs (negate at a) {k} h =
-      let (p, n) = negated-kind-of (kind-of s a) h in
-      let r = expression-runs a p in
-      record { runs = rw (r .runs, storable-number k (value sp st a) n (r .fits)); fits = negated-storable k (value sp st a) n (r .fits) }
-  expression-runs (apply o at a b) {k} h =
-      let (p, q, n) = operated-kind-of (kind-of s a) (kind-of s b) h in
-      let r = expression-runs a p in
-      let t = expression-runs b q in
+      let (j, p, g) = bind-some (kind-of s a) number-kind h in
+      let (q, n) = number-kind-of j g in
+      let r = expression-runs a (p ∙ ap some q) in
       record {
-        runs = rw (r .runs, t .runs, storable-numbers k (value sp st a) (value sp st b) n (r .fits) (t .fits));
+        runs = rw (r .runs, storable-operand-fits number-kind k (value sp st a) n (r .fits));
+        fits = negated-storable k (value sp st a) n (r .fits);
+      }
+  expression-runs (apply o at a b) {k} h =
+      let (i, p, g) = bind-some (kind-of s a) (λ x. bind (kind-of s b) λ y. operated-kind x y) h in
+      let (j, q, m) = bind-some (kind-of s b) (λ y. operated-kind i y) g in
+      let (d, e, n) = operated-kind-of i j m in
+      let r = expression-runs a (p ∙ ap some d) in
+      let t = expression-runs b (q ∙ ap some e) in
+      record {
+        runs = rw (r .runs, t .runs, storable-operands-fit k (value sp st a) (value sp st b) n (r .fits) (t .fits));
         fits = operated-storable k o (value sp st a) (value sp st b) n (r .fits) (t .fits);
       }
 

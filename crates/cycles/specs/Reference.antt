@@ -3,10 +3,9 @@ use mathlib.Core.List.{List, [], _∷_}
 use mathlib.Core.Bool.{Bool, true, false, not, _&&_, _||_}
 use mathlib.Core.Option.{Option, none, some}
 use Rattle.values.specs.declared.Value.{Value}
-use Rattle.values.specs.declared.Kind.the-variants.{Wholes}
 use Rattle.values.specs.Value.{is-set, operated, negated, as-real, equal, differ}
 use Rattle.values.specs.Storable.{of-kind}
-use Rattle.values.specs.Fitting.{alike, is-number, are-numbers}
+use Rattle.values.specs.Fitting.{number-kind, real-kind, operand-fits, operands-fit, kinds-fit, value-kind}
 use Rattle.text.specs.Syntax.{
   Name,
   Sort,
@@ -38,19 +37,19 @@ use Rattle.cycles.specs.Evaluate.{read-spot, Write, written-if}
 
 -- "It stops .. where `=`, an operator, `real` or a parameter meets values of unfitting kinds"
 unfoldable pub ref-equal : Value → Value → Outcome Bool
-unfolding run-if alike
-ref-equal a b = run-if (alike a b) (running (equal a b))
+unfolding run-if kinds-fit value-kind
+ref-equal a b = run-if (kinds-fit (value-kind a) (value-kind b)) (running (equal a b))
 
 unfoldable pub ref-value : Spots → Store → Expression → Outcome Value
-unfolding with-found proceed run-if read-spot literal-value of-kind is-number are-numbers
+unfolding with-found proceed run-if read-spot literal-value operand-fits real-kind number-kind operands-fit value-kind
 ref-value sp s (literal l) = running (literal-value l)
 ref-value sp s (member n m) = with-found (sp (n .bytes) (m .bytes)) λ p. running (read-spot s p)
-ref-value sp s (to-real at a) = proceed (ref-value sp s a) λ x. run-if (of-kind Wholes x) (running (as-real x))
-ref-value sp s (negate at a) = proceed (ref-value sp s a) λ x. run-if (is-number x) (running (negated x))
+ref-value sp s (to-real at a) = proceed (ref-value sp s a) λ x. run-if (operand-fits real-kind (value-kind x)) (running (as-real x))
+ref-value sp s (negate at a) = proceed (ref-value sp s a) λ x. run-if (operand-fits number-kind (value-kind x)) (running (negated x))
 ref-value sp s (apply o at a b) =
     proceed (ref-value sp s a) λ x.
     proceed (ref-value sp s b) λ y.
-    run-if (are-numbers x y) (running (operated o x y))
+    run-if (operands-fit (value-kind x) (value-kind y)) (running (operated o x y))
 
 -- a member that is not of the sort wanted there is not found
 unfoldable pub with-sort : (Sort → Bool) → Option Spot → {B : Type 0} → (Spot → Outcome B) → Outcome B

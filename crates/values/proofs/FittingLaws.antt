@@ -1,6 +1,7 @@
 -- Values of one kind fit wherever they meet, and the numbers that a text can have are set.
 use mathlib.Core.Path.{_≡_, refl}
 use mathlib.Core.Bool.{true}
+use mathlib.Core.Option.{Option, none, some}
 use Prim.Native.Nat.{ℕ, _^_, _<_}
 use native.Mathlib.Omega.{arith}
 use lib.Dec.{T}
@@ -9,6 +10,7 @@ use lib.Signed.{mag}
 use lib.Ieee as Ieee
 use lib.Ieee.{Float, fin, binary64, ofInt}
 use lib.Ieee.Back.{positive-back}
+use lib.Ieee.Bits.{is-true}
 use borrow.Author.Tests.{le-leb, lt-ltb}
 use Rattle.values.specs.declared.Value.{Value}
 use Rattle.values.specs.declared.Value.the-variants.{Whole, Truth, Real, Unset}
@@ -16,32 +18,68 @@ use Rattle.values.specs.declared.Kind.{Kind}
 use Rattle.values.specs.declared.Kind.the-variants.{Wholes, Bools, Reals}
 use Rattle.values.specs.Value.{is-set, is-finite, fitted, settled}
 use Rattle.values.specs.Storable.{storable}
-use Rattle.values.proofs.StorableLaws.{is-numeric}
-use Rattle.values.specs.Fitting.{alike, is-number, are-numbers}
-use Rattle.values.specs.Forms.{unsigned-whole, negative-whole, truth-field, finite-real, kind-field, event-field}
+use Rattle.values.specs.Fitting.{same-kind, number-kind, operated-kind, has-kind, operand-fits, operands-fit, kinds-fit, value-kind}
+
+-- ---- one kind
+
+pub same-kind-self : (k : Kind) → same-kind k k ≡ true
+unfolding same-kind
+same-kind-self Wholes = refl
+same-kind-self Bools = refl
+same-kind-self Reals = refl
+
+pub same-kind-eq : (j k : Kind) → T (same-kind j k) → j ≡ k
+unfolding same-kind
+same-kind-eq Wholes Wholes h = refl
+same-kind-eq Bools Bools h = refl
+same-kind-eq Reals Reals h = refl
 
 -- ---- values of one kind fit
 
-pub storable-alike : (k : Kind) (a b : Value) → T (storable k a) → T (storable k b) → alike a b ≡ true
-unfolding storable alike
-storable-alike k Unset b h g = refl
-storable-alike Wholes (Whole x) (Whole y) h g = refl
-storable-alike Wholes (Whole x) Unset h g = refl
-storable-alike Bools (Truth x) (Truth y) h g = refl
-storable-alike Bools (Truth x) Unset h g = refl
-storable-alike Reals (Real x) (Real y) h g = refl
-storable-alike Reals (Real x) Unset h g = refl
+-- the kind of a value in a cell of kind k: k, or none
+data Held (k : Kind) : Option Kind → Type 0 where
+  of-cell : Held k (some k)
+  unset : Held k none
 
-pub storable-number : (k : Kind) (a : Value) → T (is-numeric k) → T (storable k a) → is-number a ≡ true
-unfolding storable is-number
-storable-number Wholes (Whole x) n h = refl
-storable-number Reals (Real x) n h = refl
-storable-number Wholes Unset n h = refl
-storable-number Reals Unset n h = refl
+held : (k : Kind) (v : Value) → T (storable k v) → Held k (value-kind v)
+unfolding storable value-kind
+held Wholes (Whole x) h = of-cell
+held Bools (Truth x) h = of-cell
+held Reals (Real x) h = of-cell
+held k Unset h = unset
 
-pub storable-numbers : (k : Kind) (a b : Value) → T (is-numeric k) → T (storable k a) → T (storable k b) → are-numbers a b ≡ true
-unfolding are-numbers
-storable-numbers k a b n h g = rw (storable-number k a n h, storable-number k b n g, storable-alike k a b h g)
+operated-alike : (k : Kind) → T (has-kind (number-kind k)) → has-kind (operated-kind k k) ≡ true
+unfolding operated-kind
+operated-alike k n = rw (same-kind-self k) (is-true (has-kind (number-kind k)) n)
+
+pub storable-kinds-fit : (k : Kind) (a b : Value) → T (storable k a) → T (storable k b) → kinds-fit (value-kind a) (value-kind b) ≡ true
+unfolding kinds-fit
+storable-kinds-fit k a b h g = go (held k a h) (held k b g)
+  where
+    go : {o p : Option Kind} → Held k o → Held k p → kinds-fit o p ≡ true
+    go of-cell of-cell = same-kind-self k
+    go of-cell unset = refl
+    go unset q = refl
+
+pub storable-operand-fits : (result : Kind → Option Kind) (k : Kind) (a : Value) → T (has-kind (result k)) → T (storable k a)
+    → operand-fits result (value-kind a) ≡ true
+unfolding operand-fits
+storable-operand-fits result k a n h = go (held k a h)
+  where
+    go : {o : Option Kind} → Held k o → operand-fits result o ≡ true
+    go of-cell = is-true (has-kind (result k)) n
+    go unset = refl
+
+pub storable-operands-fit : (k : Kind) (a b : Value) → T (has-kind (number-kind k)) → T (storable k a) → T (storable k b)
+    → operands-fit (value-kind a) (value-kind b) ≡ true
+unfolding operands-fit
+storable-operands-fit k a b n h g = go (held k a h) (held k b g)
+  where
+    go : {o p : Option Kind} → Held k o → Held k p → operands-fit o p ≡ true
+    go of-cell of-cell = operated-alike k n
+    go of-cell unset = operated-alike k n
+    go unset of-cell = operated-alike k n
+    go unset unset = refl
 
 -- ---- numbers of a text are set
 

@@ -11,7 +11,7 @@ use lib.Signed.{mag}
 use lib.ListN.{length, getD, drop}
 use lib.Ieee as Ieee
 use lib.Ieee.{Float, nan, inf, fin, binary64, fits, ofBits, isNan}
-use lib.Ieee.Fits.{and-r, add-fits, sub-fits, mul-fits, div-fits, neg-fits, ofInt-fits}
+use lib.Ieee.Fits.{and-i, and-l, and-r, add-fits, sub-fits, mul-fits, div-fits, neg-fits, ofInt-fits}
 use lib.Ieee.Bits.{ofBits-fits, ofBits-toBits, toBits-lt}
 use borrow.Author.Tests.{ltb-true, leb-true, lt-ltb}
 use Rattle.values.specs.declared.Value.{Value}
@@ -25,7 +25,8 @@ use Rattle.values.specs.declared.Number.the-variants.{Is, Not}
 use Rattle.values.specs.declared.Field.{Field}
 use Rattle.values.specs.declared.Field.the-variants.{Blank, Given, Malformed}
 use Rattle.values.specs.Value.{is-finite, is-zero, fitted, settled, whole-op, real-op, operated, negated, as-real}
-use Rattle.values.specs.Storable.{of-kind, storable}
+use Rattle.values.specs.Storable.{of-kind, in-range, storable}
+use Rattle.values.specs.Fitting.{number-kind, has-kind}
 use Rattle.values.specs.Bytes.{same-bytes}
 use Rattle.values.specs.Cells.{tag, payload, raised, finite-bits, unpacked, cell-bytes}
 use Rattle.values.specs.Forms.{dash, query, true-text, false-text, magnitude, scanned}
@@ -36,37 +37,22 @@ use Rattle.values.proofs.ByteLaws.{length-low-first}
 
 pub unset-storable : (k : Kind) → T (storable k Unset)
 unfolding storable
-unset-storable Wholes = tt
-unset-storable Bools = tt
-unset-storable Reals = tt
+unset-storable k = tt
 
 pub storable-of-kind : (k : Kind) (v : Value) → T (storable k v) → T (of-kind k v)
-unfolding storable of-kind
-storable-of-kind Wholes (Whole z) h = tt
-storable-of-kind Bools (Truth b) h = tt
-storable-of-kind Reals (Real x) h = tt
-storable-of-kind Wholes Unset h = tt
-storable-of-kind Bools Unset h = tt
-storable-of-kind Reals Unset h = tt
+unfolding storable
+storable-of-kind k v h = and-l (of-kind k v) (in-range v) h
 
 -- the kind of a cell does not matter to what a value of it must be
 pub storable-at-kind : (j k : Kind) (v : Value) → T (storable j v) → T (of-kind k v) → T (storable k v)
-unfolding storable of-kind
-storable-at-kind Wholes Wholes (Whole z) h o = h
-storable-at-kind j Bools (Truth b) h o = tt
-storable-at-kind Reals Reals (Real x) h o = h
-storable-at-kind j k Unset h o = unset-storable k
+unfolding storable
+storable-at-kind j k v h o = and-i (of-kind k v) (in-range v) o (and-r (of-kind j v) (in-range v) h)
 
 pub test-storable : (k : Kind) (b : Bool) (v : Value) → (b ≡ true → T (storable k v)) → T (storable k (cond b v Unset))
 test-storable k true v h = h refl
 test-storable k false v h = unset-storable k
 
 -- ---- operators
-
-abbrev pub is-numeric : Kind → Bool
-is-numeric Wholes = true
-is-numeric Bools = false
-is-numeric Reals = true
 
 whole-storable : (z : ℤ) → mag z < 2 ^ 31 → T (storable Wholes (Whole z))
 unfolding storable
@@ -98,8 +84,8 @@ real-op-storable Minus x y = settled-storable _ (sub-fits binary64 x y)
 real-op-storable Times x y = settled-storable _ (mul-fits binary64 x y)
 real-op-storable Divide x y = settled-storable _ (div-fits binary64 x y)
 
-pub operated-storable : (k : Kind) (op : Operator) (a b : Value) → T (is-numeric k) → T (storable k a) → T (storable k b) → T (storable k (operated op a b))
-unfolding storable
+pub operated-storable : (k : Kind) (op : Operator) (a b : Value) → T (has-kind (number-kind k)) → T (storable k a) → T (storable k b) → T (storable k (operated op a b))
+unfolding storable has-kind number-kind
 operated-storable Wholes op (Whole x) (Whole y) n h g = whole-op-storable op x y
 operated-storable Wholes op (Whole x) Unset n h g = tt
 operated-storable Reals op (Real x) (Real y) n h g = real-op-storable op x y
@@ -107,8 +93,8 @@ operated-storable Reals op (Real x) Unset n h g = tt
 operated-storable Wholes op Unset b n h g = tt
 operated-storable Reals op Unset b n h g = tt
 
-pub negated-storable : (k : Kind) (a : Value) → T (is-numeric k) → T (storable k a) → T (storable k (negated a))
-unfolding storable
+pub negated-storable : (k : Kind) (a : Value) → T (has-kind (number-kind k)) → T (storable k a) → T (storable k (negated a))
+unfolding storable has-kind number-kind
 negated-storable Wholes (Whole x) n h = fitted-storable (negℤ x)
 negated-storable Reals (Real x) n h = settled-storable (Ieee.neg x) (neg-fits binary64 x (and-r (is-finite x) (fits binary64 x) h))
 negated-storable Wholes Unset n h = tt

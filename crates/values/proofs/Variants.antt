@@ -50,9 +50,7 @@ by-kind P Reals ks o w b r = r (listed ks 2 o)
 
 pub unset-of-kind : (k : Kind) → true ≡ of-kind k Unset
 unfolding of-kind
-unset-of-kind Wholes = refl
-unset-of-kind Bools = refl
-unset-of-kind Reals = refl
+unset-of-kind k = refl
 
 pub differ-set : (a b : Value) → is-set a ≡ true → differ a b ≡ not (equal a b)
 unfolding is-set

@@ -1,6 +1,6 @@
 pub mod Bytes
 pub mod Value
-pub mod Storable
 pub mod Fitting
+pub mod Storable
 pub mod Cells
 pub mod Forms

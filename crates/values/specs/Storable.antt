@@ -1,41 +1,29 @@
 -- Which values a cell of a kind can hold.
 use Prim.Native.Nat.{ℕ, _^_}
-use mathlib.Core.Bool.{Bool, true, false, _&&_}
+use mathlib.Core.Bool.{Bool, true, _&&_}
+use mathlib.Core.Option.{some}
 use lib.Dec.{ltb}
 use lib.Signed.{mag}
 use lib.Ieee.{binary64, fits}
 use Rattle.values.specs.declared.Value.{Value}
 use Rattle.values.specs.declared.Value.the-variants.{Whole, Truth, Real, Unset}
 use Rattle.values.specs.declared.Kind.{Kind}
-use Rattle.values.specs.declared.Kind.the-variants.{Wholes, Bools, Reals}
 use Rattle.values.specs.Value.{is-finite}
+use Rattle.values.specs.Fitting.{kinds-fit, value-kind}
 
--- a value of the kind; "unset fits anywhere"
+-- a value of the kind, or unset, which "fits anywhere"
 unfoldable pub of-kind : Kind → Value → Bool
-of-kind Wholes (Whole z) = true
-of-kind Wholes (Truth b) = false
-of-kind Wholes (Real x) = false
-of-kind Wholes Unset = true
-of-kind Bools (Whole z) = false
-of-kind Bools (Truth b) = true
-of-kind Bools (Real x) = false
-of-kind Bools Unset = true
-of-kind Reals (Whole z) = false
-of-kind Reals (Truth b) = false
-of-kind Reals (Real x) = true
-of-kind Reals Unset = true
+unfolding kinds-fit value-kind
+of-kind k v = kinds-fit (some k) (value-kind v)
 
--- "every value of its cell's kind and every real finite": a whole of 32 bits, a bool, a finite binary64, or unset
+-- "`whole` (32 bits, signed)"; "every real finite", and of binary64
+unfoldable pub in-range : Value → Bool
+in-range (Whole z) = ltb (mag z) (2 ^ 31)
+in-range (Truth b) = true
+in-range (Real x) = is-finite x && fits binary64 x
+in-range Unset = true
+
+-- "every value of its cell's kind and every real finite"
 unfoldable pub storable : Kind → Value → Bool
-storable Wholes (Whole z) = ltb (mag z) (2 ^ 31)
-storable Wholes (Truth b) = false
-storable Wholes (Real x) = false
-storable Wholes Unset = true
-storable Bools (Whole z) = false
-storable Bools (Truth b) = true
-storable Bools (Real x) = false
-storable Bools Unset = true
-storable Reals (Whole z) = false
-storable Reals (Truth b) = false
-storable Reals (Real x) = is-finite x && fits binary64 x
-storable Reals Unset = true
+unfolding of-kind in-range
+storable k v = of-kind k v && in-range v
