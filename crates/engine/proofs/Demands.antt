@@ -14,7 +14,7 @@ use Rattle.cycles.specs.Cycle.{ref-fresh}
 use Rattle.cycles.specs.Row.{row}
 use Rattle.cycles.specs.StateImage.{state-of}
 use Rattle.cycles.specs.ClosedSet.{Closed}
-use Rattle.engine.specs.BenchImage.{BENCH, bench-of}
+use Rattle.engine.specs.BenchImage.{BENCH}
 use Rattle.engine.specs.Calls.{After-line, Check-contract, Fresh-contract, Line-contract, Header-contract, Row-contract}
 use Rattle.engine.specs.Runs.{Request, Run-start, Run, sight, ref-run, taken-lines}
 use Rattle.engine.specs.DemandOne.{number-of, CHECK-NUMBERS, FRESH-NUMBERS, LINE-NUMBERS, HEADER-NUMBERS, ROW-NUMBERS, Numbered}
@@ -47,8 +47,7 @@ pub record Demand-two : Type 0 where
       → (number-of r ≡ 0) ↔ Admitted text
   -- "each accepted line leaves the state and fires the actions that they define"
   pub follows : (bench state names values row new-state new-row : List ℕ) (r : ℕ) → Line-contract bench state names values row new-state new-row r
-      → (f : File) → bench-of bench ≡ some f → (s : State) → state-of f state ≡ some s
-      → number-of r ≡ 0 → Follows f s names values (record { answer = r; state = new-state; row = new-row })
+      → number-of r ≡ 0 → Follows bench state names values (record { answer = r; state = new-state; row = new-row })
   -- "a resent line changes nothing and gives its first row again"
   pub resent : (text : List ℕ) (f : File) → verdict text ≡ Verdict.accepted f
       → (bench state : List ℕ) → Run-start text bench state

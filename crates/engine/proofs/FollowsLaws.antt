@@ -7,7 +7,7 @@ use mathlib.Core.List.{List, [], _∷_, map}
 use mathlib.Core.Option.{Option, none, some}
 use lib.Dec.{T, ltb, eqb}
 use lib.ListN.{length, length-map, getElem?, take}
-use borrow.Author.Tests.{ltb-false, eqb-false}
+use borrow.Author.Tests.{ltb-false, le-ltb, eqb-false}
 use Rattle.values.specs.Forms.{magnitude, event-field, printed}
 use Rattle.values.proofs.PrintedReadsBack.{printed-reads-back, number-reads-back}
 use Rattle.text.specs.Syntax.{File}
@@ -27,7 +27,7 @@ use Rattle.cycles.proofs.AnswerLaws.{Has-number}
 use Rattle.cycles.proofs.ImageLaws.{state-decoded-sound}
 use Rattle.cycles.proofs.RowReads.{fired-text, row-fields, row-field, action-stands}
 use Rattle.engine.specs.BenchImage.{BENCH, bench-of}
-use Rattle.engine.specs.Calls.{ROW, row-answer, with-row, After-line, line-refused, line-call, Line-contract}
+use Rattle.engine.specs.Calls.{ROW, row-answer, with-row, After-line, line-refused, line-in-state, line-on-bench, line-call, Line-contract}
 use Rattle.engine.specs.Runs.{Request, machine-answer, given-by}
 use Rattle.engine.specs.DemandOne.{number-of}
 use Rattle.engine.specs.DemandTwo.{Follows, Reads-back}
@@ -90,15 +90,19 @@ module _ (bench state names values row : List ℕ) where
   unfolding line-call line-refused
   line-sizes h = sizes bench state row (λ (r : After-line). number-of (r .answer)) (line-refused 31 state row) _ refl h
 
-  module _ (f : File) (b : bench-of bench ≡ some f) (s : State) (e : state-of f state ≡ some s) where
-    follows : (a : Answer Line) → machine-answer f s request ≡ a → Has-number a → Answered f bench state s request reply a
-        → number-of (reply .answer) ≡ 0 → Follows f s names values reply
+  module _ (h : number-of (reply .answer) ≡ 0) where
+    follows : (f : File) → bench-of bench ≡ some f → (s : State) → state-of f state ≡ some s → (a : Answer Line) → machine-answer f s request ≡ a
+        → Has-number a → Answered f bench state s request reply a → Follows bench state names values reply
     unfolding given-by
-    follows (refused code) q n g h =
+    follows f b s e (refused code) q n g =
         let z : code % 256 ≡ 0 = ap number-of (sym (g .answer-is)) ∙ h in absurd (eqb-false (code % 256) 0 n z)
-    follows (accepted l) q n g h = record {
+    follows f b s e (accepted l) q n g = record {
+      file = f;
+      before = s;
       taken = l;
       after = follow f s l;
+      is-bench = b;
+      is-state = e;
       is-taken = answer-line f s request q;
       runs = g .runs;
       leaves = g .gives .stands .state-is;
@@ -106,18 +110,42 @@ module _ (bench state names values row : List ℕ) where
           ap₂ (λ (k : ℕ) (m : List ℕ). take (k / 256) m) (g .gives .answer-is) (g .gives .row-is) ∙ given-read (Rows.row f (follow f s l)) row;
     }
 
-    call-follows : number-of (reply .answer) ≡ 0 → Follows f s names values reply
-    call-follows h =
+    in-state : (f : File) → bench-of bench ≡ some f → (s : State) → state-of f state ≡ some s → Follows bench state names values reply
+    in-state f b s e =
         let t = bench-accepted bench b in
         let st = stands bench state row f s (line-sizes h) b e in
-        follows (machine-answer f s request) refl (answer-number f s request)
-        (call-gives f (accepted-verdict (t .text) (t .is-accepted)) bench state s st request) h
+        follows f b s e (machine-answer f s request) refl (answer-number f s request)
+        (call-gives f (accepted-verdict (t .text) (t .is-accepted)) bench state s st request)
+
+    -- the call as it stands where the sizes do
+    on-bench : reply ≡ line-on-bench (bench-of bench) state names values row
+    unfolding line-call
+    on-bench =
+        let z = line-sizes h in
+        rw (le-ltb (length bench) BENCH (z .bench-size), le-ltb (length state) STATE (z .state-size), le-ltb (length row) ROW (z .row-size), line-call)
+
+    by-state : (f : File) → bench-of bench ≡ some f → (o : Option State) → state-of f state ≡ o → Follows bench state names values reply
+    unfolding line-on-bench line-in-state line-refused
+    by-state f b none e =
+        let i : reply ≡ line-refused 33 state row =
+        on-bench ∙ ap (λ (o : Option File). line-on-bench o state names values row) b ∙ ap (λ (o : Option State). line-in-state f o state names values row) e in
+        let c : reply .answer ≡ 33 = ap (λ (x : After-line). x .answer) i in
+        absurd (omega arith)
+    by-state f b (some s) e = in-state f b s e
+
+    by-bench : (o : Option File) → bench-of bench ≡ o → Follows bench state names values reply
+    unfolding line-on-bench line-refused
+    by-bench none e =
+        let i : reply ≡ line-refused 32 state row = on-bench ∙ ap (λ (o : Option File). line-on-bench o state names values row) e in
+        let c : reply .answer ≡ 32 = ap (λ (x : After-line). x .answer) i in
+        absurd (omega arith)
+    by-bench (some f) e = by-state f e (state-of f state) refl
 
 pub line-follows : (bench state names values row new-state new-row : List ℕ) (r : ℕ) → Line-contract bench state names values row new-state new-row r
-    → (f : File) → bench-of bench ≡ some f → (s : State) → state-of f state ≡ some s
-    → number-of r ≡ 0 → Follows f s names values (record { answer = r; state = new-state; row = new-row })
-line-follows bench state names values row new-state new-row r c f b s e =
-    subst (λ (x : After-line). number-of (x .answer) ≡ 0 → Follows f s names values x) (sym c) (call-follows bench state names values row f b s e)
+    → number-of r ≡ 0 → Follows bench state names values (record { answer = r; state = new-state; row = new-row })
+line-follows bench state names values row new-state new-row r c =
+    subst (λ (x : After-line). number-of (x .answer) ≡ 0 → Follows bench state names values x) (sym c)
+    (λ h. by-bench bench state names values row h (bench-of bench) refl)
 
 -- ---- a row
 

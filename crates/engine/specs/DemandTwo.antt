@@ -16,18 +16,23 @@ use Rattle.cycles.specs.Line.{accepted, line}
 use Rattle.cycles.specs.Row.{action-cells, row}
 use Rattle.cycles.specs.StateImage.{state-of}
 use Rattle.cycles.specs.ClosedSet.{Among}
+use Rattle.engine.specs.BenchImage.{bench-of}
 use Rattle.engine.specs.Calls.{After-line}
 use Rattle.engine.specs.Runs.{given-by, Taken}
 
--- "each accepted line leaves the state and fires the actions" of the machine: `line` is taken in state s, the machine goes on to `after`, the
--- memory left stands for it, and its row is what the call gave
-pub record Follows (f : File) (s : State) (names values : List ℕ) (r : After-line) : Type 0 where
+-- "each accepted line leaves the state and fires the actions that they define": the memory lent stands for a bench file and a state of it, in
+-- which document 01 accepts the line; the machine goes on from there, the memory left stands for its state, and the call gave its row
+pub record Follows (bench state names values : List ℕ) (r : After-line) : Type 0 where
+  pub file : File
+  pub before : State
   pub taken : Line
   pub after : State
-  pub is-taken : line f s names values ≡ accepted taken
-  pub runs : ref-follow f s taken ≡ running after
-  pub leaves : state-of f (r .state) ≡ some after
-  pub fires : given-by r ≡ row f after
+  pub is-bench : bench-of bench ≡ some file
+  pub is-state : state-of file state ≡ some before
+  pub is-taken : line file before names values ≡ accepted taken
+  pub runs : ref-follow file before taken ≡ running after
+  pub leaves : state-of file (r .state) ≡ some after
+  pub fires : given-by r ≡ row file after
 
 -- of two accepted lines of a run with one number: the later one leaves the state's bytes, and gives the row that the earlier one gave
 pub record Given-again (x y : Taken) : Type 0 where
