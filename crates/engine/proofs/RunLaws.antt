@@ -44,6 +44,7 @@ use Rattle.engine.specs.Runs.{
   ref-run,
   given-by,
   Taken,
+  said-line,
   taken-if,
   taken-lines,
 }
@@ -226,7 +227,7 @@ module _ (f : File) (ok : file-verdict f ≡ Verdict.accepted f) (b : List ℕ) 
 
   -- the accepted lines of a run
   replies-chain : (qs : List Request) (m : List ℕ) (s : State) → Stands-for f b m s → Chain f s (taken-lines f m qs (replies b m qs))
-  unfolding taken-lines replies taken-if given-by
+  unfolding taken-lines replies taken-if said-line given-by
   replies-chain [] m s st = tt
   replies-chain (q ∷ qs) m s st =
       let r = line-call b m (q .names) (q .values) (q .row) in
@@ -234,7 +235,7 @@ module _ (f : File) (ok : file-verdict f ≡ Verdict.accepted f) (b : List ℕ) 
     where
       go : (r : After-line) (a : Answer Line) → machine-answer f s q ≡ a → Has-number a → Answered f b m s q r a
           → ((t : State) → Stands-for f b (r .state) t → Chain f t (taken-lines f (r .state) qs (replies b (r .state) qs)))
-          → Chain f s (taken-if (eqb (r .answer % 256) 0) (reading f (q .names) (q .values)) m r ++ taken-lines f (r .state) qs (replies b (r .state) qs))
+          → Chain f s (taken-if (eqb (r .answer % 256) 0) (said-line (reading f (q .names) (q .values))) m r ++ taken-lines f (r .state) qs (replies b (r .state) qs))
       go r (refused code) e n h later = rw (h .answer-is, n) (later s (h .stands))
       go r (accepted l) e n h later =
           let t = line-read f s (q .names) (q .values) (answer-line f s q e) in

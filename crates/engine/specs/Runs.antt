@@ -9,6 +9,7 @@ use Rattle.text.specs.Syntax.{File}
 use Rattle.cycles.specs.Outcome.{Outcome, running, proceed}
 use Rattle.cycles.specs.Store.{State, Line}
 use Rattle.cycles.specs.Cycle.{ref-follow}
+use Rattle.cycles.specs.Record.{inputs-of}
 use Rattle.cycles.specs.Line.{Answer, refused, accepted, Reading, reading, line-of, line}
 use Rattle.cycles.specs.Row.{row}
 use Rattle.cycles.specs.StateImage.{STATE, state-of}
@@ -93,16 +94,20 @@ pub record Taken : Type 0 where
   pub before : List ℕ
   pub reply : After-line
 
-unfoldable pub taken-if : Bool → Answer Reading → List ℕ → After-line → List Taken
-unfolding line-of
-taken-if false a before r = []
-taken-if true (refused code) before r = []
-taken-if true (accepted l) before r = record { line = line-of l; before = before; reply = r } ∷ []
+-- what header and record say; of an accepted line they always say something
+unfoldable pub said-line : Answer Reading → Line
+unfolding line-of inputs-of
+said-line (refused code) = record { number = 0; inputs = inputs-of [] }
+said-line (accepted r) = line-of r
+
+unfoldable pub taken-if : Bool → Line → List ℕ → After-line → List Taken
+taken-if false l before r = []
+taken-if true l before r = record { line = l; before = before; reply = r } ∷ []
 
 -- the accepted lines of a run from this memory of the state: those whose answer has the number 0
 unfoldable pub taken-lines : File → List ℕ → List Request → List After-line → List Taken
-unfolding taken-if reading
+unfolding taken-if said-line reading
 taken-lines f state [] rs = []
 taken-lines f state (q ∷ qs) [] = []
 taken-lines f state (q ∷ qs) (r ∷ rs) =
-    taken-if (eqb (r .answer % 256) 0) (reading f (q .names) (q .values)) state r ++ taken-lines f (r .state) qs rs
+    taken-if (eqb (r .answer % 256) 0) (said-line (reading f (q .names) (q .values))) state r ++ taken-lines f (r .state) qs rs
