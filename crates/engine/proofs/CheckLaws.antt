@@ -38,10 +38,10 @@ unfolding verdict-answer
 accepts-admitted text (Verdict.accepted f) e p h = accepted-admitted text f e
 accepts-admitted text (Verdict.refused code at) e p h = let l = p .0 in let z = p .1 in absurd (omega arith)
 
-pub check-admits : (text bench new-bench : List ℕ) (r : ℕ) → BENCH ≤ length bench → Check-contract text bench new-bench r
+pub check-admits : (text bench new-bench : List ℕ) (r : ℕ) → Check-contract text bench new-bench r → BENCH ≤ length bench
     → (number-of r ≡ 0) ↔ Admitted text
 unfolding verdict-answer
-check-admits text bench new-bench r h c =
+check-admits text bench new-bench r c h =
     let e : r ≡ verdict-answer (verdict text) = ap (λ (x : After-check). x .answer) c ∙ check-answer text bench h in (
       λ n. accepts-admitted text (verdict text) refl (some-code text) (ap number-of (sym e) ∙ n),
       λ a. let (f, v) = admitted-accepted text a in ap number-of (e ∙ ap verdict-answer v),

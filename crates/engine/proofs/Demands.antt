@@ -12,17 +12,17 @@ use Rattle.cycles.specs.Outcome.{running, proceed}
 use Rattle.cycles.specs.Store.{State}
 use Rattle.cycles.specs.Cycle.{ref-fresh}
 use Rattle.cycles.specs.Row.{row}
-use Rattle.cycles.specs.StateImage.{state-of}
+use Rattle.cycles.specs.StateImage.{STATE, state-of}
 use Rattle.cycles.specs.ClosedSet.{Closed}
 use Rattle.engine.specs.BenchImage.{BENCH}
-use Rattle.engine.specs.Calls.{After-line, Check-contract, Fresh-contract, Line-contract, Header-contract, Row-contract}
+use Rattle.engine.specs.Calls.{ROW, After-line, Check-contract, Fresh-contract, Line-contract, Header-contract, Row-contract}
 use Rattle.engine.specs.Runs.{Request, Run-start, Run, sight, ref-run, taken-lines}
 use Rattle.engine.specs.DemandOne.{number-of, CHECK-NUMBERS, FRESH-NUMBERS, LINE-NUMBERS, HEADER-NUMBERS, ROW-NUMBERS, Numbered}
-use Rattle.engine.specs.DemandTwo.{Follows, Resent, Reads-back}
+use Rattle.engine.specs.DemandTwo.{Freshens, Follows, Names, Shows, Resent, Reads-back}
 use Rattle.engine.specs.DemandThree.{Same-lines, Same-values, Side-by-side}
 use Rattle.engine.proofs.NumberLaws.{check-numbered, fresh-numbered, line-numbered, header-numbered, row-numbered}
 use Rattle.engine.proofs.CheckLaws.{check-admits}
-use Rattle.engine.proofs.FollowsLaws.{line-follows, row-reads-back}
+use Rattle.engine.proofs.FollowsLaws.{fresh-freshens, line-follows, header-names, row-shows, row-reads-back}
 use Rattle.engine.proofs.RunLaws.{run-stays, runs-apart, run-resent}
 
 -- "Any text as bench file or readings, any memory as bench or state: an acceptance or a numbered refusal, always; a refusal changes no lent byte."
@@ -43,23 +43,43 @@ demand-one = record { check = check-numbered; fresh = fresh-numbered; line = lin
 
 pub record Demand-two : Type 0 where
   -- "A bench file is accepted exactly when the documents admit it"
-  pub admits : (text bench new-bench : List ℕ) (r : ℕ) → BENCH ≤ length bench → Check-contract text bench new-bench r
+  pub admits : (text bench new-bench : List ℕ) (r : ℕ) → Check-contract text bench new-bench r
+      → BENCH ≤ length bench
       → (number-of r ≡ 0) ↔ Admitted text
-  -- "each accepted line leaves the state and fires the actions that they define"
+  -- "each accepted line leaves the state and fires the actions that they define", and each line is accepted that they accept
   pub follows : (bench state names values row new-state new-row : List ℕ) (r : ℕ) → Line-contract bench state names values row new-state new-row r
-      → number-of r ≡ 0 → Follows bench state names values (record { answer = r; state = new-state; row = new-row })
+      → BENCH ≤ length bench → STATE ≤ length state → ROW ≤ length row
+      → (number-of r ≡ 0) ↔ Follows bench state names values (record { answer = r; state = new-state; row = new-row })
+  -- the same of the other calls on a bench: the fresh state, the row of names, the row of a state
+  pub freshens : (bench state new-state : List ℕ) (r : ℕ) → Fresh-contract bench state new-state r
+      → BENCH ≤ length bench → STATE ≤ length state
+      → (number-of r ≡ 0) ↔ Freshens bench new-state
+  pub names : (bench row new-row : List ℕ) (r : ℕ) → Header-contract bench row new-row r
+      → BENCH ≤ length bench → ROW ≤ length row
+      → (number-of r ≡ 0) ↔ Names bench r new-row
+  pub shows : (bench state row new-row : List ℕ) (r : ℕ) → Row-contract bench state row new-row r
+      → BENCH ≤ length bench → STATE ≤ length state → ROW ≤ length row
+      → (number-of r ≡ 0) ↔ Shows bench state r new-row
   -- "a resent line changes nothing and gives its first row again"
   pub resent : (text : List ℕ) (f : File) → verdict text ≡ Verdict.accepted f
       → (bench state : List ℕ) → Run-start text bench state
       → (qs : List Request) (rs : List After-line) → Run bench state qs rs
       → Resent (taken-lines f state qs rs)
-  -- "every printed value reads back as itself": the row of any state, which is what `follows` and the contract of the row call give
+  -- "every printed value reads back as itself": the row of any state, which is what `follows` and `shows` say is given
   pub reads-back : (text : List ℕ) (f : File) → verdict text ≡ Verdict.accepted f
       → (m : List ℕ) (s : State) → state-of f m ≡ some s
       → Reads-back f s (row f s)
 
 pub demand-two : Demand-two
-demand-two = record { admits = check-admits; follows = line-follows; resent = run-resent; reads-back = row-reads-back }
+demand-two = record {
+  admits = check-admits;
+  follows = line-follows;
+  freshens = fresh-freshens;
+  names = header-names;
+  shows = row-shows;
+  resent = run-resent;
+  reads-back = row-reads-back;
+}
 
 -- "a single claim about whole lists and not one for each call"
 pub record Demand-three : Type 1 where

@@ -1,13 +1,12 @@
--- What an accepted line leaves and gives, and how a row reads back.
+-- What accepted calls leave and give, and how a row reads back.
 use Prim.Native.Nat.{ℕ, zero, suc, _%_, _/_, _≤_, _<_}
 use native.Mathlib.Omega.{arith}
+use mathlib.Core.Logic.{_↔_}
 use mathlib.Core.Path.{_≡_, refl, sym, ap, ap₂, _∙_, subst}
-use mathlib.Core.Bool.{Bool, true, false, _||_}
 use mathlib.Core.List.{List, [], _∷_, map}
 use mathlib.Core.Option.{Option, none, some}
-use lib.Dec.{T, ltb, eqb}
 use lib.ListN.{length, length-map, getElem?, take}
-use borrow.Author.Tests.{ltb-false, le-ltb, eqb-false}
+use borrow.Author.Tests.{le-ltb, eqb-false}
 use Rattle.values.specs.Forms.{magnitude, event-field, printed}
 use Rattle.values.proofs.PrintedReadsBack.{printed-reads-back, number-reads-back}
 use Rattle.text.specs.Syntax.{File}
@@ -20,132 +19,236 @@ use Rattle.cycles.specs.Spots.{Spot}
 use Rattle.cycles.specs.Cycle.{follow}
 use Rattle.cycles.specs.Line.{Answer, refused, accepted, MOST-LINES}
 use Rattle.cycles.specs.Row as Rows
-use Rattle.cycles.specs.Row.{action-cells}
+use Rattle.cycles.specs.Row.{action-cells, row-header}
 use Rattle.cycles.specs.StateImage.{STATE, state-of}
 use Rattle.cycles.specs.SoundState.{Sound-state}
 use Rattle.cycles.proofs.AnswerLaws.{Has-number}
 use Rattle.cycles.proofs.ImageLaws.{state-decoded-sound}
 use Rattle.cycles.proofs.RowReads.{fired-text, row-fields, row-field, action-stands}
 use Rattle.engine.specs.BenchImage.{BENCH, bench-of}
-use Rattle.engine.specs.Calls.{ROW, row-answer, with-row, After-line, line-refused, line-in-state, line-on-bench, line-call, Line-contract}
-use Rattle.engine.specs.Runs.{Request, machine-answer, given-by}
+use Rattle.engine.specs.Calls.{
+  ROW,
+  row-answer,
+  with-row,
+  After-fresh,
+  freshened,
+  fresh-call,
+  After-line,
+  line-refused,
+  line-in-state,
+  line-on-bench,
+  line-call,
+  After-row,
+  row-written,
+  header-on-bench,
+  header-call,
+  row-in-state,
+  row-on-bench,
+  row-call,
+  Fresh-contract,
+  Line-contract,
+  Header-contract,
+  Row-contract,
+}
+use Rattle.engine.specs.Runs.{Request, machine-answer, given, given-by}
 use Rattle.engine.specs.DemandOne.{number-of}
-use Rattle.engine.specs.DemandTwo.{Follows, Reads-back}
+use Rattle.engine.specs.DemandTwo.{Freshens, Follows, Names, Shows, Reads-back}
 use Rattle.engine.proofs.BenchLaws.{bench-accepted}
 use Rattle.engine.proofs.CallLaws.{Stands-for, Answered, answer-line, answer-number, given-read}
 use Rattle.engine.proofs.RunLaws.{call-gives}
+use Rattle.engine.proofs.ImageRoundTrip.{image-round-trip}
 
--- ---- sizes: an answer whose number is 0 is no 31
-
-large : (n bound : ℕ) → ltb n bound ≡ false → bound ≤ n
-large n bound h = ltb-false n bound h
-
--- memory of the stated sizes at least
-pub record Sizes (bench state row : List ℕ) : Type 0 where
-  pub bench-size : BENCH ≤ length bench
-  pub state-size : STATE ≤ length state
-  pub row-size : ROW ≤ length row
-
-module _ (bench state row : List ℕ) where
-  sizes : {A : Type 0} (number : A → ℕ) (short : A) (otherwise : A) → number short ≡ 31
-      → number (elim (ltb (length bench) BENCH || ltb (length state) STATE || ltb (length row) ROW) [ true ↦ short | false ↦ otherwise ]) ≡ 0
-      → Sizes bench state row
-  sizes number short otherwise e h =
-      go (ltb (length bench) BENCH) refl (ltb (length state) STATE) refl (ltb (length row) ROW) refl h
-    where
-      go : (a : Bool) → ltb (length bench) BENCH ≡ a → (b : Bool) → ltb (length state) STATE ≡ b → (c : Bool) → ltb (length row) ROW ≡ c
-          → number (elim (a || b || c) [ true ↦ short | false ↦ otherwise ]) ≡ 0 → Sizes bench state row
-      go true p b q c r k = absurd (omega arith)
-      go false p true q c r k = absurd (omega arith)
-      go false p false q true r k = absurd (omega arith)
-      go false p false q false r k = record {
-        bench-size = large (length bench) BENCH p;
-        state-size = large (length state) STATE q;
-        row-size = large (length row) ROW r;
-      }
-
--- memory that stands for a bench and a state of it is sound
-stands : (bench state row : List ℕ) (f : File) (s : State) → Sizes bench state row → bench-of bench ≡ some f → state-of f state ≡ some s
+-- memory of the stated sizes that stands for a bench and a state of it is sound
+stands : (bench state : List ℕ) (f : File) (s : State) → BENCH ≤ length bench → STATE ≤ length state → bench-of bench ≡ some f → state-of f state ≡ some s
     → Stands-for f bench state s
-stands bench state row f s z b e =
+stands bench state f s h g b e =
     let t = bench-accepted bench b in
     record {
-      bench-size = z .bench-size;
+      bench-size = h;
       bench-is = b;
-      state-size = z .state-size;
+      state-size = g;
       state-is = e;
       sound-is = state-decoded-sound f (within-counts f (accepted-verdict (t .text) (t .is-accepted))) state s e;
     }
 
--- ---- an accepted line
+-- no refusal has the number 0
+not-zero : (code : ℕ) {n : ℕ} → n ≡ code → number-of n ≡ 0 → (number-of code ≡ 0 → ⊥) → ⊥
+not-zero code e h never = never (ap number-of (sym e) ∙ h)
 
-module _ (bench state names values row : List ℕ) where
+row-zero : (g : List ℕ) → number-of (row-answer g) ≡ 0
+row-zero g = omega arith
+
+-- ---- the line call
+
+module _ (bench state names values row : List ℕ) (h : BENCH ≤ length bench) (g : STATE ≤ length state) (w : ROW ≤ length row) where
   abbrev request : Request
   request = record { names = names; values = values; row = row }
 
   abbrev reply : After-line
   reply = line-call bench state names values row
 
-  line-sizes : number-of (reply .answer) ≡ 0 → Sizes bench state row
-  unfolding line-call line-refused
-  line-sizes h = sizes bench state row (λ (r : After-line). number-of (r .answer)) (line-refused 31 state row) _ refl h
+  answered : (f : File) → bench-of bench ≡ some f → (s : State) → state-of f state ≡ some s
+      → Answered f bench state s request reply (machine-answer f s request)
+  answered f b s e =
+      let t = bench-accepted bench b in
+      call-gives f (accepted-verdict (t .text) (t .is-accepted)) bench state s (stands bench state f s h g b e) request
 
-  module _ (h : number-of (reply .answer) ≡ 0) where
-    follows : (f : File) → bench-of bench ≡ some f → (s : State) → state-of f state ≡ some s → (a : Answer Line) → machine-answer f s request ≡ a
-        → Has-number a → Answered f bench state s request reply a → Follows bench state names values reply
-    unfolding given-by
-    follows f b s e (refused code) q n g =
-        let z : code % 256 ≡ 0 = ap number-of (sym (g .answer-is)) ∙ h in absurd (eqb-false (code % 256) 0 n z)
-    follows f b s e (accepted l) q n g = record {
-      file = f;
-      before = s;
-      taken = l;
-      after = follow f s l;
-      is-bench = b;
-      is-state = e;
-      is-taken = answer-line f s request q;
-      runs = g .runs;
-      leaves = g .gives .stands .state-is;
-      fires =
-          ap₂ (λ (k : ℕ) (m : List ℕ). take (k / 256) m) (g .gives .answer-is) (g .gives .row-is) ∙ given-read (Rows.row f (follow f s l)) row;
-    }
+  by-answer : (f : File) → bench-of bench ≡ some f → (s : State) → state-of f state ≡ some s → number-of (reply .answer) ≡ 0
+      → (a : Answer Line) → machine-answer f s request ≡ a → Has-number a → Answered f bench state s request reply a
+      → Follows bench state names values reply
+  unfolding given-by given
+  by-answer f b s e z (refused code) q n k =
+      let y : code % 256 ≡ 0 = ap number-of (sym (k .answer-is)) ∙ z in absurd (eqb-false (code % 256) 0 n y)
+  by-answer f b s e z (accepted l) q n k = record {
+    file = f;
+    before = s;
+    taken = l;
+    after = follow f s l;
+    is-bench = b;
+    is-state = e;
+    is-taken = answer-line f s request q;
+    runs = k .runs;
+    leaves = k .gives .stands .state-is;
+    fires = ap₂ (λ (n : ℕ) (m : List ℕ). take (n / 256) m) (k .gives .answer-is) (k .gives .row-is) ∙ given-read (Rows.row f (follow f s l)) row;
+  }
 
-    in-state : (f : File) → bench-of bench ≡ some f → (s : State) → state-of f state ≡ some s → Follows bench state names values reply
-    in-state f b s e =
-        let t = bench-accepted bench b in
-        let st = stands bench state row f s (line-sizes h) b e in
-        follows f b s e (machine-answer f s request) refl (answer-number f s request)
-        (call-gives f (accepted-verdict (t .text) (t .is-accepted)) bench state s st request)
+  on-bench : reply ≡ line-on-bench (bench-of bench) state names values row
+  unfolding line-call
+  on-bench = rw (le-ltb (length bench) BENCH h, le-ltb (length state) STATE g, le-ltb (length row) ROW w, line-call)
 
-    -- the call as it stands where the sizes do
-    on-bench : reply ≡ line-on-bench (bench-of bench) state names values row
-    unfolding line-call
-    on-bench =
-        let z = line-sizes h in
-        rw (le-ltb (length bench) BENCH (z .bench-size), le-ltb (length state) STATE (z .state-size), le-ltb (length row) ROW (z .row-size), line-call)
+  by-state : number-of (reply .answer) ≡ 0 → (f : File) → bench-of bench ≡ some f → (o : Option State) → state-of f state ≡ o
+      → Follows bench state names values reply
+  unfolding line-on-bench line-in-state line-refused
+  by-state z f b none e =
+      let i : reply ≡ line-refused 33 state row =
+      on-bench ∙ ap (λ (o : Option File). line-on-bench o state names values row) b ∙ ap (λ (o : Option State). line-in-state f o state names values row) e in
+      absurd (not-zero 33 (ap (λ (x : After-line). x .answer) i) z (λ n. omega arith))
+  by-state z f b (some s) e = by-answer f b s e z (machine-answer f s request) refl (answer-number f s request) (answered f b s e)
 
-    by-state : (f : File) → bench-of bench ≡ some f → (o : Option State) → state-of f state ≡ o → Follows bench state names values reply
-    unfolding line-on-bench line-in-state line-refused
-    by-state f b none e =
-        let i : reply ≡ line-refused 33 state row =
-        on-bench ∙ ap (λ (o : Option File). line-on-bench o state names values row) b ∙ ap (λ (o : Option State). line-in-state f o state names values row) e in
-        let c : reply .answer ≡ 33 = ap (λ (x : After-line). x .answer) i in
-        absurd (omega arith)
-    by-state f b (some s) e = in-state f b s e
+  by-bench : number-of (reply .answer) ≡ 0 → (o : Option File) → bench-of bench ≡ o → Follows bench state names values reply
+  unfolding line-on-bench line-refused
+  by-bench z none e =
+      let i : reply ≡ line-refused 32 state row = on-bench ∙ ap (λ (o : Option File). line-on-bench o state names values row) e in
+      absurd (not-zero 32 (ap (λ (x : After-line). x .answer) i) z (λ n. omega arith))
+  by-bench z (some f) e = by-state z f e (state-of f state) refl
 
-    by-bench : (o : Option File) → bench-of bench ≡ o → Follows bench state names values reply
-    unfolding line-on-bench line-refused
-    by-bench none e =
-        let i : reply ≡ line-refused 32 state row = on-bench ∙ ap (λ (o : Option File). line-on-bench o state names values row) e in
-        let c : reply .answer ≡ 32 = ap (λ (x : After-line). x .answer) i in
-        absurd (omega arith)
-    by-bench (some f) e = by-state f e (state-of f state) refl
+  taken-answer : (x : After-line) → Follows bench state names values x → number-of (reply .answer) ≡ 0
+  unfolding machine-answer
+  taken-answer x k =
+      let q : machine-answer (k .file) (k .before) request ≡ accepted (k .taken) = rw (le-ltb (length row) ROW w, machine-answer) (k .is-taken) in
+      let i : Answered (k .file) bench state (k .before) request reply (accepted (k .taken)) =
+      subst (Answered (k .file) bench state (k .before) request reply) q (answered (k .file) (k .is-bench) (k .before) (k .is-state)) in
+      ap number-of (i .gives .answer-is) ∙ row-zero (Rows.row (k .file) (follow (k .file) (k .before) (k .taken)))
 
 pub line-follows : (bench state names values row new-state new-row : List ℕ) (r : ℕ) → Line-contract bench state names values row new-state new-row r
-    → number-of r ≡ 0 → Follows bench state names values (record { answer = r; state = new-state; row = new-row })
-line-follows bench state names values row new-state new-row r c =
-    subst (λ (x : After-line). number-of (x .answer) ≡ 0 → Follows bench state names values x) (sym c)
-    (λ h. by-bench bench state names values row h (bench-of bench) refl)
+    → BENCH ≤ length bench → STATE ≤ length state → ROW ≤ length row
+    → (number-of r ≡ 0) ↔ Follows bench state names values (record { answer = r; state = new-state; row = new-row })
+line-follows bench state names values row new-state new-row r c h g w =
+    subst (λ (x : After-line). (number-of (x .answer) ≡ 0) ↔ Follows bench state names values x) (sym c) (
+      λ z. by-bench bench state names values row h g w z (bench-of bench) refl,
+      taken-answer bench state names values row h g w (line-call bench state names values row),
+    )
+
+-- ---- the fresh state
+
+fresh-is : (bench state : List ℕ) → BENCH ≤ length bench → STATE ≤ length state → fresh-call bench state ≡ freshened (bench-of bench) state
+unfolding fresh-call
+fresh-is bench state h g = rw (le-ltb (length bench) BENCH h, le-ltb (length state) STATE g, fresh-call)
+
+pub fresh-freshens : (bench state new-state : List ℕ) (r : ℕ) → Fresh-contract bench state new-state r
+    → BENCH ≤ length bench → STATE ≤ length state
+    → (number-of r ≡ 0) ↔ Freshens bench new-state
+unfolding freshened
+fresh-freshens bench state new-state r c h g =
+    let i : record { answer = r; state = new-state } ≡ freshened (bench-of bench) state = c ∙ fresh-is bench state h g in
+    (λ z. by-bench z (bench-of bench) refl, λ k. ap number-of (ap (λ (x : After-fresh). x .answer) (i ∙ ap (λ (o : Option File). freshened o state) (k .is-bench))))
+  where
+    by-bench : number-of r ≡ 0 → (o : Option File) → bench-of bench ≡ o → Freshens bench new-state
+    by-bench z none e =
+        let i : record { answer = r; state = new-state } ≡ freshened none state = c ∙ fresh-is bench state h g ∙ ap (λ (o : Option File). freshened o state) e in
+        absurd (not-zero 32 (ap (λ (x : After-fresh). x .answer) i) z (λ n. omega arith))
+    by-bench z (some f) e = record {
+      file = f;
+      is-bench = e;
+      leaves = ap (λ (x : After-fresh). state-of f (x .state)) c ∙ image-round-trip .fresh bench state f h g e;
+    }
+
+-- ---- rows
+
+written-given : (g m : List ℕ) → given (row-written g m .answer) (row-written g m .row) ≡ g
+unfolding given row-written
+written-given g m = given-read g m
+
+header-is : (bench row : List ℕ) → BENCH ≤ length bench → ROW ≤ length row → header-call bench row ≡ header-on-bench (bench-of bench) row
+unfolding header-call
+header-is bench row h w = rw (le-ltb (length bench) BENCH h, le-ltb (length row) ROW w, header-call)
+
+module _ (bench row : List ℕ) (h : BENCH ≤ length bench) (w : ROW ≤ length row) where
+  names-by : (x : After-row) → x ≡ header-on-bench (bench-of bench) row → number-of (x .answer) ≡ 0 → (o : Option File) → bench-of bench ≡ o
+      → Names bench (x .answer) (x .row)
+  unfolding header-on-bench
+  names-by x c z none e =
+      let i : x ≡ header-on-bench none row = c ∙ ap (λ (o : Option File). header-on-bench o row) e in
+      absurd (not-zero 32 (ap (λ (y : After-row). y .answer) i) z (λ n. omega arith))
+  names-by x c z (some f) e =
+      let i : x ≡ header-on-bench (some f) row = c ∙ ap (λ (o : Option File). header-on-bench o row) e in
+      record { file = f; is-bench = e; gives = ap (λ (y : After-row). given (y .answer) (y .row)) i ∙ written-given (row-header f) row }
+
+  named-answer : (x : After-row) → x ≡ header-on-bench (bench-of bench) row → Names bench (x .answer) (x .row) → number-of (x .answer) ≡ 0
+  unfolding header-on-bench row-written
+  named-answer x c k =
+      let i : x ≡ header-on-bench (some (k .file)) row = c ∙ ap (λ (o : Option File). header-on-bench o row) (k .is-bench) in
+      ap (λ (y : After-row). number-of (y .answer)) i ∙ row-zero (row-header (k .file))
+
+pub header-names : (bench row new-row : List ℕ) (r : ℕ) → Header-contract bench row new-row r
+    → BENCH ≤ length bench → ROW ≤ length row
+    → (number-of r ≡ 0) ↔ Names bench r new-row
+header-names bench row new-row r c h w =
+    let x : After-row = record { answer = r; row = new-row } in
+    let i : x ≡ header-on-bench (bench-of bench) row = c ∙ header-is bench row h w in
+    (λ z. names-by bench row h w x i z (bench-of bench) refl, λ k. named-answer bench row h w x i k)
+
+row-is : (bench state row : List ℕ) → BENCH ≤ length bench → STATE ≤ length state → ROW ≤ length row
+    → row-call bench state row ≡ row-on-bench (bench-of bench) state row
+unfolding row-call
+row-is bench state row h g w = rw (le-ltb (length bench) BENCH h, le-ltb (length state) STATE g, le-ltb (length row) ROW w, row-call)
+
+module _ (bench state row : List ℕ) (x : After-row) (c : x ≡ row-on-bench (bench-of bench) state row) where
+  in-state : (f : File) → bench-of bench ≡ some f → (o : Option State) → state-of f state ≡ o → x ≡ row-in-state f o row
+  unfolding row-on-bench
+  in-state f b o e = c ∙ ap (λ (p : Option File). row-on-bench p state row) b ∙ ap (λ (p : Option State). row-in-state f p row) e
+
+  shows-in : number-of (x .answer) ≡ 0 → (f : File) → bench-of bench ≡ some f → (o : Option State) → state-of f state ≡ o → Shows bench state (x .answer) (x .row)
+  unfolding row-in-state
+  shows-in z f b none e = absurd (not-zero 33 (ap (λ (y : After-row). y .answer) (in-state f b none e)) z (λ n. omega arith))
+  shows-in z f b (some s) e = record {
+    file = f;
+    shown = s;
+    is-bench = b;
+    is-state = e;
+    gives = ap (λ (y : After-row). given (y .answer) (y .row)) (in-state f b (some s) e) ∙ written-given (Rows.row f s) row;
+  }
+
+  shows-by : number-of (x .answer) ≡ 0 → (o : Option File) → bench-of bench ≡ o → Shows bench state (x .answer) (x .row)
+  unfolding row-on-bench
+  shows-by z none b =
+      let i : x ≡ row-on-bench none state row = c ∙ ap (λ (o : Option File). row-on-bench o state row) b in
+      absurd (not-zero 32 (ap (λ (y : After-row). y .answer) i) z (λ n. omega arith))
+  shows-by z (some f) b = shows-in z f b (state-of f state) refl
+
+  shown-answer : Shows bench state (x .answer) (x .row) → number-of (x .answer) ≡ 0
+  unfolding row-in-state row-written
+  shown-answer k =
+      ap (λ (y : After-row). number-of (y .answer)) (in-state (k .file) (k .is-bench) (some (k .shown)) (k .is-state))
+      ∙ row-zero (Rows.row (k .file) (k .shown))
+
+pub row-shows : (bench state row new-row : List ℕ) (r : ℕ) → Row-contract bench state row new-row r
+    → BENCH ≤ length bench → STATE ≤ length state → ROW ≤ length row
+    → (number-of r ≡ 0) ↔ Shows bench state r new-row
+row-shows bench state row new-row r c h g w =
+    let x : After-row = record { answer = r; row = new-row } in
+    let i : x ≡ row-on-bench (bench-of bench) state row = c ∙ row-is bench state row h g w in
+    (λ z. shows-by bench state row x i z (bench-of bench) refl, shown-answer bench state row x i)
 
 -- ---- a row
 

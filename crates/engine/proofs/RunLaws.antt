@@ -42,6 +42,7 @@ use Rattle.engine.specs.Runs.{
   machine-answer,
   ref-answered,
   ref-run,
+  given,
   given-by,
   Taken,
   said-line,
@@ -227,7 +228,7 @@ module _ (f : File) (ok : file-verdict f ≡ Verdict.accepted f) (b : List ℕ) 
 
   -- the accepted lines of a run
   replies-chain : (qs : List Request) (m : List ℕ) (s : State) → Stands-for f b m s → Chain f s (taken-lines f m qs (replies b m qs))
-  unfolding taken-lines replies taken-if said-line given-by
+  unfolding taken-lines replies taken-if said-line given-by given
   replies-chain [] m s st = tt
   replies-chain (q ∷ qs) m s st =
       let r = line-call b m (q .names) (q .values) (q .row) in

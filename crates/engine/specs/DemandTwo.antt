@@ -1,4 +1,4 @@
--- Demand 2: what an accepted line does, what a line sent again gives, and how a row reads back.
+-- Demand 2: what accepted calls leave and give, what a line sent again gives, and how a row reads back.
 use Prim.Native.Nat.{ℕ, suc}
 use mathlib.Core.Path.{_≡_}
 use mathlib.Core.List.{List, [], _∷_}
@@ -10,15 +10,21 @@ use Rattle.text.specs.Syntax.{File}
 use Rattle.cycles.specs.Outcome.{running}
 use Rattle.cycles.specs.Store.{State, Line}
 use Rattle.cycles.specs.Spots.{Spot}
-use Rattle.cycles.specs.Cycle.{ref-follow}
+use Rattle.cycles.specs.Cycle.{fresh, ref-follow}
 use Rattle.cycles.specs.Fields.{fields}
 use Rattle.cycles.specs.Line.{accepted, line}
-use Rattle.cycles.specs.Row.{action-cells, row}
+use Rattle.cycles.specs.Row.{action-cells, row-header, row}
 use Rattle.cycles.specs.StateImage.{state-of}
 use Rattle.cycles.specs.ClosedSet.{Among}
 use Rattle.engine.specs.BenchImage.{bench-of}
 use Rattle.engine.specs.Calls.{After-line}
-use Rattle.engine.specs.Runs.{given-by, Taken}
+use Rattle.engine.specs.Runs.{given, given-by, Taken}
+
+-- what is lent as a bench stands for a file, and what is left as a state for its fresh state
+pub record Freshens (bench new-state : List ℕ) : Type 0 where
+  pub file : File
+  pub is-bench : bench-of bench ≡ some file
+  pub leaves : state-of file new-state ≡ some (fresh file)
 
 -- "each accepted line leaves the state and fires the actions that they define": the memory lent stands for a bench file and a state of it, in
 -- which document 01 accepts the line; the machine goes on from there, the memory left stands for its state, and the call gave its row
@@ -33,6 +39,20 @@ pub record Follows (bench state names values : List ℕ) (r : After-line) : Type
   pub runs : ref-follow file before taken ≡ running after
   pub leaves : state-of file (r .state) ≡ some after
   pub fires : given-by r ≡ row file after
+
+-- the row of names that a call gave
+pub record Names (bench : List ℕ) (answer : ℕ) (new-row : List ℕ) : Type 0 where
+  pub file : File
+  pub is-bench : bench-of bench ≡ some file
+  pub gives : given answer new-row ≡ row-header file
+
+-- the row of a state that a call gave
+pub record Shows (bench state : List ℕ) (answer : ℕ) (new-row : List ℕ) : Type 0 where
+  pub file : File
+  pub shown : State
+  pub is-bench : bench-of bench ≡ some file
+  pub is-state : state-of file state ≡ some shown
+  pub gives : given answer new-row ≡ row file shown
 
 -- of two accepted lines of a run with one number: the later one leaves the state's bytes, and gives the row that the earlier one gave
 pub record Given-again (x y : Taken) : Type 0 where

@@ -84,9 +84,13 @@ unfolding ref-answered machine-answer
 ref-run f s [] = running []
 ref-run f s (q ∷ qs) = ref-answered f s q (machine-answer f s q) (λ t. ref-run f t qs)
 
--- the row that a call gave: as many bytes as its answer says
+-- the row that a call gave: as many bytes of its memory as the answer says
+unfoldable pub given : ℕ → List ℕ → List ℕ
+given answer m = take (answer / 256) m
+
 unfoldable pub given-by : After-line → List ℕ
-given-by r = take (r .answer / 256) (r .row)
+unfolding given
+given-by r = given (r .answer) (r .row)
 
 -- an accepted line of a run, the memory of the state before it, and what the call answered and left
 pub record Taken : Type 0 where
