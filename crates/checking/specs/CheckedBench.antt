@@ -13,6 +13,7 @@ use Rattle.text.specs.Readers.{read}
 use Rattle.text.specs.Grammar.{file-reader}
 use Rattle.checking.specs.declared.check.Checked.{Checked}
 use Rattle.checking.specs.declared.check.Checked.the-variants.{Accepted, Refused, NoRoom}
+use Rattle.checking.specs.CountFaults.{MOST-RULES}
 use Rattle.checking.specs.Verdict.{accepted, refused, MOST-BYTES, verdict, verdict-answer}
 use Rattle.checking.specs.Directory.{DIRECTORY, Bench}
 use Rattle.checking.specs.DirectoryReads.{Few}
@@ -38,7 +39,7 @@ pub record Checked-bench (text classes offsets lengths values d : List ℕ) : Ty
   pub lexed : tokens-of text ≡ tokens (bench .tokens)
   pub reads : file-reader (bench .tokens) ≡ read (bench .file) (length (bench .tokens))
   pub few : Few (bench .file)
-  pub few-rules : length (bench .file .rules) ≤ 64
+  pub few-rules : length (bench .file .rules) ≤ MOST-RULES
   pub valued : Values-of values (bench .tokens)
 
 -- of an acceptance: the first n rows

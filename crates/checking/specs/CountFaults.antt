@@ -6,27 +6,48 @@ use Rattle.text.specs.Syntax.{Interface, Rule, File}
 use Rattle.checking.specs.Faults.{Fault, fault}
 use Rattle.checking.specs.Scope.{clauses, variables}
 
+abbrev pub MOST-INTERFACES : ℕ
+MOST-INTERFACES = 16
+
+abbrev pub MOST-MEMBERS : ℕ
+MOST-MEMBERS = 12
+
+abbrev pub MOST-ENTITIES : ℕ
+MOST-ENTITIES = 32
+
+abbrev pub MOST-RULES : ℕ
+MOST-RULES = 64
+
+abbrev pub MOST-VARIABLES : ℕ
+MOST-VARIABLES = 3
+
+abbrev pub MOST-CLAUSES : ℕ
+MOST-CLAUSES = 8
+
+abbrev pub MOST-CALLS : ℕ
+MOST-CALLS = 8
+
 -- "14, place: first word of the first item beyond a count": items by the offsets of their first tokens
 unfoldable pub beyond : ℕ → List ℕ → List Fault
 beyond most offsets = map (fault 14) (drop most offsets)
 
 unfoldable pub interface-counts : Interface → List Fault
 unfolding beyond
-interface-counts i = beyond 12 (map (λ m. m .at) (i .members))
+interface-counts i = beyond MOST-MEMBERS (map (λ m. m .at) (i .members))
 
 -- "(variables by declaration)"
 unfoldable pub rule-counts : Rule → List Fault
 unfolding beyond variables clauses
 rule-counts r =
-    beyond 3 (map (λ v. v .name .at) (variables r))
-    ++ beyond 8 (map (λ c. c .at) (clauses (r .condition)))
-    ++ beyond 8 (map (λ c. c .at) (r .calls))
+    beyond MOST-VARIABLES (map (λ v. v .name .at) (variables r))
+    ++ beyond MOST-CLAUSES (map (λ c. c .at) (clauses (r .condition)))
+    ++ beyond MOST-CALLS (map (λ c. c .at) (r .calls))
 
 unfoldable pub count-faults : File → List Fault
 unfolding beyond flatMap interface-counts rule-counts
 count-faults f =
-    beyond 16 (map (λ i. i .at) (f .interfaces))
+    beyond MOST-INTERFACES (map (λ i. i .at) (f .interfaces))
     ++ flatMap interface-counts (f .interfaces)
-    ++ beyond 32 (map (λ e. e .at) (f .entities))
-    ++ beyond 64 (map (λ r. r .at) (f .rules))
+    ++ beyond MOST-ENTITIES (map (λ e. e .at) (f .entities))
+    ++ beyond MOST-RULES (map (λ r. r .at) (f .rules))
     ++ flatMap rule-counts (f .rules)

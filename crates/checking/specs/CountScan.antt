@@ -6,7 +6,7 @@ use lib.Dec.{leb, eqb}
 use lib.ListN.{getD}
 use Rattle.text.specs.Tokens.{INTERFACE, ATTRIBUTE, EVENT, ACTION, ENTITY, WHEN, COLON}
 use Rattle.checking.specs.Faults.{Fault}
-use Rattle.checking.specs.CountFaults.{beyond}
+use Rattle.checking.specs.CountFaults.{MOST-MEMBERS, MOST-VARIABLES, MOST-CLAUSES, MOST-CALLS, beyond}
 
 -- what a token adds to, before `rules`
 pub data Declared-sort : Type 0 where
@@ -46,7 +46,7 @@ module _ (offsets : List ℕ) where
   -- interfaces, members of the last of them, entities that may still come; then what is left to scan
   unfoldable pub declared-step : Declared-sort → ℕ → ℕ → ℕ → ℕ → (ℕ → ℕ → ℕ → List Fault) → List Fault
   unfolding past
-  declared-step an-interface i a b c rest = past a i ++ rest (a - 1) 12 c
+  declared-step an-interface i a b c rest = past a i ++ rest (a - 1) MOST-MEMBERS c
   declared-step a-member i a b c rest = past b i ++ rest a (b - 1) c
   declared-step an-entity i a b c rest = past c i ++ rest a b (c - 1)
   declared-step none-declared i a b c rest = rest a b c
@@ -54,7 +54,7 @@ module _ (offsets : List ℕ) where
   -- rules, and in the last of them variables (at the token before the `:`), clauses and calls that may still come
   unfoldable pub ruled-step : Ruled-sort → ℕ → ℕ → ℕ → ℕ → ℕ → (ℕ → ℕ → ℕ → ℕ → List Fault) → List Fault
   unfolding past
-  ruled-step a-rule i a b c d rest = past a i ++ rest (a - 1) 3 8 8
+  ruled-step a-rule i a b c d rest = past a i ++ rest (a - 1) MOST-VARIABLES MOST-CLAUSES MOST-CALLS
   ruled-step a-variable i a b c d rest = past b (i - 1) ++ rest a (b - 1) c d
   ruled-step a-clause i a b c d rest = past c i ++ rest a b (c - 1) d
   ruled-step a-call i a b c d rest = past d i ++ rest a b c (d - 1)

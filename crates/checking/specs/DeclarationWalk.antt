@@ -25,7 +25,10 @@ use Rattle.checking.specs.Directory.{
   Begins,
   sort-class,
   kind-class,
+  NO-MEMBER,
   member-number,
+  ENTITY-COUNT-ROW,
+  ENTITY-INTERFACE-ROWS,
   DIRECTORY,
   interface-row,
   member-count-row,
@@ -35,6 +38,7 @@ use Rattle.checking.specs.Directory.{
   Directory-of,
   Bench,
 }
+use Rattle.checking.specs.CountFaults.{MOST-RULES}
 use Rattle.checking.specs.DirectoryReads.{Few}
 use Rattle.checking.specs.Sequences.{Sequence}
 
@@ -55,10 +59,10 @@ pub record Interfaces-found (text offsets lengths d : List ℕ) (r : Found) : Ty
 -- the directory, which was d and is e: the rows of the entities' interfaces are written, and no other row
 pub record Entities-linked (text offsets lengths d e : List ℕ) : Type 0 where
   pub size : length e ≡ length d
-  pub below : (i : ℕ) → i < 323 → getD e i 0 ≡ getD d i 0
-  pub beyond : (i : ℕ) → 323 + getD d 1 0 ≤ i → getD e i 0 ≡ getD d i 0
+  pub below : (i : ℕ) → i < ENTITY-INTERFACE-ROWS → getD e i 0 ≡ getD d i 0
+  pub beyond : (i : ℕ) → ENTITY-INTERFACE-ROWS + getD d ENTITY-COUNT-ROW 0 ≤ i → getD e i 0 ≡ getD d i 0
   pub links : (classes : List ℕ) (ts : List Token) (f : File) → DIRECTORY ≤ length d → Columns-of text classes offsets lengths ts → Items-of f ts d
-      → Few f → length (f .rules) ≤ 64 → Directory-of f ts e
+      → Few f → length (f .rules) ≤ MOST-RULES → Directory-of f ts e
 
 -- ---- the assignments of an entity
 
@@ -81,10 +85,10 @@ pub record Sets (text classes offsets lengths : List ℕ) (from to i : ℕ) (r :
   pub is : (ts : List Token) → Columns-of text classes offsets lengths ts → (xs : List Assignment) → Sequence ts NAME assignment-after from to xs
       → to < length classes → r ≡ is-found (look-up (λ a. a .name) (name-in text offsets lengths i) xs)
 
--- is member number m of interface number `face` an attribute? 12 is no member
+-- is member number m of interface number `face` an attribute?
 pub record Attribute-member (classes d : List ℕ) (face m : ℕ) (r : Bool) : Type 0 where
-  pub beyond : 12 ≤ m → r ≡ false
-  pub is : m < 12 → (text offsets lengths : List ℕ) (w : Bench text classes offsets lengths d) (i : Interface) (x : Member)
+  pub beyond : NO-MEMBER ≤ m → r ≡ false
+  pub is : m < NO-MEMBER → (text offsets lengths : List ℕ) (w : Bench text classes offsets lengths d) (i : Interface) (x : Member)
       → getElem? (w .file .interfaces) face ≡ some i → getElem? (i .members) m ≡ some x → r ≡ is-attribute (x .sort)
 
 -- the fault of a name that is to be an attribute of interface number `face`, where it stands at token number q and is member number m

@@ -11,6 +11,7 @@ use Rattle.text.specs.Syntax.{Name, Sort, attribute, event, action, Member, Int
 use Rattle.text.specs.Readers.{read, Reader}
 use Rattle.text.specs.Grammar.{name-of, interface-after, entity-after, rule-after}
 use Rattle.checking.specs.Scope.{Found, look-up}
+use Rattle.checking.specs.CountFaults.{MOST-INTERFACES, MOST-MEMBERS, MOST-ENTITIES, MOST-RULES}
 
 -- the bytes of row i's token
 abbrev pub name-in : List ℕ → List ℕ → List ℕ → ℕ → List ℕ
@@ -52,14 +53,15 @@ unfoldable pub number-or : {A : Type 0} → ℕ → Option (Found A) → ℕ
 number-or other none = other
 number-or other (some f) = f .number
 
+-- the numbers for none are the first beyond those of the items
 abbrev pub NO-INTERFACE : ℕ
-NO-INTERFACE = 16
+NO-INTERFACE = MOST-INTERFACES
 
 abbrev pub NO-ENTITY : ℕ
-NO-ENTITY = 32
+NO-ENTITY = MOST-ENTITIES
 
 abbrev pub NO-MEMBER : ℕ
-NO-MEMBER = 12
+NO-MEMBER = MOST-MEMBERS
 
 unfoldable pub interface-number : File → List ℕ → ℕ
 unfolding number-or look-up
@@ -76,32 +78,60 @@ member-number (some i) n = number-or NO-MEMBER (look-up (λ m. m .name) n (i .me
 
 -- the directory's rows: counts of interfaces, entities and rules; then, by token numbers, where each interface begins, how many members it
 -- has, where each member, entity and rule begins; and each entity's interface by its number
+abbrev pub INTERFACE-COUNT-ROW : ℕ
+INTERFACE-COUNT-ROW = 0
+
+abbrev pub ENTITY-COUNT-ROW : ℕ
+ENTITY-COUNT-ROW = 1
+
+abbrev pub RULE-COUNT-ROW : ℕ
+RULE-COUNT-ROW = 2
+
+abbrev pub INTERFACE-ROWS : ℕ
+INTERFACE-ROWS = 3
+
+abbrev pub MEMBER-COUNT-ROWS : ℕ
+MEMBER-COUNT-ROWS = INTERFACE-ROWS + MOST-INTERFACES
+
+abbrev pub MEMBER-ROWS : ℕ
+MEMBER-ROWS = MEMBER-COUNT-ROWS + MOST-INTERFACES
+
+abbrev pub ENTITY-ROWS : ℕ
+ENTITY-ROWS = MEMBER-ROWS + MOST-INTERFACES * MOST-MEMBERS
+
+abbrev pub RULE-ROWS : ℕ
+RULE-ROWS = ENTITY-ROWS + MOST-ENTITIES
+
+abbrev pub ENTITY-INTERFACE-ROWS : ℕ
+ENTITY-INTERFACE-ROWS = RULE-ROWS + MOST-RULES
+
+-- all its rows
 abbrev pub DIRECTORY : ℕ
-DIRECTORY = 355
+DIRECTORY = ENTITY-INTERFACE-ROWS + MOST-ENTITIES
 
 abbrev pub interface-row : ℕ → ℕ
-interface-row k = 3 + k
+interface-row k = INTERFACE-ROWS + k
 
 abbrev pub member-count-row : ℕ → ℕ
-member-count-row k = 19 + k
+member-count-row k = MEMBER-COUNT-ROWS + k
 
 abbrev pub member-row : ℕ → ℕ → ℕ
-member-row k j = 35 + k * 12 + j
+member-row k j = MEMBER-ROWS + k * MOST-MEMBERS + j
 
 abbrev pub entity-row : ℕ → ℕ
-entity-row e = 227 + e
+entity-row e = ENTITY-ROWS + e
 
 abbrev pub rule-row : ℕ → ℕ
-rule-row r = 259 + r
+rule-row r = RULE-ROWS + r
 
 abbrev pub entity-interface-row : ℕ → ℕ
-entity-interface-row e = 323 + e
+entity-interface-row e = ENTITY-INTERFACE-ROWS + e
 
 -- a directory of a file's tokens, for a file within the counts
 pub record Directory-of (f : File) (ts : List Token) (d : List ℕ) : Type 0 where
-  pub interfaces : getD d 0 0 ≡ length (f .interfaces)
-  pub entities : getD d 1 0 ≡ length (f .entities)
-  pub rules : getD d 2 0 ≡ length (f .rules)
+  pub interfaces : getD d INTERFACE-COUNT-ROW 0 ≡ length (f .interfaces)
+  pub entities : getD d ENTITY-COUNT-ROW 0 ≡ length (f .entities)
+  pub rules : getD d RULE-COUNT-ROW 0 ≡ length (f .rules)
   pub interface : (k : ℕ) (i : Interface) → getElem? (f .interfaces) k ≡ some i → Begins ts (getD d (interface-row k) 0) INTERFACE interface-after i
   pub interface-name : (k : ℕ) (i : Interface) → getElem? (f .interfaces) k ≡ some i → Named ts (getD d (interface-row k) 0 + 1) (i .name)
   pub member-count : (k : ℕ) (i : Interface) → getElem? (f .interfaces) k ≡ some i → getD d (member-count-row k) 0 ≡ length (i .members)

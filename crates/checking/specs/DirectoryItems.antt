@@ -17,20 +17,23 @@ use Rattle.checking.specs.Directory.{
   Begins,
   sort-class,
   kind-class,
+  INTERFACE-COUNT-ROW,
+  ENTITY-COUNT-ROW,
+  RULE-COUNT-ROW,
+  ENTITY-INTERFACE-ROWS,
   DIRECTORY,
   interface-row,
   member-count-row,
   member-row,
   entity-row,
   rule-row,
-  entity-interface-row,
 }
 
 -- the fields of `Directory-of`, without `entity-interface`
 pub record Items-of (f : File) (ts : List Token) (d : List ℕ) : Type 0 where
-  pub interfaces : getD d 0 0 ≡ length (f .interfaces)
-  pub entities : getD d 1 0 ≡ length (f .entities)
-  pub rules : getD d 2 0 ≡ length (f .rules)
+  pub interfaces : getD d INTERFACE-COUNT-ROW 0 ≡ length (f .interfaces)
+  pub entities : getD d ENTITY-COUNT-ROW 0 ≡ length (f .entities)
+  pub rules : getD d RULE-COUNT-ROW 0 ≡ length (f .rules)
   pub interface : (k : ℕ) (i : Interface) → getElem? (f .interfaces) k ≡ some i → Begins ts (getD d (interface-row k) 0) INTERFACE interface-after i
   pub interface-name : (k : ℕ) (i : Interface) → getElem? (f .interfaces) k ≡ some i → Named ts (getD d (interface-row k) 0 + 1) (i .name)
   pub member-count : (k : ℕ) (i : Interface) → getElem? (f .interfaces) k ≡ some i → getD d (member-count-row k) 0 ≡ length (i .members)
@@ -49,4 +52,4 @@ pub record Items-of (f : File) (ts : List Token) (d : List ℕ) : Type 0 where
 pub record Directory-built (classes d new : List ℕ) (r : Bool) : Type 0 where
   pub answers : r ≡ leb DIRECTORY (length d) && leb (length classes) 65535
   pub items : r ≡ true → (ts : List Token) (f : File) → Classes-of classes ts → file-reader ts ≡ read f (length ts) → count-faults f ≡ [] → Items-of f ts new
-  pub others : (i : ℕ) → entity-interface-row 0 ≤ i → getD new i 0 ≡ getD d i 0
+  pub others : (i : ℕ) → ENTITY-INTERFACE-ROWS ≤ i → getD new i 0 ≡ getD d i 0

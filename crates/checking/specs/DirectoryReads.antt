@@ -7,7 +7,8 @@ use mathlib.Core.Option.{some}
 use lib.ListN.{length, getD, getElem?}
 use Rattle.values.specs.Bytes.{same-bytes}
 use Rattle.text.specs.Syntax.{Member, Interface, File}
-use Rattle.checking.specs.Directory.{name-in, Bench, member-count-row, member-row}
+use Rattle.checking.specs.CountFaults.{MOST-INTERFACES, MOST-MEMBERS, MOST-ENTITIES}
+use Rattle.checking.specs.Directory.{name-in, Bench, INTERFACE-COUNT-ROW, member-count-row, member-row}
 
 -- the least of the n numbers from k on that passes the test, or the number for none
 unfoldable pub first-number : (ℕ → Bool) → ℕ → ℕ → ℕ → ℕ
@@ -30,20 +31,20 @@ pub record Number-of (text offsets lengths d : List ℕ) (most : ℕ) (within-co
   pub within : r ≤ most
   pub is : (classes : List ℕ) (w : Bench text classes offsets lengths d) → within-counts (w .file) → r ≡ number (w .file)
 
--- interface number k has at most 12 members
+-- interface number k has no more members than it may have
 abbrev pub few-members : ℕ → File → Type 0
-few-members k f = (i : Interface) → getElem? (f .interfaces) k ≡ some i → length (i .members) ≤ 12
+few-members k f = (i : Interface) → getElem? (f .interfaces) k ≡ some i → length (i .members) ≤ MOST-MEMBERS
 
 -- "Most: 16 interfaces, 12 members each, 32 entities": no more items than the directory has rows for
 pub record Few (f : File) : Type 0 where
-  pub interfaces : length (f .interfaces) ≤ 16
+  pub interfaces : length (f .interfaces) ≤ MOST-INTERFACES
   pub members : (k : ℕ) → few-members k f
-  pub entities : length (f .entities) ≤ 32
+  pub entities : length (f .entities) ≤ MOST-ENTITIES
 
 -- the row of member number m of interface number k, where the directory has it
 pub record Member-row (d : List ℕ) (k m r : ℕ) : Type 0 where
   pub within : r < 65536
-  pub is : k < getD d 0 0 → m < getD d (member-count-row k) 0 → r ≡ getD d (member-row k m) 0
+  pub is : k < getD d INTERFACE-COUNT-ROW 0 → m < getD d (member-count-row k) 0 → r ≡ getD d (member-row k m) 0
 
 -- a class of the token table that says something of member number m of interface number k
 pub record Member-class (classes d : List ℕ) (k m : ℕ) (class-of : Member → ℕ) (r : ℕ) : Type 0 where

@@ -12,6 +12,7 @@ use Rattle.checking.specs.declared.faults.Found.{Found}
 use Rattle.checking.specs.declared.faults.Faulted.{Faulted}
 use Rattle.checking.specs.Faults.{Fault, earliest}
 use Rattle.checking.specs.FoundFaults.{found-as}
+use Rattle.checking.specs.CountFaults.{MOST-RULES}
 use Rattle.checking.specs.NameFaults.{rule-names, name-faults}
 use Rattle.checking.specs.KindFaults.{rule-kinds, kind-faults}
 use Rattle.checking.specs.Verdict.{accepted, refused-by, file-verdict}
@@ -19,15 +20,15 @@ use Rattle.checking.specs.Directory.{Columns-of, DIRECTORY, Directory-of
 use Rattle.checking.specs.DirectoryReads.{Few}
 
 pub record Rules-found (text classes offsets lengths d : List ℕ) (r : Faulted) : Type 0 where
-  pub names : (w : Bench text classes offsets lengths d) → Few (w .file) → length (w .file .rules) ≤ 64
+  pub names : (w : Bench text classes offsets lengths d) → Few (w .file) → length (w .file .rules) ≤ MOST-RULES
       → found-as (r .names) ≡ earliest (flatMap (rule-names (w .file)) (w .file .rules))
-  pub kinds : (w : Bench text classes offsets lengths d) → Few (w .file) → length (w .file .rules) ≤ 64
+  pub kinds : (w : Bench text classes offsets lengths d) → Few (w .file) → length (w .file .rules) ≤ MOST-RULES
       → found-as (r .kinds) ≡ earliest (flatMap (rule-kinds (w .file)) (w .file .rules))
 
 pub record File-found (text classes offsets lengths d : List ℕ) (r : Faulted) : Type 0 where
-  pub names : (w : Bench text classes offsets lengths d) → Few (w .file) → length (w .file .rules) ≤ 64
+  pub names : (w : Bench text classes offsets lengths d) → Few (w .file) → length (w .file .rules) ≤ MOST-RULES
       → found-as (r .names) ≡ earliest (name-faults (w .file))
-  pub kinds : (w : Bench text classes offsets lengths d) → Few (w .file) → length (w .file .rules) ≤ 64
+  pub kinds : (w : Bench text classes offsets lengths d) → Few (w .file) → length (w .file .rules) ≤ MOST-RULES
       → found-as (r .kinds) ≡ earliest (kind-faults (w .file))
 
 -- the first that is one
@@ -49,4 +50,4 @@ pub record Judged (text classes offsets lengths d e : List ℕ) (r : Found) : Ty
   pub verdict : (w : Columned text classes offsets lengths d) → refused-by (found-as r) (accepted (w .file)) ≡ file-verdict (w .file)
   pub directory : (w : Columned text classes offsets lengths d) → found-as r ≡ none → Directory-of (w .file) (w .tokens) e
   pub few : (w : Columned text classes offsets lengths d) → found-as r ≡ none → Few (w .file)
-  pub few-rules : (w : Columned text classes offsets lengths d) → found-as r ≡ none → length (w .file .rules) ≤ 64
+  pub few-rules : (w : Columned text classes offsets lengths d) → found-as r ≡ none → length (w .file .rules) ≤ MOST-RULES

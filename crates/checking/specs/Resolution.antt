@@ -9,24 +9,29 @@ use lib.ListN.{length, getD, getElem?}
 use Rattle.text.specs.Tokens.{NAME, EVENT, ACTION, FROM, WITH, ON, COLON, DOT, WHEN}
 use Rattle.text.specs.Syntax.{Entity}
 use Rattle.checking.specs.Scope.{Found, entity-named, Variable, variables, variable-named, Scope, interface-in}
-use Rattle.checking.specs.Directory.{name-in, interface-number, member-number, rule-row}
+use Rattle.checking.specs.CountFaults.{MOST-ENTITIES, MOST-RULES, MOST-VARIABLES}
+use Rattle.checking.specs.Directory.{name-in, interface-number, member-number, RULE-COUNT-ROW, rule-row}
 use Rattle.checking.specs.RuleParts.{Rule-world, world-scope}
 
 -- the number for a name that means nothing in the rule
 abbrev pub NO-REFERENCE : ℕ
 NO-REFERENCE = 255
 
--- an entity by its number, or a variable, 32 for the first; in a rule an entity comes before a variable
+-- a rule's first variable: the numbers below are entities
+abbrev pub FIRST-VARIABLE : ℕ
+FIRST-VARIABLE = MOST-ENTITIES
+
+-- an entity by its number, or a variable; in a rule an entity comes before a variable
 unfoldable pub reference-by : Option (Found Entity) → Option (Found Variable) → ℕ
 reference-by none none = NO-REFERENCE
-reference-by none (some v) = 32 + v .number
+reference-by none (some v) = FIRST-VARIABLE + v .number
 reference-by (some e) v = e .number
 
 unfoldable pub reference : Scope → List ℕ → ℕ
 unfolding reference-by entity-named variable-named
 reference s n = reference-by (entity-named (s .file) n) (variable-named (s .variables) n)
 
--- the member of that name of what the owner's name means, by its number; 12 for none
+-- the member of that name of what the owner's name means, by its number; NO-MEMBER for none
 unfoldable pub member-meant : Scope → List ℕ → List ℕ → ℕ
 unfolding member-number interface-in
 member-meant s owner m = member-number (interface-in s owner) m
@@ -62,19 +67,26 @@ pub data Owned (classes : List ℕ) (start used : ℕ) : ℕ → ℕ → Type 0 
 
 -- the column of references; of a rule with no more variables than a file may have, so that 8 bits hold a reference
 pub record References (text classes offsets lengths d refs : List ℕ) : Type 0 where
-  pub owner : (start : ℕ) (c : Rule-world text classes offsets lengths d start) → length (variables (c .rule)) ≤ 3 → (i : ℕ) → Within classes start (c .begins .used) i NAME
+  pub owner : (start : ℕ) (c : Rule-world text classes offsets lengths d start) → length (variables (c .rule)) ≤ MOST-VARIABLES → (i : ℕ) → Within classes start (c .begins .used) i NAME
       → getD refs i 0 % 256 ≡ reference (world-scope c) (name-in text offsets lengths i)
   pub member : (start : ℕ) (c : Rule-world text classes offsets lengths d start) (n m : ℕ) → Owned classes start (c .begins .used) n m
       → getD refs m 0 / 256 ≡ member-meant (world-scope c) (name-in text offsets lengths n) (name-in text offsets lengths m)
 
 -- the rows of a rule in the column of scopes: how many variables it has, and then the number of each one's interface
+abbrev pub SCOPE-ROWS : ℕ
+SCOPE-ROWS = 1 + MOST-VARIABLES
+
 abbrev pub scope-row : ℕ → ℕ
-scope-row k = 4 * k
+scope-row k = SCOPE-ROWS * k
+
+-- those of all rules
+abbrev pub ALL-SCOPE-ROWS : ℕ
+ALL-SCOPE-ROWS = SCOPE-ROWS * MOST-RULES
 
 pub record Scopes (text classes offsets lengths d scopes : List ℕ) : Type 0 where
-  pub count : (k : ℕ) → k < getD d 2 0 → k < 64 → (c : Rule-world text classes offsets lengths d (getD d (rule-row k) 0)) → length (variables (c .rule)) ≤ 3
+  pub count : (k : ℕ) → k < getD d RULE-COUNT-ROW 0 → k < MOST-RULES → (c : Rule-world text classes offsets lengths d (getD d (rule-row k) 0)) → length (variables (c .rule)) ≤ MOST-VARIABLES
       → getD scopes (scope-row k) 0 ≡ length (variables (c .rule))
-  pub interface : (k : ℕ) → k < getD d 2 0 → k < 64 → (c : Rule-world text classes offsets lengths d (getD d (rule-row k) 0)) → length (variables (c .rule)) ≤ 3
+  pub interface : (k : ℕ) → k < getD d RULE-COUNT-ROW 0 → k < MOST-RULES → (c : Rule-world text classes offsets lengths d (getD d (rule-row k) 0)) → length (variables (c .rule)) ≤ MOST-VARIABLES
       → (v : ℕ) (x : Variable) → getElem? (variables (c .rule)) v ≡ some x
       → getD scopes (scope-row k + 1 + v) 0 ≡ interface-number (c .bench .file) (x .interface .bytes)
 

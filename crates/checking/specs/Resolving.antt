@@ -9,10 +9,11 @@ use Rattle.values.specs.Bytes.{same-bytes}
 use Rattle.text.specs.Tokens.{NAME}
 use Rattle.checking.specs.declared.resolver.Variables.{Variables}
 use Rattle.checking.specs.Scope.{Variable, variables}
-use Rattle.checking.specs.Directory.{name-in, interface-number, Bench}
+use Rattle.checking.specs.CountFaults.{MOST-VARIABLES}
+use Rattle.checking.specs.Directory.{name-in, NO-MEMBER, interface-number, Bench}
 use Rattle.checking.specs.DirectoryReads.{Few}
 use Rattle.checking.specs.RuleParts.{declared-names, Rule-world, world-scope}
-use Rattle.checking.specs.Resolution.{NO-REFERENCE, reference, member-meant, Within, Owned, Scopes}
+use Rattle.checking.specs.Resolution.{NO-REFERENCE, FIRST-VARIABLE, reference, member-meant, Within, Owned, Scopes}
 
 -- ---- references
 
@@ -30,8 +31,8 @@ reference-alike text offsets lengths i k (n ∷ ns) =
 -- the variable named as token number i, in the rule that begins with token number `start`, where 8 bits hold its number
 pub record Variable-reference (text classes offsets lengths : List ℕ) (start i r : ℕ) : Type 0 where
   pub within : r < 256
-  pub is : reference-alike text offsets lengths i 32 (declared-names start (drop (start + 1) classes)) < 256
-      → r ≡ reference-alike text offsets lengths i 32 (declared-names start (drop (start + 1) classes))
+  pub is : reference-alike text offsets lengths i FIRST-VARIABLE (declared-names start (drop (start + 1) classes)) < 256
+      → r ≡ reference-alike text offsets lengths i FIRST-VARIABLE (declared-names start (drop (start + 1) classes))
 
 -- what the name of token number i refers to in that rule, where 8 bits hold it
 pub record Referred (text classes offsets lengths d : List ℕ) (start i r : ℕ) : Type 0 where
@@ -44,7 +45,7 @@ pub record Owner-of (classes : List ℕ) (i r : ℕ) : Type 0 where
   pub is : (start used n : ℕ) → Owned classes start used n i → r ≡ n
 
 pub record Member-of (text classes offsets lengths d : List ℕ) (start owner i r : ℕ) : Type 0 where
-  pub within : r ≤ 12
+  pub within : r ≤ NO-MEMBER
   pub is : (c : Rule-world text classes offsets lengths d start)
       → r ≡ member-meant (world-scope c) (name-in text offsets lengths owner) (name-in text offsets lengths i)
 
@@ -84,8 +85,8 @@ pub record Interface-at (text classes offsets lengths d : List ℕ) (n r : ℕ) 
 
 -- a rule's four rows: how many variables it has, and the interfaces of the first three
 pub record Scope-held (text classes offsets lengths d : List ℕ) (start count a b c : ℕ) : Type 0 where
-  pub count-is : (w : Rule-world text classes offsets lengths d start) → length (variables (w .rule)) ≤ 3 → count ≡ length (variables (w .rule))
-  pub interface-is : (w : Rule-world text classes offsets lengths d start) → length (variables (w .rule)) ≤ 3 → (v : ℕ) (x : Variable)
+  pub count-is : (w : Rule-world text classes offsets lengths d start) → length (variables (w .rule)) ≤ MOST-VARIABLES → count ≡ length (variables (w .rule))
+  pub interface-is : (w : Rule-world text classes offsets lengths d start) → length (variables (w .rule)) ≤ MOST-VARIABLES → (v : ℕ) (x : Variable)
       → getElem? (variables (w .rule)) v ≡ some x → getD (a ∷ b ∷ c ∷ []) v 0 ≡ interface-number (w .bench .file) (x .interface .bytes)
 
 abbrev pub Variables-held : List ℕ → List ℕ → List ℕ → List ℕ → List ℕ → ℕ → Variables → Type 0

@@ -8,6 +8,8 @@ use lib.ListN.{length, getD, take}
 use lib.Seq.{sets}
 use Rattle.text.specs.Tokens.{ATTRIBUTE, ACTION, BRACE-CLOSE}
 use Rattle.checking.specs.ClassSearch.{First-of}
+use Rattle.checking.specs.CountFaults.{MOST-INTERFACES, MOST-MEMBERS}
+use Rattle.checking.specs.Directory.{MEMBER-COUNT-ROWS, MEMBER-ROWS, ENTITY-ROWS, interface-row, member-count-row}
 
 unfoldable pub place-if : Bool → ℕ → List ℕ → List ℕ
 place-if true i ps = i ∷ ps
@@ -29,12 +31,12 @@ pub record Members-at (classes : List ℕ) (p base row : ℕ) (d : List ℕ) : T
   pub close : ℕ
   pub closes : First-of classes BRACE-CLOSE p close
   pub count : getD d row 0 ≡ length (places classes ATTRIBUTE ACTION (close - p) p)
-  pub rows : (j : ℕ) → j < 12 → j < length (places classes ATTRIBUTE ACTION (close - p) p)
+  pub rows : (j : ℕ) → j < MOST-MEMBERS → j < length (places classes ATTRIBUTE ACTION (close - p) p)
       → getD d (base + j) 0 ≡ getD (places classes ATTRIBUTE ACTION (close - p) p) j 0
 
--- those of so many interfaces, 16 at most, whose token numbers stand in the rows from 3 on
+-- those of so many interfaces, 16 at most, whose token numbers stand in their rows
 pub record Members-marked (classes : List ℕ) (interfaces : ℕ) (d new : List ℕ) : Type 0 where
-  pub before : (i : ℕ) → i < 19 → getD new i 0 ≡ getD d i 0
-  pub after : (i : ℕ) → 227 ≤ i → getD new i 0 ≡ getD d i 0
-  pub members : length classes < 65536 → 227 ≤ length d → (k : ℕ) → k < 16 → k < interfaces
-      → Members-at classes (getD d (3 + k) 0) (35 + k * 12) (19 + k) new
+  pub before : (i : ℕ) → i < MEMBER-COUNT-ROWS → getD new i 0 ≡ getD d i 0
+  pub after : (i : ℕ) → ENTITY-ROWS ≤ i → getD new i 0 ≡ getD d i 0
+  pub members : length classes < 65536 → ENTITY-ROWS ≤ length d → (k : ℕ) → k < MOST-INTERFACES → k < interfaces
+      → Members-at classes (getD d (interface-row k) 0) (MEMBER-ROWS + k * MOST-MEMBERS) (member-count-row k) new

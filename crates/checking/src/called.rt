@@ -1,9 +1,21 @@
 // What a file declares, by the bytes of a name, which need not be a token's.
 ghost use Prim.Native.Nat.{_≤_};
 ghost use lib.ListN.{length, getElem?};
-ghost use Rattle.checking.specs.Directory.{interface-number, entity-number, member-number};
+ghost use Rattle.checking.specs.CountFaults.{MOST-INTERFACES, MOST-ENTITIES};
+ghost use Rattle.checking.specs.Directory.{NO-INTERFACE, NO-ENTITY, NO-MEMBER, interface-number, entity-number, member-number};
 ghost use Rattle.checking.specs.DirectoryReads.{Number-of, few-members};
 ghost use Rattle.checking.specs.Called.{First-called};
+use crate::layout::ENTITY_COUNT_ROW;
+use crate::layout::ENTITY_ROWS_32;
+use crate::layout::INTERFACE_COUNT_ROW;
+use crate::layout::INTERFACE_ROWS_32;
+use crate::layout::MEMBER_COUNT_ROWS;
+use crate::layout::MEMBER_ROWS_32;
+use crate::layout::MOST_ENTITIES_8;
+use crate::layout::MOST_INTERFACES_8;
+use crate::layout::MOST_MEMBERS_8;
+use crate::layout::MOST_MEMBERS_32;
+use crate::layout::NO_MEMBER;
 use crate::table::name;
 use crate::table::row;
 use values::same_bytes;
@@ -37,7 +49,7 @@ fn first_called(
     top
 }
 
-// The interface that is called so; 16 if there is none.
+// The interface that is called so; NO_INTERFACE if there is none.
 pub fn interface_called(
     text: &[u8],
     offsets: &[u16],
@@ -46,13 +58,23 @@ pub fn interface_called(
     called: &[u8],
 ) -> usize
     ensures { λ r. ⌜
-        Number-of (now (text .entry)) (now (offsets .entry)) (now (lengths .entry)) (now (d .entry)) 16 (λ f. length (f .interfaces) ≤ 16)
+        Number-of (now (text .entry)) (now (offsets .entry)) (now (lengths .entry)) (now (d .entry)) NO-INTERFACE
+        (λ f. length (f .interfaces) ≤ MOST-INTERFACES)
         (λ f. interface-number f (now (called .entry))) r ⌝ }
 {
-    first_called(text, offsets, lengths, d, 3, row(d, 0), 16, called)
+    first_called(
+        text,
+        offsets,
+        lengths,
+        d,
+        INTERFACE_ROWS_32,
+        row(d, INTERFACE_COUNT_ROW),
+        MOST_INTERFACES_8,
+        called,
+    )
 }
 
-// The entity that is called so; 32 if there is none.
+// The entity that is called so; NO_ENTITY if there is none.
 pub fn entity_called(
     text: &[u8],
     offsets: &[u16],
@@ -61,13 +83,23 @@ pub fn entity_called(
     called: &[u8],
 ) -> usize
     ensures { λ r. ⌜
-        Number-of (now (text .entry)) (now (offsets .entry)) (now (lengths .entry)) (now (d .entry)) 32 (λ f. length (f .entities) ≤ 32)
+        Number-of (now (text .entry)) (now (offsets .entry)) (now (lengths .entry)) (now (d .entry)) NO-ENTITY
+        (λ f. length (f .entities) ≤ MOST-ENTITIES)
         (λ f. entity-number f (now (called .entry))) r ⌝ }
 {
-    first_called(text, offsets, lengths, d, 227, row(d, 1), 32, called)
+    first_called(
+        text,
+        offsets,
+        lengths,
+        d,
+        ENTITY_ROWS_32,
+        row(d, ENTITY_COUNT_ROW),
+        MOST_ENTITIES_8,
+        called,
+    )
 }
 
-// The member of interface number `face` that is called so; 12 if there is none.
+// The member of interface number `face` that is called so; NO_MEMBER if there is none.
 pub fn member_called(
     text: &[u8],
     offsets: &[u16],
@@ -77,21 +109,21 @@ pub fn member_called(
     called: &[u8],
 ) -> usize
     ensures { λ r. ⌜
-        Number-of (now (text .entry)) (now (offsets .entry)) (now (lengths .entry)) (now (d .entry)) 12 (few-members face)
+        Number-of (now (text .entry)) (now (offsets .entry)) (now (lengths .entry)) (now (d .entry)) NO-MEMBER (few-members face)
         (λ f. member-number (getElem? (f .interfaces) face) (now (called .entry))) r ⌝ }
 {
-    if row(d, 0) <= face {
-        return 12;
+    if row(d, INTERFACE_COUNT_ROW) <= face {
+        return NO_MEMBER;
     }
-    let base = 35 + (face as u32) * 12;
+    let base = MEMBER_ROWS_32 + (face as u32) * MOST_MEMBERS_32;
     first_called(
         text,
         offsets,
         lengths,
         d,
         base,
-        row(d, 19 + face),
-        12,
+        row(d, MEMBER_COUNT_ROWS + face),
+        MOST_MEMBERS_8,
         called,
     )
 }

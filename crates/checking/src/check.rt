@@ -14,6 +14,11 @@ use crate::faults::Faulted;
 use crate::faults::Found;
 use crate::faults::earlier;
 use crate::interfaces::interface_faults;
+use crate::layout::DIRECTORY;
+use crate::layout::MOST_BYTES;
+use crate::layout::MOST_RULES;
+use crate::layout::RULE_COUNT_ROW;
+use crate::layout::RULE_ROWS;
 use crate::rules::rule_faults;
 use crate::table::row;
 use text::Syntax;
@@ -33,15 +38,15 @@ pub enum Checked {
 fn rules_faults(text: &[u8], classes: &[u8], offsets: &[u16], lengths: &[u8], d: &[u16]) -> Faulted
     ensures { λ r. ⌜ Rules-found (now (text .entry)) (now (classes .entry)) (now (offsets .entry)) (now (lengths .entry)) (now (d .entry)) r ⌝ }
 {
-    let count = row(d, 2);
+    let count = row(d, RULE_COUNT_ROW);
     let mut names = Found::Nothing;
     let mut kinds = Found::Nothing;
     let mut k = 0;
-    while k < 64 {
+    while k < MOST_RULES {
         if count <= k {
             return Faulted { names, kinds };
         }
-        let at = row(d, 259 + k);
+        let at = row(d, RULE_ROWS + k);
         let one = rule_faults(text, classes, offsets, lengths, d, at);
         let one_names = one.names;
         let one_kinds = one.kinds;
@@ -110,7 +115,7 @@ fn refused(code: u8, p: usize) -> Checked
     ensures { λ r. ⌜ Refuses code p r ⌝ }
 {
     // only in a longer text than `read` lets pass
-    if p > 32768 {
+    if p > MOST_BYTES {
         return Checked::NoRoom;
     }
     Checked::Refused { code, at: p as u32 }
@@ -139,7 +144,7 @@ fn settled(
 {
     match syntax {
         Syntax::NoRoom => Checked::NoRoom,
-        Syntax::TooLong => refused(11, 32768),
+        Syntax::TooLong => refused(11, MOST_BYTES),
         Syntax::NoTokenAt(p) => refused(12, p),
         Syntax::UnfitAt(p) => refused(13, p),
         Syntax::File(n) => {
@@ -150,7 +155,7 @@ fn settled(
     }
 }
 
-// Checks a text: its tokens into the columns, where its items begin into the directory of 355 rows.
+// Checks a text: its tokens into the columns, where its items begin into the directory.
 pub fn check(
     text: &[u8],
     classes: &mut [u8],
@@ -162,7 +167,7 @@ pub fn check(
     ensures { λ r. ⌜ Checks (now (text .entry)) (columns-of (now (classes .entry)) (now (offsets .entry)) (now (lengths .entry)) (now (values .entry)))
         (columns-of (now (classes .exit)) (now (offsets .exit)) (now (lengths .exit)) (now (values .exit))) (now (d .entry)) (now (d .exit)) r ⌝ }
 {
-    if d.len() < 355 {
+    if d.len() < DIRECTORY {
         return Checked::NoRoom;
     }
     let syntax = read(text, classes, offsets, lengths, values);

@@ -5,10 +5,26 @@ ghost use Prim.Native.Nat.{_-_};
 ghost use lib.ListN.{length};
 ghost use Rattle.checking.specs.Faults.{earliest};
 ghost use Rattle.checking.specs.FoundFaults.{found-as};
+ghost use Rattle.checking.specs.CountFaults.{
+  MOST-INTERFACES,
+  MOST-MEMBERS,
+  MOST-ENTITIES,
+  MOST-RULES,
+  MOST-VARIABLES,
+  MOST-CLAUSES,
+  MOST-CALLS,
+};
 ghost use Rattle.checking.specs.CountScan.{past, declared-scan, ruled-scan};
 ghost use Rattle.checking.specs.CountChecked.{Count-checked};
 use crate::faults::Found;
 use crate::faults::earlier;
+use crate::layout::MOST_CALLS;
+use crate::layout::MOST_CLAUSES;
+use crate::layout::MOST_ENTITIES;
+use crate::layout::MOST_INTERFACES;
+use crate::layout::MOST_MEMBERS;
+use crate::layout::MOST_RULES;
+use crate::layout::MOST_VARIABLES;
 use crate::table::first_of;
 use crate::table::row;
 use text::classes::ACTION;
@@ -45,11 +61,11 @@ fn over(offsets: &[u16], left: usize, i: usize) -> Found
 
 // Interfaces, their members, and entities: of the tokens before number `end`.
 fn declaration_fault(classes: &[u8], offsets: &[u16], end: usize) -> Found
-    ensures { λ r. ⌜ found-as r ≡ earliest (declared-scan (now (classes .entry)) (now (offsets .entry)) end 0 16 12 32) ⌝ }
+    ensures { λ r. ⌜ found-as r ≡ earliest (declared-scan (now (classes .entry)) (now (offsets .entry)) end 0 MOST-INTERFACES MOST-MEMBERS MOST-ENTITIES) ⌝ }
 {
-    let mut interfaces: usize = 16;
-    let mut members: usize = 12;
-    let mut entities: usize = 32;
+    let mut interfaces: usize = MOST_INTERFACES;
+    let mut members: usize = MOST_MEMBERS;
+    let mut entities: usize = MOST_ENTITIES;
     let mut found = Found::Nothing;
     let mut i: usize = 0;
     while i < end {
@@ -59,7 +75,7 @@ fn declaration_fault(classes: &[u8], offsets: &[u16], end: usize) -> Found
         if class == INTERFACE {
             found = earlier(found, over(offsets, interfaces, here));
             interfaces = one_less(interfaces);
-            members = 12;
+            members = MOST_MEMBERS;
             continue;
         }
         if class < ATTRIBUTE {
@@ -82,12 +98,13 @@ fn declaration_fault(classes: &[u8], offsets: &[u16], end: usize) -> Found
 fn rule_fault(classes: &[u8], offsets: &[u16], from: usize) -> Found
     ensures { λ r. ⌜
         found-as r
-        ≡ earliest (ruled-scan (now (classes .entry)) (now (offsets .entry)) (length (now (classes .entry)) - from) from 64 3 8 8) ⌝ }
+        ≡ earliest (ruled-scan (now (classes .entry)) (now (offsets .entry)) (length (now (classes .entry)) - from) from MOST-RULES MOST-VARIABLES
+        MOST-CLAUSES MOST-CALLS) ⌝ }
 {
-    let mut rules: usize = 64;
-    let mut variables: usize = 3;
-    let mut clauses: usize = 8;
-    let mut calls: usize = 8;
+    let mut rules: usize = MOST_RULES;
+    let mut variables: usize = MOST_VARIABLES;
+    let mut clauses: usize = MOST_CLAUSES;
+    let mut calls: usize = MOST_CALLS;
     let mut found = Found::Nothing;
     let mut i = from;
     while i < classes.len() {
@@ -97,9 +114,9 @@ fn rule_fault(classes: &[u8], offsets: &[u16], from: usize) -> Found
         if class == WHEN {
             found = earlier(found, over(offsets, rules, here));
             rules = one_less(rules);
-            variables = 3;
-            clauses = 8;
-            calls = 8;
+            variables = MOST_VARIABLES;
+            clauses = MOST_CLAUSES;
+            calls = MOST_CALLS;
             continue;
         }
         if class == COLON {

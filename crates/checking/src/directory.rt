@@ -3,6 +3,20 @@ ghost use mathlib.Core.Path.{_≡_};
 ghost use lib.ListN.{set};
 ghost use Rattle.checking.specs.TokenPlaces.{Marked, Members-marked};
 ghost use Rattle.checking.specs.DirectoryItems.{Directory-built};
+use crate::layout::DIRECTORY;
+use crate::layout::ENTITY_COUNT_ROW;
+use crate::layout::ENTITY_ROWS_16;
+use crate::layout::INTERFACE_COUNT_ROW;
+use crate::layout::INTERFACE_ROWS;
+use crate::layout::INTERFACE_ROWS_16;
+use crate::layout::MEMBER_COUNT_ROWS;
+use crate::layout::MEMBER_ROWS_16;
+use crate::layout::MOST_ENTITIES_16;
+use crate::layout::MOST_INTERFACES_16;
+use crate::layout::MOST_MEMBERS_16;
+use crate::layout::MOST_RULES_16;
+use crate::layout::RULE_COUNT_ROW;
+use crate::layout::RULE_ROWS_16;
 use crate::table::first_of;
 use crate::table::row;
 use text::classes::ACTION;
@@ -60,16 +74,16 @@ fn mark(
     n
 }
 
-// Marks the members of so many interfaces, 16 at most.
+// Marks the members of so many interfaces, of the most that a file may have.
 fn mark_members(classes: &[u8], interfaces: u16, d: &mut [u16])
     ensures { λ _. ⌜ Members-marked (now (classes .entry)) interfaces (now (d .entry)) (now (d .exit)) ⌝ }
 {
     let mut k: u16 = 0;
-    while k < 16 {
+    while k < MOST_INTERFACES_16 {
         if interfaces <= k {
             return;
         }
-        let from = row(d, 3 + k as usize);
+        let from = row(d, INTERFACE_ROWS + k as usize);
         let close = first_of(classes, BRACE_CLOSE, from);
         // only where there are more tokens than `build` lets pass
         if close > 65535 {
@@ -82,10 +96,10 @@ fn mark_members(classes: &[u8], interfaces: u16, d: &mut [u16])
             from as u16,
             close as u16,
             d,
-            35 + k * 12,
-            12,
+            MEMBER_ROWS_16 + k * MOST_MEMBERS_16,
+            MOST_MEMBERS_16,
         );
-        put(d, 19 + k as usize, count);
+        put(d, MEMBER_COUNT_ROWS + k as usize, count);
         k += 1;
     }
 }
@@ -94,19 +108,37 @@ fn mark_members(classes: &[u8], interfaces: u16, d: &mut [u16])
 pub fn build(classes: &[u8], d: &mut [u16]) -> bool
     ensures { λ r. ⌜ Directory-built (now (classes .entry)) (now (d .entry)) (now (d .exit)) r ⌝ }
 {
-    if d.len() < 355 {
+    if d.len() < DIRECTORY {
         return false;
     }
     if classes.len() > 65535 {
         return false;
     }
     let end = classes.len() as u16;
-    let interfaces = mark(classes, INTERFACE, INTERFACE, 0, end, d, 3, 16);
-    put(d, 0, interfaces);
-    let entities = mark(classes, ENTITY, ENTITY, 0, end, d, 227, 32);
-    put(d, 1, entities);
-    let rules = mark(classes, WHEN, WHEN, 0, end, d, 259, 64);
-    put(d, 2, rules);
+    let interfaces = mark(
+        classes,
+        INTERFACE,
+        INTERFACE,
+        0,
+        end,
+        d,
+        INTERFACE_ROWS_16,
+        MOST_INTERFACES_16,
+    );
+    put(d, INTERFACE_COUNT_ROW, interfaces);
+    let entities = mark(
+        classes,
+        ENTITY,
+        ENTITY,
+        0,
+        end,
+        d,
+        ENTITY_ROWS_16,
+        MOST_ENTITIES_16,
+    );
+    put(d, ENTITY_COUNT_ROW, entities);
+    let rules = mark(classes, WHEN, WHEN, 0, end, d, RULE_ROWS_16, MOST_RULES_16);
+    put(d, RULE_COUNT_ROW, rules);
     mark_members(classes, interfaces, d);
     true
 }

@@ -18,6 +18,20 @@ use crate::faults::Found;
 use crate::faults::earlier;
 use crate::faults::unless;
 use crate::interfaces::repeated;
+use crate::layout::DIRECTORY;
+use crate::layout::ENTITY_COUNT_ROW;
+use crate::layout::ENTITY_INTERFACE_ROWS;
+use crate::layout::ENTITY_ROWS;
+use crate::layout::ENTITY_ROWS_32;
+use crate::layout::INTERFACE_COUNT_ROW;
+use crate::layout::INTERFACE_ROWS_32;
+use crate::layout::MEMBER_COUNT_ROWS;
+use crate::layout::MOST_ENTITIES;
+use crate::layout::MOST_ENTITIES_8;
+use crate::layout::MOST_INTERFACES_8;
+use crate::layout::MOST_MEMBERS;
+use crate::layout::NO_INTERFACE;
+use crate::layout::NO_MEMBER;
 use crate::table::first_named;
 use crate::table::member_at;
 use crate::table::member_kind;
@@ -28,23 +42,32 @@ use crate::table::same_name;
 use text::classes;
 use text::walks::class_at;
 
-// Writes the interface of each entity into the directory, by its number; 16 if the file has none of that name.
+// Writes the interface of each entity into the directory, by its number; NO_INTERFACE if the file has none of that name.
 pub fn link_entities(text: &[u8], offsets: &[u16], lengths: &[u8], d: &mut [u16])
     ensures { λ _. ⌜ Entities-linked (now (text .entry)) (now (offsets .entry)) (now (lengths .entry)) (now (d .entry)) (now (d .exit)) ⌝ }
 {
-    if d.len() < 355 {
+    if d.len() < DIRECTORY {
         return;
     }
-    let count = row(d, 1);
-    let interfaces = row(d, 0);
+    let count = row(d, ENTITY_COUNT_ROW);
+    let interfaces = row(d, INTERFACE_COUNT_ROW);
     let mut e = 0;
-    while e < 32 {
+    while e < MOST_ENTITIES {
         if count <= e {
             return;
         }
-        let i = row(d, 227 + e) + 3;
-        let face = first_named(text, offsets, lengths, d, 3, interfaces, 16, i);
-        d[323 + e] = face as u16;
+        let i = row(d, ENTITY_ROWS + e) + 3;
+        let face = first_named(
+            text,
+            offsets,
+            lengths,
+            d,
+            INTERFACE_ROWS_32,
+            interfaces,
+            MOST_INTERFACES_8,
+            i,
+        );
+        d[ENTITY_INTERFACE_ROWS + e] = face as u16;
         e += 1;
     }
 }
@@ -115,11 +138,11 @@ fn sets(
     false
 }
 
-// Is member number m of interface number `face` an attribute? 12 is no member.
+// Is member number m of interface number `face` an attribute?
 fn is_attribute(classes: &[u8], d: &[u16], face: usize, m: usize) -> bool
     ensures { λ r. ⌜ Attribute-member (now (classes .entry)) (now (d .entry)) face m r ⌝ }
 {
-    if 12 <= m {
+    if NO_MEMBER <= m {
         return false;
     }
     member_sort(classes, d, face, m) == classes::ATTRIBUTE
@@ -136,7 +159,7 @@ fn attribute_fault(
 ) -> Found
     ensures { λ r. ⌜ Attribute-found (now (classes .entry)) (now (offsets .entry)) (now (d .entry)) face m q r ⌝ }
 {
-    if row(d, 0) <= face {
+    if row(d, INTERFACE_COUNT_ROW) <= face {
         return Found::Nothing;
     }
     let at = row(offsets, q) as u32;
@@ -155,7 +178,7 @@ fn kind_fault(
 ) -> Found
     ensures { λ r. ⌜ Kind-found (now (classes .entry)) (now (offsets .entry)) (now (d .entry)) face m equals last r ⌝ }
 {
-    if 12 <= m {
+    if NO_MEMBER <= m {
         return Found::Nothing;
     }
     let kind = member_kind(classes, d, face, m);
@@ -221,12 +244,12 @@ fn unset_fault(
     ensures { λ r. ⌜
         Unset-found (now (text .entry)) (now (classes .entry)) (now (offsets .entry)) (now (lengths .entry)) (now (d .entry)) face from to r ⌝ }
 {
-    if row(d, 0) <= face {
+    if row(d, INTERFACE_COUNT_ROW) <= face {
         return Found::Nothing;
     }
-    let count = row(d, 19 + face);
+    let count = row(d, MEMBER_COUNT_ROWS + face);
     let mut j = 0;
-    while j < 12 {
+    while j < MOST_MEMBERS {
         if count <= j {
             return Found::Nothing;
         }
@@ -259,18 +282,18 @@ fn faults_of(
 ) -> Faulted
     ensures { λ r. ⌜ Entity-found (now (text .entry)) (now (classes .entry)) (now (offsets .entry)) (now (lengths .entry)) (now (d .entry)) e r ⌝ }
 {
-    if 32 <= e {
+    if MOST_ENTITIES <= e {
         return Faulted {
             names: Found::Nothing,
             kinds: Found::Nothing,
         };
     }
-    let p = row(d, 227 + e);
-    let face = row(d, 323 + e);
+    let p = row(d, ENTITY_ROWS + e);
+    let face = row(d, ENTITY_INTERFACE_ROWS + e);
     let from = p + 5;
     let set = assignment_faults(text, classes, offsets, lengths, d, face, from);
     let at = row(offsets, p + 3) as u32;
-    let known = unless(face < 16, 16, at);
+    let known = unless(face < NO_INTERFACE, 16, at);
     let unset = unset_fault(text, classes, offsets, lengths, d, face, from, set.end);
     let again = set.again;
     let members = set.members;
@@ -289,11 +312,19 @@ pub fn entity_faults(
 ) -> Faulted
     ensures { λ r. ⌜ Entities-found (now (text .entry)) (now (classes .entry)) (now (offsets .entry)) (now (lengths .entry)) (now (d .entry)) r ⌝ }
 {
-    let count = row(d, 1);
-    let mut names = repeated(text, offsets, lengths, d, 227, count, 32);
+    let count = row(d, ENTITY_COUNT_ROW);
+    let mut names = repeated(
+        text,
+        offsets,
+        lengths,
+        d,
+        ENTITY_ROWS_32,
+        count,
+        MOST_ENTITIES_8,
+    );
     let mut kinds = Found::Nothing;
     let mut e = 0;
-    while e < 32 {
+    while e < MOST_ENTITIES {
         if count <= e {
             return Faulted { names, kinds };
         }

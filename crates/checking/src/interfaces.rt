@@ -3,6 +3,14 @@ ghost use Rattle.checking.specs.DeclarationWalk.{Repeated-rows, Interfac
 use crate::faults::Found;
 use crate::faults::earlier;
 use crate::faults::unless;
+use crate::layout::INTERFACE_COUNT_ROW;
+use crate::layout::INTERFACE_ROWS_32;
+use crate::layout::MEMBER_COUNT_ROWS;
+use crate::layout::MEMBER_ROWS_32;
+use crate::layout::MOST_INTERFACES;
+use crate::layout::MOST_INTERFACES_8;
+use crate::layout::MOST_MEMBERS_8;
+use crate::layout::MOST_MEMBERS_32;
 use crate::table::first_named;
 use crate::table::row;
 
@@ -40,16 +48,24 @@ pub fn repeated(
 pub fn interface_faults(text: &[u8], offsets: &[u16], lengths: &[u8], d: &[u16]) -> Found
     ensures { λ r. ⌜ Interfaces-found (now (text .entry)) (now (offsets .entry)) (now (lengths .entry)) (now (d .entry)) r ⌝ }
 {
-    let count = row(d, 0);
-    let mut found = repeated(text, offsets, lengths, d, 3, count, 16);
+    let count = row(d, INTERFACE_COUNT_ROW);
+    let mut found = repeated(
+        text,
+        offsets,
+        lengths,
+        d,
+        INTERFACE_ROWS_32,
+        count,
+        MOST_INTERFACES_8,
+    );
     let mut k = 0;
-    while k < 16 {
+    while k < MOST_INTERFACES {
         if count <= k {
             return found;
         }
-        let base = 35 + (k as u32) * 12;
-        let members = row(d, 19 + k);
-        let one = repeated(text, offsets, lengths, d, base, members, 12);
+        let base = MEMBER_ROWS_32 + (k as u32) * MOST_MEMBERS_32;
+        let members = row(d, MEMBER_COUNT_ROWS + k);
+        let one = repeated(text, offsets, lengths, d, base, members, MOST_MEMBERS_8);
         found = earlier(found, one);
         k += 1;
     }

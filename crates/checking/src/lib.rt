@@ -8,6 +8,7 @@ pub mod entities; // the entities of a file
 pub mod expressions; // names and kinds of expressions
 pub mod faults; // what a walk of the check finds
 pub mod interfaces; // the interfaces of a file
+pub mod layout; // the counts, and the rows of a directory
 pub mod meanings; // what the names in a rule mean
 pub mod names; // an entity's name by its number
 pub mod resolver; // what the names of rules refer to, as numbers

@@ -10,6 +10,11 @@ ghost use Rattle.checking.specs.RuleParts.{Declaration, Repeated-at, Rep
 use crate::faults::Found;
 use crate::faults::earlier;
 use crate::faults::unless;
+use crate::layout::ENTITY_INTERFACE_ROWS;
+use crate::layout::INTERFACE_COUNT_ROW;
+use crate::layout::NO_ENTITY;
+use crate::layout::NO_INTERFACE;
+use crate::layout::NO_MEMBER;
 use crate::table::entity_number;
 use crate::table::interface_number;
 use crate::table::member_kind;
@@ -25,16 +30,7 @@ use text::classes::NAME;
 use text::walks::class_at;
 use text::walks::skip;
 
-// Numbers for none, and the directory's first row for the interfaces of entities.
-const NO_INTERFACE: usize = 16;
-
-const NO_ENTITY: usize = 32;
-
-const NO_MEMBER: usize = 12;
-
-const ENTITY_INTERFACES: usize = 323;
-
-// Is it an entity or a variable of the rule, and the number of its interface; 16 if there is none.
+// Is it an entity or a variable of the rule, and the number of its interface; NO_INTERFACE if there is none.
 pub struct Meaning {
     pub known: bool,
     pub face: usize,
@@ -148,7 +144,7 @@ pub fn meaning_of(
     if e < NO_ENTITY {
         return Meaning {
             known: true,
-            face: row(d, ENTITY_INTERFACES + e),
+            face: row(d, ENTITY_INTERFACE_ROWS + e),
         };
     }
     let size = classes.len();
@@ -200,7 +196,7 @@ pub fn cell_of(
     if NO_MEMBER <= m {
         return Cell {
             kind: 0,
-            names: unless(row(d, 0) <= face, 16, at),
+            names: unless(row(d, INTERFACE_COUNT_ROW) <= face, 16, at),
         };
     }
     let fits = sort_fits(want, member_sort(classes, d, face, m));

@@ -4,6 +4,10 @@ ghost use Rattle.checking.specs.Verdict.{entity-name};
 ghost use Rattle.checking.specs.CheckSteps.{Names-entity};
 use crate::check::Checked;
 use crate::check::check;
+use crate::layout::DIRECTORY;
+use crate::layout::ENTITY_COUNT_ROW;
+use crate::layout::ENTITY_ROWS;
+use crate::layout::MOST_BYTES;
 use crate::table::name;
 use crate::table::row;
 
@@ -22,10 +26,10 @@ fn name_checked<'a>(
         Checked::NoRoom => &text[0..0],
         Checked::Refused { code: _, at: _ } => &text[0..0],
         Checked::Accepted(_) => {
-            if row(d, 1) <= number {
+            if row(d, ENTITY_COUNT_ROW) <= number {
                 return &text[0..0];
             }
-            let first = row(d, 227 + number);
+            let first = row(d, ENTITY_ROWS + number);
             name(text, offsets, lengths, first + 1)
         }
     }
@@ -35,11 +39,11 @@ fn name_checked<'a>(
 pub fn entity_name(text: &[u8], number: usize) -> &[u8]
     ensures { λ r. ⌜ now r ≡ entity-name (now (text .entry)) number ⌝ }
 {
-    let mut classes = [0u8; 32768];
-    let mut offsets = [0u16; 32768];
-    let mut lengths = [0u8; 32768];
-    let mut values = [0u32; 32768];
-    let mut d = [0u16; 355];
+    let mut classes = [0u8; MOST_BYTES];
+    let mut offsets = [0u16; MOST_BYTES];
+    let mut lengths = [0u8; MOST_BYTES];
+    let mut values = [0u32; MOST_BYTES];
+    let mut d = [0u16; DIRECTORY];
     let checked = check(
         text,
         &mut classes,

@@ -16,7 +16,14 @@ ghost use Rattle.checking.specs.Resolving.{
   Variables-held,
   Scopes-resolved,
 };
-ghost use Rattle.checking.specs.Resolution.{Resolves};
+ghost use Rattle.checking.specs.Resolution.{scope-row, ALL-SCOPE-ROWS, Resolves};
+use crate::layout::FIRST_VARIABLE_16;
+use crate::layout::MOST_MEMBERS_16;
+use crate::layout::MOST_RULES_8;
+use crate::layout::NO_ENTITY;
+use crate::layout::RULE_COUNT_ROW;
+use crate::layout::RULE_ROWS;
+use crate::layout::SCOPE_ROWS;
 use crate::meanings::declares;
 use crate::meanings::meaning_of;
 use crate::table::entity_number;
@@ -36,20 +43,14 @@ use text::classes::WITH;
 use text::walks::class_at;
 use text::walks::skip;
 
-const NO_ENTITY: usize = 32;
-
 // The class of the token that ends a rule, and so its declarations.
 const LAST: u8 = END;
 
-// The number of a rule's first variable, as a reference, and that of no reference.
-const VARIABLES: u16 = 32;
-
+// The number of no reference.
 const NO_REFERENCE: u16 = 255;
 
 // A row's part for a name that is no member.
-const NO_MEMBER: u16 = 3072;
-
-const RULE_ROWS: usize = 259;
+const NO_MEMBER_PART: u16 = MOST_MEMBERS_16 * 256;
 
 // How many variables a rule has, three at most, and the numbers of their interfaces.
 pub struct Variables {
@@ -59,7 +60,7 @@ pub struct Variables {
     pub third: u8,
 }
 
-// The variable that token number i names in the rule that begins at `start`, 32 for the first; 255 if there is none, or for the 224th and later ones.
+// The variable that token number i names in the rule that begins at `start`, by its reference; NO_REFERENCE if there is none, or for the 224th and later ones.
 fn variable_reference(
     text: &[u8],
     classes: &[u8],
@@ -71,7 +72,7 @@ fn variable_reference(
     ensures { λ r. ⌜ Variable-reference (now (text .entry)) (now (classes .entry)) (now (offsets .entry)) (now (lengths .entry)) start i r ⌝ }
 {
     let size = classes.len();
-    let mut k = VARIABLES;
+    let mut k = FIRST_VARIABLE_16;
     let mut n = start;
     while n < size {
         if NO_REFERENCE <= k {
@@ -142,7 +143,7 @@ fn owner_of(classes: &[u8], i: usize) -> usize
     i - 2
 }
 
-// The member that token number i names of what token number `owner` means in the rule that begins at `start`; 12 if there is none.
+// The member that token number i names of what token number `owner` means in the rule that begins at `start`; NO_MEMBER if there is none.
 fn member_of(
     text: &[u8],
     classes: &[u8],
@@ -176,7 +177,7 @@ fn row_resolved(
     let low = reference(text, classes, offsets, lengths, d, start, i);
     let owner = owner_of(classes, i);
     if classes.len() <= owner {
-        return NO_MEMBER + low;
+        return NO_MEMBER_PART + low;
     }
     member_of(text, classes, offsets, lengths, d, start, owner, i) * 256 + low
 }
@@ -303,10 +304,10 @@ fn put(scopes: &mut [u8], at: usize, n: u8)
 // Puts a rule's variables into its four rows.
 fn put_variables(scopes: &mut [u8], k: u8, v: Variables)
     ensures { λ _. ⌜
-        now (scopes .exit) ≡ set (set (set (set (now (scopes .entry)) (4 * k) (v .count)) (4 * k + 1) (v .first)) (4 * k + 2) (v .second))
-        (4 * k + 3) (v .third) ⌝ }
+        now (scopes .exit) ≡ set (set (set (set (now (scopes .entry)) (scope-row k) (v .count)) (scope-row k + 1) (v .first)) (scope-row k + 2) (v .second))
+        (scope-row k + 3) (v .third) ⌝ }
 {
-    let at = 4 * (k as usize);
+    let at = SCOPE_ROWS * (k as usize);
     put(scopes, at, v.count);
     put(scopes, at + 1, v.first);
     put(scopes, at + 2, v.second);
@@ -322,14 +323,14 @@ pub fn resolve_scopes(
     d: &[u16],
     scopes: &mut [u8],
 )
-    requires { ⌜ 256 ≤ length (now scopes) ⌝ }
+    requires { ⌜ ALL-SCOPE-ROWS ≤ length (now scopes) ⌝ }
     ensures { λ _. ⌜
         Scopes-resolved (now (text .entry)) (now (classes .entry)) (now (offsets .entry)) (now (lengths .entry)) (now (d .entry))
         (now (scopes .entry)) (now (scopes .exit)) ⌝ }
 {
-    let count = row(d, 2);
+    let count = row(d, RULE_COUNT_ROW);
     let mut k: u8 = 0;
-    while k < 64 {
+    while k < MOST_RULES_8 {
         let rule = k as usize;
         if count <= rule {
             return;
@@ -351,7 +352,7 @@ pub fn resolve(
     refs: &mut [u16],
     scopes: &mut [u8],
 )
-    requires { ⌜ (length (now classes) ≤ length (now refs)) × (256 ≤ length (now scopes)) ⌝ }
+    requires { ⌜ (length (now classes) ≤ length (now refs)) × (ALL-SCOPE-ROWS ≤ length (now scopes)) ⌝ }
     ensures { λ _. ⌜
         Resolves (now (text .entry)) (now (classes .entry)) (now (offsets .entry)) (now (lengths .entry)) (now (d .entry)) (now (refs .entry))
         (now (scopes .entry)) (now (refs .exit)) (now (scopes .exit)) ⌝ }

@@ -3,9 +3,23 @@ ghost use mathlib.Core.Path.{_≡_};
 ghost use Prim.Native.Nat.{_<_, _≤_};
 ghost use lib.ListN.{length, getD, getElem?};
 ghost use Rattle.values.specs.Bytes.{same-bytes};
-ghost use Rattle.checking.specs.Directory.{name-in, sort-class, kind-class, interface-number, entity-number, member-number};
+ghost use Rattle.checking.specs.CountFaults.{MOST-INTERFACES, MOST-ENTITIES};
+ghost use Rattle.checking.specs.Directory.{name-in, sort-class, kind-class, NO-INTERFACE, NO-ENTITY, NO-MEMBER, interface-number, entity-number, member-number};
 ghost use Rattle.checking.specs.ClassSearch.{First-of};
 ghost use Rattle.checking.specs.DirectoryReads.{First-named, Number-of, Member-row, Member-class, few-members};
+use crate::layout::ENTITY_COUNT_ROW;
+use crate::layout::ENTITY_ROWS_32;
+use crate::layout::INTERFACE_COUNT_ROW;
+use crate::layout::INTERFACE_ROWS_32;
+use crate::layout::MEMBER_COUNT_ROWS;
+use crate::layout::MEMBER_ROWS;
+use crate::layout::MEMBER_ROWS_32;
+use crate::layout::MOST_ENTITIES_8;
+use crate::layout::MOST_INTERFACES_8;
+use crate::layout::MOST_MEMBERS;
+use crate::layout::MOST_MEMBERS_8;
+use crate::layout::MOST_MEMBERS_32;
+use crate::layout::NO_MEMBER;
 use text::walks::class_at;
 
 // A row of the directory, or of the offsets.
@@ -88,25 +102,45 @@ pub fn first_named(
     top
 }
 
-// The interface that token number i names; 16 if there is none.
+// The interface that token number i names; NO_INTERFACE if there is none.
 pub fn interface_number(text: &[u8], offsets: &[u16], lengths: &[u8], d: &[u16], i: usize) -> usize
     ensures { λ r. ⌜
-        Number-of (now (text .entry)) (now (offsets .entry)) (now (lengths .entry)) (now (d .entry)) 16 (λ f. length (f .interfaces) ≤ 16)
+        Number-of (now (text .entry)) (now (offsets .entry)) (now (lengths .entry)) (now (d .entry)) NO-INTERFACE
+        (λ f. length (f .interfaces) ≤ MOST-INTERFACES)
         (λ f. interface-number f (name-in (now (text .entry)) (now (offsets .entry)) (now (lengths .entry)) i)) r ⌝ }
 {
-    first_named(text, offsets, lengths, d, 3, row(d, 0), 16, i)
+    first_named(
+        text,
+        offsets,
+        lengths,
+        d,
+        INTERFACE_ROWS_32,
+        row(d, INTERFACE_COUNT_ROW),
+        MOST_INTERFACES_8,
+        i,
+    )
 }
 
-// The entity that token number i names; 32 if there is none.
+// The entity that token number i names; NO_ENTITY if there is none.
 pub fn entity_number(text: &[u8], offsets: &[u16], lengths: &[u8], d: &[u16], i: usize) -> usize
     ensures { λ r. ⌜
-        Number-of (now (text .entry)) (now (offsets .entry)) (now (lengths .entry)) (now (d .entry)) 32 (λ f. length (f .entities) ≤ 32)
+        Number-of (now (text .entry)) (now (offsets .entry)) (now (lengths .entry)) (now (d .entry)) NO-ENTITY
+        (λ f. length (f .entities) ≤ MOST-ENTITIES)
         (λ f. entity-number f (name-in (now (text .entry)) (now (offsets .entry)) (now (lengths .entry)) i)) r ⌝ }
 {
-    first_named(text, offsets, lengths, d, 227, row(d, 1), 32, i)
+    first_named(
+        text,
+        offsets,
+        lengths,
+        d,
+        ENTITY_ROWS_32,
+        row(d, ENTITY_COUNT_ROW),
+        MOST_ENTITIES_8,
+        i,
+    )
 }
 
-// The member of interface number `face` that token number i names; 12 if there is none.
+// The member of interface number `face` that token number i names; NO_MEMBER if there is none.
 pub fn member_number(
     text: &[u8],
     offsets: &[u16],
@@ -116,27 +150,36 @@ pub fn member_number(
     i: usize,
 ) -> usize
     ensures { λ r. ⌜
-        Number-of (now (text .entry)) (now (offsets .entry)) (now (lengths .entry)) (now (d .entry)) 12 (few-members face)
+        Number-of (now (text .entry)) (now (offsets .entry)) (now (lengths .entry)) (now (d .entry)) NO-MEMBER (few-members face)
         (λ f. member-number (getElem? (f .interfaces) face) (name-in (now (text .entry)) (now (offsets .entry)) (now (lengths .entry)) i)) r ⌝ }
 {
-    if row(d, 0) <= face {
-        return 12;
+    if row(d, INTERFACE_COUNT_ROW) <= face {
+        return NO_MEMBER;
     }
-    let base = 35 + (face as u32) * 12;
-    first_named(text, offsets, lengths, d, base, row(d, 19 + face), 12, i)
+    let base = MEMBER_ROWS_32 + (face as u32) * MOST_MEMBERS_32;
+    first_named(
+        text,
+        offsets,
+        lengths,
+        d,
+        base,
+        row(d, MEMBER_COUNT_ROWS + face),
+        MOST_MEMBERS_8,
+        i,
+    )
 }
 
 // The row of member number m of interface number `face`, or 0.
 pub fn member_at(d: &[u16], face: usize, m: usize) -> usize
     ensures { λ r. ⌜ Member-row (now (d .entry)) face m r ⌝ }
 {
-    if row(d, 0) <= face {
+    if row(d, INTERFACE_COUNT_ROW) <= face {
         return 0;
     }
-    if row(d, 19 + face) <= m {
+    if row(d, MEMBER_COUNT_ROWS + face) <= m {
         return 0;
     }
-    row(d, 35 + face * 12 + m)
+    row(d, MEMBER_ROWS + face * MOST_MEMBERS + m)
 }
 
 // The class that says the sort of member number m of interface number `face`.
