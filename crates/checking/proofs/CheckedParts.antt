@@ -10,7 +10,7 @@ use Rattle.text.specs.Tokens.{WHOLE, BOOL, REAL}
 use Rattle.text.specs.Syntax.{Expression, to-real}
 use Rattle.checking.specs.declared.faults.Found.{Found}
 use Rattle.checking.specs.declared.faults.Found.the-variants as variants
-use Rattle.checking.specs.declared.expressions.Checked.{Checked}
+use Rattle.checking.specs.declared.expressions.Kinded.{Kinded}
 use Rattle.checking.specs.declared.conditions.Part.{Part}
 use Rattle.checking.specs.Faults.{Fault, fault-unless, earliest}
 use Rattle.checking.specs.FoundFaults.{found-as, merged}
@@ -56,10 +56,10 @@ pub literal-checked : {next kind : ℕ} → Literal-checked next kind (record { 
 unfolding kind-of expression-names expression-kinds kind-code
 literal-checked = record { next-is = refl; checked = λ s l e. record { kind = e; names = found-nothing; kinds = found-nothing } }
 
-pub closed-checked : {x : Checked} {next : ℕ} → Closed-checked x next (record { next = next; kind = x .kind; names = x .names; kinds = x .kinds })
+pub closed-checked : {x : Kinded} {next : ℕ} → Closed-checked x next (record { next = next; kind = x .kind; names = x .names; kinds = x .kinds })
 closed-checked = record { next-is = refl; checked = λ s a h. record { kind = h .kind; names = h .names; kinds = h .kinds } }
 
-module _ (offset : ℕ) {x : Checked} where
+module _ (offset : ℕ) {x : Kinded} where
   real-kinds : {fit : Bool} {here kinds : Option Fault} → Kinds-fit (x .kind) WHOLE fit → here ≡ earliest (fault-unless fit 18 offset)
       → kinds ≡ merged here (found-as (x .kinds)) → (s : Scope) (a : Expression) → Expression-checked s a x
       → kinds ≡ earliest (expression-kinds s (to-real offset a))
@@ -103,7 +103,7 @@ module _ (offset : ℕ) {x : Checked} where
         record { kind = h .kind ∙ k .0; names = h .names; kinds = h .kinds ∙ rw (k .1) };
   }
 
-  pub applied : {y : Checked} {fit : Bool} {kind : ℕ} {here inside : Option Fault} {names kinds : Found} → Operands-fit (x .kind) (y .kind) fit
+  pub applied : {y : Kinded} {fit : Bool} {kind : ℕ} {here inside : Option Fault} {names kinds : Found} → Operands-fit (x .kind) (y .kind) fit
       → here ≡ earliest (fault-unless fit 18 offset) → Operated-kind (x .kind) (y .kind) kind
       → found-as names ≡ merged (found-as (x .names)) (found-as (y .names))
       → inside ≡ merged (found-as (x .kinds)) (found-as (y .kinds)) → found-as kinds ≡ merged here inside
@@ -128,7 +128,7 @@ module _ (offset : ℕ) {x : Checked} where
 pub nothing-found : {next : ℕ} → Nothing-found next (record { next = next; names = variants.Nothing; kinds = variants.Nothing })
 nothing-found = record { next-is = refl; part = record { names-found = found-nothing; kinds-found = found-nothing } }
 
-pub matched : {kind offset : ℕ} {e : Checked} {fit : Bool} {here : Option Fault} {kinds : Found} → Kinds-fit kind (e .kind) fit
+pub matched : {kind offset : ℕ} {e : Kinded} {fit : Bool} {here : Option Fault} {kinds : Found} → Kinds-fit kind (e .kind) fit
     → here ≡ earliest (fault-unless fit 18 offset) → found-as kinds ≡ merged here (found-as (e .kinds))
     → Matched kind offset e (record { next = e .next; names = e .names; kinds = kinds })
 unfolding matched-kinds

@@ -36,7 +36,7 @@ use Rattle.checking.specs.declared.faults.Found.{Found}
 use Rattle.checking.specs.declared.faults.Found.the-variants as variants
 use Rattle.checking.specs.declared.meanings.Meaning.{Meaning}
 use Rattle.checking.specs.declared.meanings.Cell.{Cell}
-use Rattle.checking.specs.declared.expressions.Checked.{Checked}
+use Rattle.checking.specs.declared.expressions.Kinded.{Kinded}
 use Rattle.checking.specs.declared.conditions.Part.{Part}
 use Rattle.checking.specs.declared.conditions.Place.{Place}
 use Rattle.checking.specs.Faults.{Fault, fault-unless, earliest}
@@ -171,17 +171,17 @@ module _ {text classes offsets lengths d : List ℕ} where
       kinds = found-nothing;
     })
 
-    module _ (i : ℕ) {offset : ℕ} {x : Checked} (o : offset ≡ getD offsets i 0) (c : Rule-world text classes offsets lengths d start)
+    module _ (i : ℕ) {offset : ℕ} {x : Kinded} (o : offset ≡ getD offsets i 0) (c : Rule-world text classes offsets lengths d start)
         (h : i < length classes) where
-      pub real-checked : {next : ℕ} {r : Checked} → Real-checked offset x next r → (a : Expression) → Expression-checked (world-scope c) a x
+      pub real-checked : {next : ℕ} {r : Kinded} → Real-checked offset x next r → (a : Expression) → Expression-checked (world-scope c) a x
           → Expression-checked (world-scope c) (to-real (nth-token (c .bench .tokens) i .at) a) r
       real-checked f a e = rw (offset-stands (c .bench) i h, ← o) (f .checked (world-scope c) a e)
 
-      pub negated-checked : {r : Checked} → Negated-checked offset x r → (a : Expression) → Expression-checked (world-scope c) a x
+      pub negated-checked : {r : Kinded} → Negated-checked offset x r → (a : Expression) → Expression-checked (world-scope c) a x
           → Expression-checked (world-scope c) (negate (nth-token (c .bench .tokens) i .at) a) r
       negated-checked f a e = rw (offset-stands (c .bench) i h, ← o) (f .checked (world-scope c) a e)
 
-      pub applied-checked : {y r : Checked} → Applied-checked offset x y r → (a b : Expression) → Expression-checked (world-scope c) a x
+      pub applied-checked : {y r : Kinded} → Applied-checked offset x y r → (a b : Expression) → Expression-checked (world-scope c) a x
           → Expression-checked (world-scope c) b y → Expression-checked (world-scope c) (apply-at (nth-token (c .bench .tokens) i) a b) r
       unfolding apply-at
       applied-checked f a b e g =
@@ -213,7 +213,7 @@ module _ {text classes offsets lengths d : List ℕ} where
     unfolding filter-names filter-kinds
     no-filter-checked face h c = record { part = λ t e. h .part }
 
-    pub filter-checked : (i j : ℕ) {face : ℕ} {found : Cell} {e : Checked} {offset : ℕ} {p r : Part}
+    pub filter-checked : (i j : ℕ) {face : ℕ} {found : Cell} {e : Kinded} {offset : ℕ} {p r : Part}
         → Cell-of text classes offsets lengths d face ATTRIBUTE i found
         → offset ≡ getD offsets j 0 → Matched (found .kind) offset e p → After (found .names) p r → (c : Rule-world text classes offsets lengths d start)
         → i < length classes → j < length classes → (a : Expression) → Expression-checked (world-scope c) a e
@@ -234,7 +234,7 @@ module _ {text classes offsets lengths d : List ℕ} where
     unfolding test-names test-kinds
     changed-checked kind h c = record { part = λ k e. h .part }
 
-    pub equals-checked : (at : ℕ) {kind offset : ℕ} {e : Checked} {r : Part} → offset ≡ getD offsets at 0 → Matched kind offset e r
+    pub equals-checked : (at : ℕ) {kind offset : ℕ} {e : Kinded} {r : Part} → offset ≡ getD offsets at 0 → Matched kind offset e r
         → (c : Rule-world text classes offsets lengths d start) → at < length classes → (a : Expression) → Expression-checked (world-scope c) a e
         → Test-checked text classes offsets lengths d start kind c (equals (nth-token (c .bench .tokens) at .at) a) r
     unfolding test-names test-kinds
@@ -304,7 +304,7 @@ module _ {text classes offsets lengths d : List ℕ} where
     unfolding flatMap
     no-call-checked h c = h .part
 
-    pub call-checked : (at i j : ℕ) {e : Checked} {target : Place} {found : Cell} {offset : ℕ} {f p q s r : Part}
+    pub call-checked : (at i j : ℕ) {e : Kinded} {target : Place} {found : Cell} {offset : ℕ} {f p q s r : Part}
         → Cell-of text classes offsets lengths d (target .face) ACTION i found → offset ≡ getD offsets j 0 → Matched (found .kind) offset e p
         → After (target .names) f q → Joined p q s → After (found .names) s r → (c : Rule-world text classes offsets lengths d start)
         → i < length classes → j < length classes → (a : Expression) (x : Target) (y : Option Filter) → Expression-checked (world-scope c) a e

@@ -35,7 +35,7 @@ use Rattle.checking.specs.DirectoryReads.{Few}
 use Rattle.checking.specs.declared.faults.Found.{Found}
 use Rattle.checking.specs.declared.meanings.Meaning.{Meaning}
 use Rattle.checking.specs.declared.meanings.Cell.{Cell}
-use Rattle.checking.specs.declared.expressions.Checked.{Checked}
+use Rattle.checking.specs.declared.expressions.Kinded.{Kinded}
 use Rattle.checking.specs.declared.conditions.Part.{Part}
 use Rattle.checking.specs.declared.conditions.Place.{Place}
 use Rattle.checking.specs.Faults.{Fault, fault-unless, earliest}
@@ -165,37 +165,37 @@ pub record Operated-kind (j k r : ℕ) : Type 0 where
   pub is : (a b : Option Kind) → j ≡ kind-code a → k ≡ kind-code b → r ≡ kind-code (bind a λ x. bind b λ y. operated-kind x y)
 
 -- what the check of an expression gives
-pub record Expression-checked (s : Scope) (a : Expression) (r : Checked) : Type 0 where
+pub record Expression-checked (s : Scope) (a : Expression) (r : Kinded) : Type 0 where
   pub kind : r .kind ≡ kind-code (kind-of s a)
   pub names : found-as (r .names) ≡ earliest (expression-names s a)
   pub kinds : found-as (r .kinds) ≡ earliest (expression-kinds s a)
 
-pub record Literal-checked (next kind : ℕ) (r : Checked) : Type 0 where
+pub record Literal-checked (next kind : ℕ) (r : Kinded) : Type 0 where
   pub next-is : r .next ≡ next
   pub checked : (s : Scope) (l : Literal) → kind ≡ kind-class (literal-kind l) → Expression-checked s (literal l) r
 
-pub record Closed-checked (x : Checked) (next : ℕ) (r : Checked) : Type 0 where
+pub record Closed-checked (x : Kinded) (next : ℕ) (r : Kinded) : Type 0 where
   pub next-is : r .next ≡ next
   pub checked : (s : Scope) (a : Expression) → Expression-checked s a x → Expression-checked s a r
 
-pub record Real-checked (offset : ℕ) (x : Checked) (next : ℕ) (r : Checked) : Type 0 where
+pub record Real-checked (offset : ℕ) (x : Kinded) (next : ℕ) (r : Kinded) : Type 0 where
   pub next-is : r .next ≡ next
   pub checked : (s : Scope) (a : Expression) → Expression-checked s a x → Expression-checked s (to-real offset a) r
 
-pub record Negated-checked (offset : ℕ) (x r : Checked) : Type 0 where
+pub record Negated-checked (offset : ℕ) (x r : Kinded) : Type 0 where
   pub next-is : r .next ≡ x .next
   pub checked : (s : Scope) (a : Expression) → Expression-checked s a x → Expression-checked s (negate offset a) r
 
-pub record Applied-checked (offset : ℕ) (x y r : Checked) : Type 0 where
+pub record Applied-checked (offset : ℕ) (x y r : Kinded) : Type 0 where
   pub next-is : r .next ≡ y .next
   pub checked : (s : Scope) (o : Operator) (a b : Expression) → Expression-checked s a x → Expression-checked s b y
       → Expression-checked s (apply o offset a b) r
 
 module _ (text classes offsets lengths d : List ℕ) (start : ℕ) where
-  abbrev pub expression-yields : Rule-world text classes offsets lengths d start → Expression → Checked → Type 0
+  abbrev pub expression-yields : Rule-world text classes offsets lengths d start → Expression → Kinded → Type 0
   expression-yields c a r = Expression-checked (world-scope c) a r
 
-  abbrev pub Expression-walk : Reader Expression → ℕ → Checked → Type 0
+  abbrev pub Expression-walk : Reader Expression → ℕ → Kinded → Type 0
   Expression-walk r at v = Walks world-rows expression-yields r at v (v .next)
 
 -- ---- conditions and calls
@@ -209,7 +209,7 @@ pub record Nothing-found (next : ℕ) (r : Part) : Type 0 where
   pub next-is : r .next ≡ next
   pub part : Part-of [] [] r
 
-pub record Matched (kind offset : ℕ) (e : Checked) (r : Part) : Type 0 where
+pub record Matched (kind offset : ℕ) (e : Kinded) (r : Part) : Type 0 where
   pub next-is : r .next ≡ e .next
   pub part : (s : Scope) (k : Option Kind) (a : Expression) → kind ≡ kind-code k → Expression-checked s a e
       → Part-of (expression-names s a) (matched-kinds s k offset a) r

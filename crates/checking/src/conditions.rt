@@ -5,7 +5,7 @@ ghost use Rattle.text.specs.Grammar.{target-reader, filter-reader, test-reader,
 ghost use Rattle.text.specs.Grammar.{call-reader, call-after};
 ghost use Rattle.checking.specs.RuleParts.{Nothing-found, Matched, After, Joined, Place-walk, Filter-walk, Test-walk, Condition-walk};
 ghost use Rattle.checking.specs.RuleParts.{Call-walk, Calls-walk};
-use crate::expressions::Checked;
+use crate::expressions::Kinded;
 use crate::expressions::OPENERS;
 use crate::expressions::expression;
 use crate::expressions::kinds_fit;
@@ -54,7 +54,7 @@ fn nothing(next: usize) -> Part
 }
 
 // An expression beside a cell of some kind, after a `=` or `(` at an offset.
-fn matched(kind: u8, offset: u32, e: Checked) -> Part
+fn matched(kind: u8, offset: u32, e: Kinded) -> Part
     ensures { λ r. ⌜ Matched kind offset e r ⌝ }
 {
     let names = e.names;

@@ -30,7 +30,7 @@ use text::walks::skip;
 pub const OPENERS: u32 = 16;
 
 // An expression up to token number `next`: the class of its kind's word, 0 if it has none, and its earliest faults.
-pub struct Checked {
+pub struct Kinded {
     pub next: usize,
     pub kind: u8,
     pub names: Found,
@@ -75,10 +75,10 @@ fn operated_kind(j: u8, k: u8) -> u8
     j
 }
 
-fn literal(next: usize, kind: u8) -> Checked
+fn literal(next: usize, kind: u8) -> Kinded
     ensures { λ r. ⌜ Literal-checked next kind r ⌝ }
 {
-    Checked {
+    Kinded {
         next,
         kind,
         names: Found::Nothing,
@@ -87,12 +87,12 @@ fn literal(next: usize, kind: u8) -> Checked
 }
 
 // In parentheses.
-fn closed(x: Checked, next: usize) -> Checked
+fn closed(x: Kinded, next: usize) -> Kinded
     ensures { λ r. ⌜ Closed-checked x next r ⌝ }
 {
     let names = x.names;
     let kinds = x.kinds;
-    Checked {
+    Kinded {
         next,
         kind: x.kind,
         names,
@@ -101,21 +101,21 @@ fn closed(x: Checked, next: usize) -> Checked
 }
 
 // Under `real`, which takes a whole.
-fn made_real(offset: u32, x: Checked, next: usize) -> Checked
+fn made_real(offset: u32, x: Kinded, next: usize) -> Kinded
     ensures { λ r. ⌜ Real-checked offset x next r ⌝ }
 {
     let names = x.names;
     let inside = x.kinds;
     let kinds = earlier(unless(kinds_fit(x.kind, WHOLE), 18, offset), inside);
     if x.kind == WHOLE {
-        return Checked {
+        return Kinded {
             next,
             kind: REAL,
             names,
             kinds,
         };
     }
-    Checked {
+    Kinded {
         next,
         kind: 0,
         names,
@@ -124,20 +124,20 @@ fn made_real(offset: u32, x: Checked, next: usize) -> Checked
 }
 
 // Under unary `-`.
-fn negated(offset: u32, x: Checked) -> Checked
+fn negated(offset: u32, x: Kinded) -> Kinded
     ensures { λ r. ⌜ Negated-checked offset x r ⌝ }
 {
     let names = x.names;
     let inside = x.kinds;
     if x.kind == BOOL {
-        return Checked {
+        return Kinded {
             next: x.next,
             kind: 0,
             names,
             kinds: earlier(unless(false, 18, offset), inside),
         };
     }
-    Checked {
+    Kinded {
         next: x.next,
         kind: x.kind,
         names,
@@ -146,7 +146,7 @@ fn negated(offset: u32, x: Checked) -> Checked
 }
 
 // Under an operator.
-fn applied(offset: u32, x: Checked, y: Checked) -> Checked
+fn applied(offset: u32, x: Kinded, y: Kinded) -> Kinded
     ensures { λ r. ⌜ Applied-checked offset x y r ⌝ }
 {
     let left = x.names;
@@ -154,7 +154,7 @@ fn applied(offset: u32, x: Checked, y: Checked) -> Checked
     let first = x.kinds;
     let second = y.kinds;
     let here = unless(operands_fit(x.kind, y.kind), 18, offset);
-    Checked {
+    Kinded {
         next: y.next,
         kind: operated_kind(x.kind, y.kind),
         names: earlier(left, right),
@@ -171,7 +171,7 @@ fn member(
     d: &[u16],
     start: usize,
     at: usize,
-) -> Checked
+) -> Kinded
     ensures { λ r. ⌜
         Expression-walk (now (text .entry)) (now (classes .entry)) (now (offsets .entry)) (now (lengths .entry)) (now (d .entry)) start
         member-reader at r ⌝ }
@@ -184,7 +184,7 @@ fn member(
     let found = cell_of(text, classes, offsets, lengths, d, face, NAME, name);
     let wrong = found.names;
     let unknown = unless(owner.known, 16, offset(offsets, at));
-    Checked {
+    Kinded {
         next: skip(name, size),
         kind: found.kind,
         names: earlier(unknown, wrong),
@@ -201,7 +201,7 @@ fn leaf(
     d: &[u16],
     start: usize,
     at: usize,
-) -> Checked
+) -> Kinded
     ensures { λ r. ⌜
         Expression-walk (now (text .entry)) (now (classes .entry)) (now (offsets .entry)) (now (lengths .entry)) (now (d .entry)) start
         (simple-or halt) at r ⌝ }
@@ -257,7 +257,7 @@ fn factor(
     start: usize,
     at: usize,
     depth: u32,
-) -> Checked
+) -> Kinded
     ensures { λ r. ⌜
         Expression-walk (now (text .entry)) (now (classes .entry)) (now (offsets .entry)) (now (lengths .entry)) (now (d .entry)) start
         (factor-reader depth) at r ⌝ }
@@ -301,7 +301,7 @@ fn term(
     start: usize,
     at: usize,
     depth: u32,
-) -> Checked
+) -> Kinded
     ensures { λ r. ⌜
         Expression-walk (now (text .entry)) (now (classes .entry)) (now (offsets .entry)) (now (lengths .entry)) (now (d .entry)) start
         (term-reader depth) at r ⌝ }
@@ -333,7 +333,7 @@ pub fn expression(
     start: usize,
     at: usize,
     depth: u32,
-) -> Checked
+) -> Kinded
     ensures { λ r. ⌜
         Expression-walk (now (text .entry)) (now (classes .entry)) (now (offsets .entry)) (now (lengths .entry)) (now (d .entry)) start
         (expression-reader depth) at r ⌝ }
