@@ -10,7 +10,8 @@ use Rattle.text.specs.Syntax.{Rule, File}
 use Rattle.checking.specs.Scope.{Variable, variables}
 use Rattle.checking.specs.CheckedBench.{Checked-bench}
 use Rattle.checking.specs.Directory.{entity-interface-row}
-use Rattle.checking.specs.Resolution.{References, scope-row, Scopes}
+use Rattle.checking.specs.Resolution.{FIRST-VARIABLE, References, scope-row, Scopes}
+use Rattle.checking.specs.CountFaults.{MOST-INTERFACES, MOST-VARIABLES}
 use Rattle.cycles.specs.declared.evaluate.Binding.{Binding}
 use Rattle.cycles.specs.Store.{Store}
 use Rattle.cycles.specs.Spots.{spots}
@@ -35,11 +36,11 @@ Binds f vs b = (k : ℕ) (v : Variable) (e : ℕ) → getElem? vs k ≡ some v �
 
 -- a binding in memory has them
 abbrev pub Gives : Binding → List ℕ → Type 0
-Gives b es = (v e : ℕ) → getElem? es v ≡ some e → e ≡ bound b (32 + v)
+Gives b es = (v e : ℕ) → getElem? es v ≡ some e → e ≡ bound b (FIRST-VARIABLE + v)
 
 -- are there entities for all variables of rule number k, if there are for the first `level` of them? No rule has more than three
 abbrev pub complete : List ℕ → ℕ → ℕ → Bool
-complete scopes k level = leb 3 level || eqb (getD scopes (scope-row k) 0) level
+complete scopes k level = leb MOST-VARIABLES level || eqb (getD scopes (scope-row k) 0) level
 
 -- is entity number e present, and of interface number `face`?
 abbrev pub candidate : List ℕ → List ℕ → ℕ → ℕ → Bool
@@ -52,12 +53,12 @@ pub record Ranged (d flags : List ℕ) (n face first end : ℕ) : Type 0 where
 
 -- the same for each interface, in two rows
 abbrev pub Ranges : List ℕ → List ℕ → ℕ → List ℕ → Type 0
-Ranges d flags n ranges = (face : ℕ) → face < 16 → Ranged d flags n face (getD ranges (2 * face) 0) (getD ranges (2 * face + 1) 0)
+Ranges d flags n ranges = (face : ℕ) → face < MOST-INTERFACES → Ranged d flags n face (getD ranges (2 * face) 0) (getD ranges (2 * face + 1) 0)
 
 -- r is b with entity e for variable number `level`, the next one
 pub record Entity-added (b : Binding) (level e : ℕ) (r : Binding) : Type 0 where
-  pub gives : (es : List ℕ) → length es ≡ level → level < 3 → Gives b es → Gives r (es ++ e ∷ [])
-  pub keeps : (v : ℕ) → v < level → level < 3 → bound r (32 + v) ≡ bound b (32 + v)
+  pub gives : (es : List ℕ) → length es ≡ level → level < MOST-VARIABLES → Gives b es → Gives r (es ++ e ∷ [])
+  pub keeps : (v : ℕ) → v < level → level < MOST-VARIABLES → bound r (FIRST-VARIABLE + v) ≡ bound b (FIRST-VARIABLE + v)
 
 module _ (classes values d refs scopes flags cells previous-flags previous-cells : List ℕ) where
   -- rule number k for every binding that begins with entities for the first `level` variables

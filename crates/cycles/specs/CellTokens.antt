@@ -11,6 +11,7 @@ use Rattle.checking.specs.DirectoryReads.{Few}
 use Rattle.checking.specs.Scope.{member-of}
 use Rattle.checking.specs.Directory.{name-in, sort-class, kind-class, Bench}
 use Rattle.cycles.specs.Cycle.{is-sort}
+use Rattle.cycles.specs.StateImage.{ENTITY-CELLS}
 
 -- no token's number, for a cell of no member
 abbrev pub NO-TOKEN : ℕ
@@ -31,7 +32,7 @@ pub data Token-of (text classes offsets lengths : List ℕ) (r : ℕ) : Option M
 pub record Cell-token (d : List ℕ) (i r : ℕ) : Type 0 where
   pub within : r ≤ NO-TOKEN
   pub is : (text classes offsets lengths : List ℕ) (w : Bench text classes offsets lengths d) → Few (w .file)
-      → Token-of text classes offsets lengths r (member-of (w .file) (i / 12) (i % 12))
+      → Token-of text classes offsets lengths r (member-of (w .file) (i / ENTITY-CELLS) (i % ENTITY-CELLS))
 
 -- has the member whose first token has number `at` the sort that a class says? Of every test of sorts that says the same
 pub record Sort-test (classes : List ℕ) (at class : ℕ) (r : Bool) : Type 0 where

@@ -17,7 +17,7 @@ use Rattle.checking.specs.Resolution.{References, Scopes}
 use Rattle.cycles.specs.Store.{Inputs}
 use Rattle.cycles.specs.Cycle.{is-sort, cycle}
 use Rattle.cycles.specs.SoundState.{Sound-inputs}
-use Rattle.cycles.specs.StateImage.{table, flag, entity-count, decode, is-state, with-state}
+use Rattle.cycles.specs.StateImage.{CELL-BYTES, ENTITY-CELLS, ENTITY-CELL-BYTES, NO-READING, table, flag, entity-count, decode, is-state, with-state}
 use Rattle.cycles.specs.LineReads.{presence-table, input-table}
 use Rattle.cycles.specs.Judging.{present-by}
 
@@ -35,14 +35,15 @@ leaves-by before after = eqb before 1 && not (eqb after 1)
 unfoldable pub seen-value : List ℕ → List ℕ → List ℕ → List ℕ → File → ℕ → Value
 unfolding is-sort is-attribute member-of
 seen-value present seen cells inputs f i =
-    cond (eqb (getD inputs (i * 9) 0) 4)
-    (cond (leaves-by (getD present (i / 12) 0) (getD seen (i / 12) 0) && not (is-sort is-attribute (member-of f (i / 12) (i % 12)))) Unset (cell-at cells i))
+    cond (eqb (getD inputs (i * CELL-BYTES) 0) NO-READING)
+    (cond (leaves-by (getD present (i / ENTITY-CELLS) 0) (getD seen (i / ENTITY-CELLS) 0)
+    && not (is-sort is-attribute (member-of f (i / ENTITY-CELLS) (i % ENTITY-CELLS)))) Unset (cell-at cells i))
     (cell-at inputs i)
 
 -- cell number i after the cycle: an action's as it was written, any other as the rules saw it
 unfoldable pub next-value : List ℕ → List ℕ → File → ℕ → Value
 unfolding is-sort is-action member-of
-next-value cells area f i = cond (is-sort is-action (member-of f (i / 12) (i % 12))) (cell-at area i) (cell-at cells i)
+next-value cells area f i = cond (is-sort is-action (member-of f (i / ENTITY-CELLS) (i % ENTITY-CELLS))) (cell-at area i) (cell-at cells i)
 
 -- the value of cell number i, for every file that stands in the columns and the directory
 pub record Value-of (classes d : List ℕ) (value : File → ℕ → Value) (i : ℕ) (v : Value) : Type 0 where
@@ -52,7 +53,7 @@ pub record Value-of (classes d : List ℕ) (value : File → ℕ → Value) (i :
 pub record Values-put (classes d : List ℕ) (value : File → ℕ → Value) (k : ℕ) (before after : List ℕ) : Type 0 where
   pub same : length after ≡ length before
   pub is : (text offsets lengths : List ℕ) (w : Bench text classes offsets lengths d) → Few (w .file)
-      → after ≡ table (λ i. cell-bytes (value (w .file) i)) 0 k ++ drop (k * 9) before
+      → after ≡ table (λ i. cell-bytes (value (w .file) i)) 0 k ++ drop (k * CELL-BYTES) before
 
 -- ---- the contract
 
@@ -64,6 +65,6 @@ pub record Cycled (classes values d refs scopes : List ℕ) (number : ℕ) (inpu
       → is-state (c .bench .file) state ≡ true
       → (i : Inputs) → Sound-inputs (c .bench .file) i
       → take (entity-count (c .bench .file)) input-flags ≡ presence-table i (entity-count (c .bench .file))
-      → take (108 * entity-count (c .bench .file)) input-cells ≡ input-table i (entity-count (c .bench .file))
+      → take (ENTITY-CELL-BYTES * entity-count (c .bench .file)) input-cells ≡ input-table i (entity-count (c .bench .file))
       → after
       ≡ with-state (c .bench .file) (cycle (c .bench .file) (decode (entity-count (c .bench .file)) state) (record { number = number; inputs = i })) state

@@ -15,24 +15,28 @@ use Rattle.text.specs.Syntax.{Member, Expression, Target, Filter, Test, Conditi
 use Rattle.text.specs.Readers.{Reader, read}
 use Rattle.text.specs.Grammar.{target-reader, rule-after}
 use Rattle.text.specs.Walks.{nth-token, Rows, Stands, Walks, Looping}
+use Rattle.checking.specs.CountFaults.{MOST-ENTITIES}
+use Rattle.checking.specs.Directory.{NO-MEMBER}
+use Rattle.checking.specs.Resolution.{FIRST-VARIABLE}
 use Rattle.cycles.specs.declared.evaluate.Binding.{Binding}
 use Rattle.cycles.specs.Store.{Store}
 use Rattle.cycles.specs.Spots.{Spot, Spots}
 use Rattle.cycles.specs.Evaluate.{value-at, value, filter-holds, test-holds, holds, Write, written-if, call-writes, binding-writes}
+use Rattle.cycles.specs.StateImage.{ENTITY-CELLS, ENTITY-CELL-BYTES}
 
 -- ---- references
 
--- the entity that a reference means: an entity below 32, or a variable, 32 for the first. A binding has the variables' entities as the bytes of
+-- the entity that a reference means: an entity, or a variable. A binding has the variables' entities as the bytes of
 -- one number, the first variable's the lowest
 unfoldable pub bound : Binding → ℕ → ℕ
 bound b r =
-    cond (ltb r 32) r
-    (cond (eqb r 32) (b .entities % 256) (cond (eqb r 33) (b .entities / 256 % 256) (b .entities / 65536 % 256)))
+    cond (ltb r FIRST-VARIABLE) r
+    (cond (eqb r FIRST-VARIABLE) (b .entities % 256) (cond (eqb r (FIRST-VARIABLE + 1)) (b .entities / 256 % 256) (b .entities / 65536 % 256)))
 
 -- what a reference says of a look-up, among so many entities: member m of entity e, or nothing, where m is no member's number
 pub data Locates (count : ℕ) (p : Option Spot) (e m : ℕ) : Type 0 where
-  located : (what : Member) → p ≡ some (record { entity = e; member = m; what = what }) → e < count → m < 12 → Locates count p e m
-  missing : p ≡ none → 12 ≤ m → Locates count p e m
+  located : (what : Member) → p ≡ some (record { entity = e; member = m; what = what }) → e < count → m < NO-MEMBER → Locates count p e m
+  missing : p ≡ none → NO-MEMBER ≤ m → Locates count p e m
 
 -- a target whose name is token number n, up to token number i: "name `:` interface declares a variable; a bare name .."
 pub data Targeted {classes : List ℕ} (w : Rows classes) (n : ℕ) : ℕ → Type 0 where
@@ -51,7 +55,7 @@ pub record Resolved (classes values refs : List ℕ) (b : Binding) : Type 0 wher
   pub value : (i : ℕ) (t : Token) → getElem? (rows .tokens) i ≡ some t → t .value ≡ getD values i 0
   pub spots : Spots
   pub count : ℕ
-  pub few : count ≤ 32
+  pub few : count ≤ MOST-ENTITIES
   -- name `.` member
   pub dotted : (i : ℕ) → Stands rows i NAME → Stands rows (i + 1) DOT → Stands rows (i + 1 + 1) NAME → Refers rows refs b spots count i (i + 1 + 1)
   -- `event` name `from` target
@@ -66,11 +70,11 @@ pub record Resolved (classes values refs : List ℕ) (b : Binding) : Type 0 wher
 
 -- ---- stores in memory
 
--- a flag of 1 for each present entity, and 12 cells for each entity, as `decode-store` reads them
+-- a flag of 1 for each present entity, and the cells of each entity, as `decode-store` reads them
 pub record Stored (count : ℕ) (flags cells : List ℕ) (s : Store) : Type 0 where
-  pub room : count * 108 ≤ length cells
+  pub room : count * ENTITY-CELL-BYTES ≤ length cells
   pub present : (e : ℕ) → e < count → s .present e ≡ eqb (getD flags e 0) 1
-  pub cell : (e m : ℕ) → e < count → m < 12 → s .cell e m ≡ cell-at cells (e * 12 + m)
+  pub cell : (e m : ℕ) → e < count → m < ENTITY-CELLS → s .cell e m ≡ cell-at cells (e * ENTITY-CELLS + m)
 
 -- a world with one store, and one with two
 pub record In-store (classes values refs : List ℕ) (b : Binding) (flags cells : List ℕ) : Type 0 where
@@ -94,11 +98,11 @@ pub record Cell-read (flags cells : List ℕ) (e m : ℕ) (r : Value) : Type 0 w
 -- memory of cells after writes, one after another
 unfoldable pub puts : List ℕ → List Write → List ℕ
 puts area [] = area
-puts area (w ∷ ws) = puts (with-cell area (w .entity * 12 + w .member) (w .value)) ws
+puts area (w ∷ ws) = puts (with-cell area (w .entity * ENTITY-CELLS + w .member) (w .value)) ws
 
 -- the write of a value to the spot that a reference says, if it is made
 pub record Put (area : List ℕ) (made : Bool) (e m : ℕ) (v : Value) (after : List ℕ) : Type 0 where
-  pub written : (count : ℕ) (p : Option Spot) → count ≤ 32 → Locates count p e m → after ≡ puts area (written-if made p v)
+  pub written : (count : ℕ) (p : Option Spot) → count ≤ MOST-ENTITIES → Locates count p e m → after ≡ puts area (written-if made p v)
 
 -- ---- what the walks give
 

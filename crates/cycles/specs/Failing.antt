@@ -8,6 +8,8 @@ use lib.ListN.{getD}
 use Rattle.values.specs.declared.Value.{Value}
 use Rattle.values.specs.Value.{equal, differ}
 use Rattle.text.specs.Grammar.{OPENERS, expression-reader, atom-reader}
+use Rattle.checking.specs.CountFaults.{MOST-VARIABLES}
+use Rattle.checking.specs.Resolution.{FIRST-VARIABLE}
 use Rattle.cycles.specs.declared.evaluate.Binding.{Binding}
 use Rattle.cycles.specs.Evaluation.{bound, Cell-read, Expression-walk, Condition-walk}
 use Rattle.cycles.specs.AllRules.{Entity-added}
@@ -32,7 +34,7 @@ pub record Value-fails (classes values refs : List ℕ) (b : Binding) (level : �
   pub cell : Cell-fails b level flags cells r m value outcome e
   pub with-binding : Binding
   pub walk : Expression-walk classes values refs with-binding flags cells (expression-reader OPENERS) at value next
-  pub agrees : level < 3 → (v : ℕ) → v < inner → v ≤ level → bound (cell .binding) (32 + v) ≡ bound with-binding (32 + v)
+  pub agrees : level < MOST-VARIABLES → (v : ℕ) → v < inner → v ≤ level → bound (cell .binding) (FIRST-VARIABLE + v) ≡ bound with-binding (FIRST-VARIABLE + v)
 
 -- member m of what r refers to is now as it was before
 pub record Unchanged (b : Binding) (level : ℕ) (flags cells previous-flags previous-cells : List ℕ) (r m e : ℕ) : Type 0 where

@@ -15,7 +15,7 @@ use Rattle.cycles.specs.Store.{Store}
 use Rattle.cycles.specs.Spots.{Spots}
 use Rattle.cycles.specs.Evaluate.{filter-holds, test-holds, holds, call-writes, binding-writes}
 use Rattle.cycles.specs.Evaluation.{all-rows}
-use Rattle.cycles.specs.Guards.{Covered, Names, spot-named, Guarded}
+use Rattle.cycles.specs.Guards.{GUARD-ROWS, Covered, Names, spot-named, Guarded}
 
 -- memory of guards and how many there are, before and after
 pub record Growth : Type 0 where
@@ -27,9 +27,10 @@ pub record Growth : Type 0 where
 -- a guard is put after those that stand there, or none is
 pub data Guard-put (level inner kind n m at : ℕ) (g : Growth) : Type 0 where
   none-put : g .after ≡ g .before → g .total ≡ g .count → Guard-put level inner kind n m at g
-  one-put : 4 * g .count + 3 < length (g .before)
+  one-put : GUARD-ROWS * g .count + 3 < length (g .before)
       → g .after
-      ≡ set (set (set (set (g .before) (4 * g .count) (kind + 8 * level + 32 * inner)) (4 * g .count + 1) n) (4 * g .count + 2) m) (4 * g .count + 3) at
+      ≡ set (set (set (set (g .before) (GUARD-ROWS * g .count) (kind + 8 * level + 32 * inner)) (GUARD-ROWS * g .count + 1) n) (GUARD-ROWS * g .count + 2) m)
+      (GUARD-ROWS * g .count + 3) at
       → g .total ≡ g .count + 1 → Guard-put level inner kind n m at g
 
 -- the same, of a level that covers token number n and those from number `at` up to `next`; the inner level covers the latter where they are an expression

@@ -18,7 +18,7 @@ use Rattle.checking.specs.Directory.{name-in, Columns-of, Bench}
 use Rattle.checking.specs.CheckedBench.{Values-of}
 use Rattle.checking.specs.DeclarationWalk.{Body-of}
 use Rattle.cycles.specs.Cycle.{assigned, initial-value, fresh}
-use Rattle.cycles.specs.StateImage.{table, with-state}
+use Rattle.cycles.specs.StateImage.{CELL-BYTES, ENTITY-CELLS, table, with-state}
 use Rattle.cycles.specs.StateMemory.{Put}
 
 -- the columns that literals are read from
@@ -43,7 +43,7 @@ pub record Assigned-value (text classes offsets lengths values : List ℕ) (from
 -- the value of cell number i in a fresh state
 unfoldable pub fresh-value : File → ℕ → Value
 unfolding initial-value member-of
-fresh-value f i = initial-value (getElem? (f .entities) (i / 12)) (member-of f (i / 12) (i % 12))
+fresh-value f i = initial-value (getElem? (f .entities) (i / ENTITY-CELLS)) (member-of f (i / ENTITY-CELLS) (i % ENTITY-CELLS))
 
 pub record Fresh-cell (text classes offsets lengths values d : List ℕ) (i : ℕ) (v : Value) : Type 0 where
   pub is : (w : Bench text classes offsets lengths d) → Few (w .file) → Values-of values (w .tokens) → v ≡ fresh-value (w .file) i
@@ -51,7 +51,7 @@ pub record Fresh-cell (text classes offsets lengths values d : List ℕ) (i : �
 -- the first k cells of a fresh state, put from `at` on
 pub record Fresh-cells-put (text classes offsets lengths values d : List ℕ) (k : ℕ) (before : List ℕ) (at : ℕ) (after : List ℕ) (r : ℕ) : Type 0 where
   pub same : length after ≡ length before
-  pub end : r ≡ at + 9 * k
+  pub end : r ≡ at + CELL-BYTES * k
   pub is : (w : Bench text classes offsets lengths d) → Few (w .file) → Values-of values (w .tokens)
       → Put (table (λ i. cell-bytes (fresh-value (w .file) i)) 0 k) before at after r
 

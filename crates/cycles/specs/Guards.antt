@@ -14,6 +14,8 @@ use Rattle.text.specs.Readers.{Reader, read}
 use Rattle.text.specs.Grammar.{OPENERS, expression-reader, atom-reader, rule-after}
 use Rattle.text.specs.Walks.{nth-token, Rows, Stands}
 use Rattle.checking.specs.Directory.{rule-row}
+use Rattle.checking.specs.CountFaults.{MOST-VARIABLES}
+use Rattle.checking.specs.Resolution.{FIRST-VARIABLE}
 use Rattle.cycles.specs.declared.evaluate.Binding.{Binding}
 use Rattle.cycles.specs.Store.{Store}
 use Rattle.cycles.specs.Spots.{Spot, Spots}
@@ -23,7 +25,7 @@ use Rattle.cycles.specs.AllRules.{candidate, Entity-added, Bindings-put}
 
 -- the variables that tokens from `low` up to `high` refer to are among the first `level`
 pub record Covered (refs : List ℕ) (level low high : ℕ) : Type 0 where
-  pub covers : (i v : ℕ) → low ≤ i → i < high → getD refs i 0 % 256 ≡ 32 + v → v < 3 → v < level
+  pub covers : (i v : ℕ) → low ≤ i → i < high → getD refs i 0 % 256 ≡ FIRST-VARIABLE + v → v < MOST-VARIABLES → v < level
 
 -- token number n names an entity or a variable, and token number m a member of it
 pub data Names {classes : List ℕ} (w : Rows classes) : ℕ → ℕ → Type 0 where
@@ -68,23 +70,34 @@ pub data Guard {classes : List ℕ} (w : Rows classes) (refs : List ℕ) (silenc
       → ((sp : Spots) (now previous : Store) → holds sp now previous a ≡ false → silence sp now previous)
       → Guard w refs silence level inner kind n m at
 
--- guard number j in memory has four rows: its kind and levels, each at most 3, and three tokens
+-- a guard in memory has four rows: its kind and levels, each at most 3, and three tokens
+abbrev pub GUARD-ROWS : ℕ
+GUARD-ROWS = 4
+
+-- the memory has room for so many
+abbrev pub MOST-GUARDS : ℕ
+MOST-GUARDS = 16
+
+abbrev pub ALL-GUARD-ROWS : ℕ
+ALL-GUARD-ROWS = GUARD-ROWS * MOST-GUARDS
+
+-- guard number j
 module _ (guards : List ℕ) (j : ℕ) where
   abbrev pub guard-kind : ℕ
-  guard-kind = getD guards (4 * j) 0 % 8
+  guard-kind = getD guards (GUARD-ROWS * j) 0 % 8
 
   abbrev pub guard-level : ℕ
-  guard-level = getD guards (4 * j) 0 / 8 % 4
+  guard-level = getD guards (GUARD-ROWS * j) 0 / 8 % 4
 
   abbrev pub guard-inner : ℕ
-  guard-inner = getD guards (4 * j) 0 / 32
+  guard-inner = getD guards (GUARD-ROWS * j) 0 / 32
 
 -- so many guards
 abbrev pub Guarded : {classes : List ℕ} → Rows classes → List ℕ → (Spots → Store → Store → Type 0) → List ℕ → ℕ → Type 0
 Guarded w refs silence guards count =
     (j : ℕ) → j < count
     → Guard w refs silence (guard-level guards j) (guard-inner guards j) (guard-kind guards j)
-    (getD guards (4 * j + 1) 0) (getD guards (4 * j + 2) 0) (getD guards (4 * j + 3) 0)
+    (getD guards (GUARD-ROWS * j + 1) 0) (getD guards (GUARD-ROWS * j + 2) 0) (getD guards (GUARD-ROWS * j + 3) 0)
 
 -- they are those of the rule whose tokens after `when` begin at number `at`: where one fails, the rule writes nothing
 pub record Guards-found (classes refs : List ℕ) (at : ℕ) (guards : List ℕ) (count : ℕ) : Type 0 where

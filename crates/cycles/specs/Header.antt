@@ -82,7 +82,11 @@ unfolding columns same-bytes
 columns-after-n f [] = none
 columns-after-n f (x ∷ xs) = cond (same-bytes x (110 ∷ [])) (columns f xs) none
 
+-- "at most 32,768 bytes"
+abbrev pub MOST-HEADER-BYTES : ℕ
+MOST-HEADER-BYTES = 32768
+
 -- "A line of names: .., at most 32,768 bytes"
 unfoldable pub header : File → List ℕ → Option (List Column)
 unfolding columns-after-n fields
-header f bs = elim (leb (length bs) 32768) [ true ↦ columns-after-n f (fields bs) | false ↦ none ]
+header f bs = elim (leb (length bs) MOST-HEADER-BYTES) [ true ↦ columns-after-n f (fields bs) | false ↦ none ]

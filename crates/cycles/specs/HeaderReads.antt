@@ -10,22 +10,33 @@ use lib.ListN.{length, getD}
 use Rattle.text.specs.Syntax.{File}
 use Rattle.checking.specs.Directory.{Bench}
 use Rattle.checking.specs.DirectoryReads.{Few}
+use Rattle.checking.specs.CountFaults.{MOST-MEMBERS, MOST-ENTITIES}
 use Rattle.cycles.specs.Spots.{Spot}
 use Rattle.cycles.specs.Header.{Column, header}
 
 -- ---- columns
 
--- a column by its number: 13 for each entity, its members in their order and then its presence
+-- an entity has columns for its members in their order, and then for its presence
+abbrev pub PRESENCE-COLUMN : ℕ
+PRESENCE-COLUMN = MOST-MEMBERS
+
+abbrev pub ENTITY-COLUMNS : ℕ
+ENTITY-COLUMNS = PRESENCE-COLUMN + 1
+
+abbrev pub MOST-COLUMNS : ℕ
+MOST-COLUMNS = MOST-ENTITIES * ENTITY-COLUMNS
+
+-- a column by its number
 unfoldable pub member-or-presence : Option Spot → ℕ
-member-or-presence none = 12
+member-or-presence none = PRESENCE-COLUMN
 member-or-presence (some p) = p .member
 
 unfoldable pub column-number : Column → ℕ
 unfolding member-or-presence
-column-number c = c .entity * 13 + member-or-presence (c .event)
+column-number c = c .entity * ENTITY-COLUMNS + member-or-presence (c .event)
 
 abbrev pub NO-COLUMN : ℕ
-NO-COLUMN = 416
+NO-COLUMN = MOST-COLUMNS
 
 unfoldable pub number-if-column : Option Column → ℕ
 unfolding column-number
@@ -45,9 +56,6 @@ backwards (suc k) l = getD l k 0 ∷ backwards k l
 unfoldable pub is-number-among : ℕ → List ℕ → Bool
 is-number-among n [] = false
 is-number-among n (m ∷ ms) = eqb n m || is-number-among n ms
-
-abbrev pub MOST-COLUMNS : ℕ
-MOST-COLUMNS = 416
 
 -- what r numbers of columns say of a header; r is one more than the most for none
 abbrev pub Header-is : Option (List Column) → ℕ → List ℕ → Type 0

@@ -13,7 +13,7 @@ use Rattle.cycles.specs.declared.judge.Judgement.the-variants.{Refused, 
 use Rattle.cycles.specs.Store.{State, Line}
 use Rattle.cycles.specs.Record.{inputs-of}
 use Rattle.cycles.specs.Line.{Answer, refused, accepted, Reading, reading, line-in}
-use Rattle.cycles.specs.StateImage.{table, flag}
+use Rattle.cycles.specs.StateImage.{CELL-BYTES, ENTITY-CELLS, ENTITY-CELL-BYTES, NO-READING, table, flag}
 use Rattle.cycles.specs.SoundState.{Sound-inputs}
 use Rattle.cycles.specs.LineReads.{presence-table, input-table}
 
@@ -30,11 +30,11 @@ present-by present flag = cond (eqb flag 0) (eqb present 1) (eqb flag 2)
 
 -- cell number i has no reading, or its entity is present after the line
 unfoldable pub takes-cell : List ℕ → List ℕ → List ℕ → ℕ → Bool
-takes-cell present flags cells i = eqb (getD cells (i * 9) 0) 4 || present-by (getD present (i / 12) 0) (getD flags (i / 12) 0)
+takes-cell present flags cells i = eqb (getD cells (i * CELL-BYTES) 0) NO-READING || present-by (getD present (i / ENTITY-CELLS) 0) (getD flags (i / ENTITY-CELLS) 0)
 
 abbrev pub same-memory : ℕ → List ℕ → List ℕ → List ℕ → List ℕ → Bool
 same-memory n flags cells other-flags other-cells =
-    same-bytes (take n flags) (take n other-flags) && same-bytes (take (108 * n) cells) (take (108 * n) other-cells)
+    same-bytes (take n flags) (take n other-flags) && same-bytes (take (ENTITY-CELL-BYTES * n) cells) (take (ENTITY-CELL-BYTES * n) other-cells)
 
 -- ---- the contract
 
@@ -48,14 +48,14 @@ pub record Judged-given (n last number : ℕ) (present stored-flags stored-cells
   pub last-is : state .last ≡ last
   pub present-is : take n present ≡ table (λ e. flag (state .now .present e)) 0 n
   pub stored-presence : take n stored-flags ≡ presence-table (state .inputs) n
-  pub stored-inputs : take (108 * n) stored-cells ≡ input-table (state .inputs) n
+  pub stored-inputs : take (ENTITY-CELL-BYTES * n) stored-cells ≡ input-table (state .inputs) n
   pub names : List ℕ
   pub values : List ℕ
   pub says : Reading
   pub is-read : reading file names values ≡ accepted says
   pub number-is : says .number ≡ number
   pub read-presence : take n flags ≡ presence-table (inputs-of (says .inputs)) n
-  pub read-inputs : take (108 * n) cells ≡ input-table (inputs-of (says .inputs)) n
+  pub read-inputs : take (ENTITY-CELL-BYTES * n) cells ≡ input-table (inputs-of (says .inputs)) n
 
 pub record Judged (n last number : ℕ) (present stored-flags stored-cells flags cells : List ℕ) (r : Judgement) : Type 0 where
   pub is : (g : Judged-given n last number present stored-flags stored-cells flags cells) → r ≡ judgement last (line-in (g .file) (g .state) (g .says))

@@ -24,7 +24,7 @@ use Rattle.cycles.specs.Fields.{fields}
 use Rattle.cycles.specs.Header.{Column, header}
 use Rattle.cycles.specs.Record.{Numbered, field-in, as-truth, Input, inputs-in, inputs-of}
 use Rattle.cycles.specs.Line.{Answer, refused, accepted, Reading, reading}
-use Rattle.cycles.specs.StateImage.{table, presence-flag, input-bytes}
+use Rattle.cycles.specs.StateImage.{CELL-BYTES, ENTITY-CELLS, ENTITY-CELL-BYTES, table, presence-flag, input-bytes}
 use Rattle.cycles.specs.HeaderReads.{column-number, backwards}
 
 unfoldable pub number-if-record : Option Numbered → Number
@@ -50,7 +50,7 @@ abbrev pub presence-table : Inputs → ℕ → List ℕ
 presence-table i n = table (λ e. presence-flag (i .presence e)) 0 n
 
 abbrev pub input-table : Inputs → ℕ → List ℕ
-input-table i n = table (λ k. input-bytes (i .given (k / 12) (k % 12))) 0 (12 * n)
+input-table i n = table (λ k. input-bytes (i .given (k / ENTITY-CELLS) (k % ENTITY-CELLS))) 0 (ENTITY-CELLS * n)
 
 -- flags with a value in a column of entity e: a presence; an event changes none
 unfoldable pub presence-put : ℕ → Option Spot → Option Value → List ℕ → List ℕ
@@ -61,7 +61,7 @@ presence-put e (some p) v flags = flags
 -- cells with it: an event's; a presence changes none
 unfoldable pub event-put : ℕ → Option Spot → Option Value → List ℕ → List ℕ
 event-put e none v cells = cells
-event-put e (some p) v cells = overwritten cells ((e * 12 + p .member) * 9) (input-bytes v)
+event-put e (some p) v cells = overwritten cells ((e * ENTITY-CELLS + p .member) * CELL-BYTES) (input-bytes v)
 
 -- a column of an entity of the file, or of a member of it
 pub record Column-stands (f : File) (c : Column) : Type 0 where
@@ -115,7 +115,7 @@ Answers (refused code) n flags cells new-flags new-cells r = r ≡ Refused code
 Answers (accepted rd) n flags cells new-flags new-cells r =
     (r ≡ Got (rd .number))
     × (new-flags ≡ presence-table (inputs-of (rd .inputs)) n ++ drop n flags)
-    × (new-cells ≡ input-table (inputs-of (rd .inputs)) n ++ drop (108 * n) cells)
+    × (new-cells ≡ input-table (inputs-of (rd .inputs)) n ++ drop (ENTITY-CELL-BYTES * n) cells)
 
 -- a record, where the numbers of a header's columns stand in memory
 pub record Record-read (classes d values columns : List ℕ) (count : ℕ) (flags cells new-flags new-cells : List ℕ) (r : Reads) : Type 0 where

@@ -35,11 +35,15 @@ unfolding numbered-as digit-of led
 numbered-fields count [] = none
 numbered-fields count (x ∷ xs) = cond (eqb (length xs) count) (numbered-as (magnitude x) xs) none
 
+-- "at most 8,192 bytes"
+abbrev pub MOST-RECORD-BYTES : ℕ
+MOST-RECORD-BYTES = 8192
+
 -- "at most 8,192 bytes; one space between fields, no line feed inside"; "(an empty field too)"
 unfoldable pub record-of : ℕ → List ℕ → Option Numbered
 unfolding fields is-empty has-byte every numbered-fields
 record-of count bs =
-    elim (leb (length bs) 8192 && (not (has-byte 10 bs) && every (λ x. not (is-empty x)) (fields bs))) [
+    elim (leb (length bs) MOST-RECORD-BYTES && (not (has-byte 10 bs) && every (λ x. not (is-empty x)) (fields bs))) [
       | true ↦ numbered-fields count (fields bs)
       | false ↦ none
     ]

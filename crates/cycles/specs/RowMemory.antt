@@ -16,6 +16,7 @@ use Rattle.cycles.specs.Store.{State}
 use Rattle.cycles.specs.Spots.{Spot}
 use Rattle.cycles.specs.Row.{row, row-header}
 use Rattle.cycles.specs.StateMemory.{Put}
+use Rattle.cycles.specs.StateImage.{ENTITY-CELLS}
 
 unfoldable pub field-of : (Spot → List ℕ) → ℕ → ℕ → Option Member → List ℕ
 unfolding is-action
@@ -25,11 +26,11 @@ field-of field e m (some x) = elim (is-action (x .sort)) [ true ↦ 32 ∷ field
 -- what a row or its header has of cell number i: a space and a field, or nothing
 unfoldable pub field-at : File → (Spot → List ℕ) → ℕ → List ℕ
 unfolding field-of member-of
-field-at f field i = field-of field (i / 12) (i % 12) (member-of f (i / 12) (i % 12))
+field-at f field i = field-of field (i / ENTITY-CELLS) (i % ENTITY-CELLS) (member-of f (i / ENTITY-CELLS) (i % ENTITY-CELLS))
 
 -- a row's field, from the cells in memory
 abbrev pub fired-field : List ℕ → Spot → List ℕ
-fired-field cells p = printed (cell-at cells (p .entity * 12 + p .member))
+fired-field cells p = printed (cell-at cells (p .entity * ENTITY-CELLS + p .member))
 
 -- the header's
 abbrev pub name-field : File → Spot → List ℕ
@@ -49,6 +50,10 @@ pub record Name-put (text classes offsets lengths d : List ℕ) (i : ℕ) (befor
   pub is : (w : Bench text classes offsets lengths d) → Few (w .file) → Short-names text classes offsets lengths → at + 50 ≤ length before
       → (r ≤ at + 50) × Put (field-at (w .file) (name-field (w .file)) i) before at after r
 
+-- "The stated size of memory for a row is 32,768 bytes at most"
+abbrev pub MOST-ROW-BYTES : ℕ
+MOST-ROW-BYTES = 32768
+
 -- bytes at the front of memory, and how many they are
 pub record In-front (bytes before after : List ℕ) (r : ℕ) : Type 0 where
   pub count : r ≡ length bytes
@@ -56,14 +61,14 @@ pub record In-front (bytes before after : List ℕ) (r : ℕ) : Type 0 where
 
 -- cells in memory are those of a state now, as far as the file has members
 abbrev pub Now-in : File → State → List ℕ → Type 0
-Now-in f s cells = (e m : ℕ) (x : Member) → member-of f e m ≡ some x → s .now .cell e m ≡ cell-at cells (e * 12 + m)
+Now-in f s cells = (e m : ℕ) (x : Member) → member-of f e m ≡ some x → s .now .cell e m ≡ cell-at cells (e * ENTITY-CELLS + m)
 
 pub record Row-put (classes d cells : List ℕ) (last : ℕ) (before after : List ℕ) (r : ℕ) : Type 0 where
-  pub short : r ≤ 32768
+  pub short : r ≤ MOST-ROW-BYTES
   pub is : (text offsets lengths : List ℕ) (w : Bench text classes offsets lengths d) → Few (w .file)
       → (s : State) → s .last ≡ last → Now-in (w .file) s cells → In-front (row (w .file) s) before after r
 
 pub record Header-put (text classes offsets lengths d before after : List ℕ) (r : ℕ) : Type 0 where
-  pub short : (w : Bench text classes offsets lengths d) → Few (w .file) → Short-names text classes offsets lengths → r ≤ 32768
+  pub short : (w : Bench text classes offsets lengths d) → Few (w .file) → Short-names text classes offsets lengths → r ≤ MOST-ROW-BYTES
   pub is : (w : Bench text classes offsets lengths d) → Few (w .file) → Short-names text classes offsets lengths
       → In-front (row-header (w .file)) before after r

@@ -14,17 +14,54 @@ use Rattle.values.specs.Bytes.{word-at, low-first}
 use Rattle.values.specs.Cells.{cell-bytes, cell-at, unpacked, finite-bits}
 use Rattle.text.specs.Syntax.{Sort, attribute, event, action, Member, File}
 use Rattle.checking.specs.Scope.{member-of, is-attribute}
+use Rattle.checking.specs.CountFaults.{MOST-MEMBERS, MOST-ENTITIES}
 use Rattle.cycles.specs.Store.{Store, Inputs, State}
 
--- the stated size: for 32 entities
+-- a cell's bytes: its tag and its payload
+abbrev pub CELL-BYTES : ℕ
+CELL-BYTES = 9
+
+-- an entity has a cell for each member that it may have
+abbrev pub ENTITY-CELLS : ℕ
+ENTITY-CELLS = MOST-MEMBERS
+
+abbrev pub ENTITY-CELL-BYTES : ℕ
+ENTITY-CELL-BYTES = ENTITY-CELLS * CELL-BYTES
+
+-- those of as many entities as a file may have
+abbrev pub MOST-CELL-BYTES : ℕ
+MOST-CELL-BYTES = MOST-ENTITIES * ENTITY-CELL-BYTES
+
+-- a number's bytes
+abbrev pub NUMBER-BYTES : ℕ
+NUMBER-BYTES = 4
+
+-- how many bytes for each entity stand between the number and a part: the flags that were read, the cells now, before and read
+abbrev pub BEFORE-READ-FLAGS : ℕ
+BEFORE-READ-FLAGS = 2
+
+abbrev pub BEFORE-NOW-CELLS : ℕ
+BEFORE-NOW-CELLS = 3
+
+abbrev pub BEFORE-PREVIOUS-CELLS : ℕ
+BEFORE-PREVIOUS-CELLS = BEFORE-NOW-CELLS + ENTITY-CELL-BYTES
+
+abbrev pub BEFORE-INPUT-CELLS : ℕ
+BEFORE-INPUT-CELLS = BEFORE-PREVIOUS-CELLS + ENTITY-CELL-BYTES
+
+-- all bytes of an entity
+abbrev pub ENTITY-BYTES : ℕ
+ENTITY-BYTES = BEFORE-INPUT-CELLS + ENTITY-CELL-BYTES
+
+-- the stated size: for as many entities as a file may have
 abbrev pub STATE : ℕ
-STATE = 10468
+STATE = NUMBER-BYTES + ENTITY-BYTES * MOST-ENTITIES
 
 abbrev pub entity-count : File → ℕ
 entity-count f = length (f .entities)
 
 abbrev pub image-size : ℕ → ℕ
-image-size n = 4 + 327 * n
+image-size n = NUMBER-BYTES + ENTITY-BYTES * n
 
 -- k pieces of memory, from number i on
 unfoldable pub table : (ℕ → List ℕ) → ℕ → ℕ → List ℕ
@@ -39,62 +76,66 @@ abbrev pub presence-flag : Option Bool → List ℕ
 presence-flag none = 0 ∷ []
 presence-flag (some b) = cond b 2 1 ∷ []
 
--- as a value's cell; the tag 4 for no reading
+-- the tag of a cell with no reading
+abbrev pub NO-READING : ℕ
+NO-READING = 4
+
+-- as a value's cell, or no reading
 abbrev pub input-bytes : Option Value → List ℕ
-input-bytes none = 4 ∷ low-first 8 0
+input-bytes none = NO-READING ∷ low-first 8 0
 input-bytes (some v) = cell-bytes v
 
 unfoldable pub encode : ℕ → State → List ℕ
 unfolding table
 encode n s =
-    low-first 4 (s .last)
+    low-first NUMBER-BYTES (s .last)
     ++ table (λ e. flag (s .now .present e)) 0 n
     ++ table (λ e. flag (s .previous .present e)) 0 n
     ++ table (λ e. presence-flag (s .inputs .presence e)) 0 n
-    ++ table (λ i. cell-bytes (s .now .cell (i / 12) (i % 12))) 0 (12 * n)
-    ++ table (λ i. cell-bytes (s .previous .cell (i / 12) (i % 12))) 0 (12 * n)
-    ++ table (λ i. input-bytes (s .inputs .given (i / 12) (i % 12))) 0 (12 * n)
+    ++ table (λ i. cell-bytes (s .now .cell (i / ENTITY-CELLS) (i % ENTITY-CELLS))) 0 (ENTITY-CELLS * n)
+    ++ table (λ i. cell-bytes (s .previous .cell (i / ENTITY-CELLS) (i % ENTITY-CELLS))) 0 (ENTITY-CELLS * n)
+    ++ table (λ i. input-bytes (s .inputs .given (i / ENTITY-CELLS) (i % ENTITY-CELLS))) 0 (ENTITY-CELLS * n)
 
 abbrev pub presence-of : ℕ → Option Bool
 presence-of b = cond (eqb b 1) (some false) (cond (eqb b 2) (some true) none)
 
 abbrev pub input-of : ℕ → ℕ → Option Value
-input-of t w = cond (eqb t 4) none (some (unpacked t w))
+input-of t w = cond (eqb t NO-READING) none (some (unpacked t w))
 
 abbrev pub input-at : List ℕ → ℕ → Option Value
-input-at l i = input-of (getD l (i * 9) 0) (word-at 8 l (i * 9 + 1))
+input-at l i = input-of (getD l (i * CELL-BYTES) 0) (word-at 8 l (i * CELL-BYTES + 1))
 
 -- where each part of the image begins
 abbrev pub now-flags : ℕ → List ℕ → List ℕ
-now-flags n m = drop 4 m
+now-flags n m = drop NUMBER-BYTES m
 
 abbrev pub previous-flags : ℕ → List ℕ → List ℕ
-previous-flags n m = drop (4 + n) m
+previous-flags n m = drop (NUMBER-BYTES + n) m
 
 abbrev pub read-flags : ℕ → List ℕ → List ℕ
-read-flags n m = drop (4 + 2 * n) m
+read-flags n m = drop (NUMBER-BYTES + BEFORE-READ-FLAGS * n) m
 
 abbrev pub now-cells : ℕ → List ℕ → List ℕ
-now-cells n m = drop (4 + 3 * n) m
+now-cells n m = drop (NUMBER-BYTES + BEFORE-NOW-CELLS * n) m
 
 abbrev pub previous-cells : ℕ → List ℕ → List ℕ
-previous-cells n m = drop (4 + 111 * n) m
+previous-cells n m = drop (NUMBER-BYTES + BEFORE-PREVIOUS-CELLS * n) m
 
 abbrev pub input-cells : ℕ → List ℕ → List ℕ
-input-cells n m = drop (4 + 219 * n) m
+input-cells n m = drop (NUMBER-BYTES + BEFORE-INPUT-CELLS * n) m
 
 unfoldable pub decode-store : ℕ → List ℕ → List ℕ → Store
 unfolding unpacked
 decode-store n fs cs = record {
   present = λ e. ltb e n && eqb (getD fs e 0) 1;
-  cell = λ e m. cond (ltb e n && ltb m 12) (cell-at cs (e * 12 + m)) Unset;
+  cell = λ e m. cond (ltb e n && ltb m ENTITY-CELLS) (cell-at cs (e * ENTITY-CELLS + m)) Unset;
 }
 
 unfoldable pub decode-inputs : ℕ → List ℕ → List ℕ → Inputs
 unfolding unpacked
 decode-inputs n fs cs = record {
   presence = λ e. cond (ltb e n) (presence-of (getD fs e 0)) none;
-  given = λ e m. cond (ltb e n && ltb m 12) (input-at cs (e * 12 + m)) none;
+  given = λ e m. cond (ltb e n && ltb m ENTITY-CELLS) (input-at cs (e * ENTITY-CELLS + m)) none;
 }
 
 unfoldable pub decode : ℕ → List ℕ → State
@@ -102,7 +143,7 @@ unfolding decode-store decode-inputs
 decode n m = record {
   now = decode-store n (now-flags n m) (now-cells n m);
   previous = decode-store n (previous-flags n m) (previous-cells n m);
-  last = word-at 4 m 0;
+  last = word-at NUMBER-BYTES m 0;
   inputs = decode-inputs n (read-flags n m) (input-cells n m);
 }
 
@@ -132,7 +173,7 @@ store-fits must-be-set none t w = is-unset-cell t w
 store-fits must-be-set (some m) t w = cond (must-be-set && is-attribute (m .sort)) (is-set-cell (m .kind) t w) (is-value-cell (m .kind) t w)
 
 unfoldable pub is-blank-cell : ℕ → ℕ → Bool
-is-blank-cell t w = eqb t 4 && eqb w 0
+is-blank-cell t w = eqb t NO-READING && eqb w 0
 
 -- only events have readings
 unfoldable pub input-fits-in : Option Member → ℕ → ℕ → Bool
@@ -148,7 +189,8 @@ input-fits-in (some m) t w = elim (m .sort) [
 unfoldable pub cells-fit : (Bool → Option Member → ℕ → ℕ → Bool) → File → List ℕ → List ℕ → Bool
 unfolding each member-of
 cells-fit fit f fs cs =
-    each (λ i. fit (eqb (getD fs (i / 12) 0) 1) (member-of f (i / 12) (i % 12)) (getD cs (i * 9) 0) (word-at 8 cs (i * 9 + 1))) 0 (12 * entity-count f)
+    each (λ i. fit (eqb (getD fs (i / ENTITY-CELLS) 0) 1) (member-of f (i / ENTITY-CELLS) (i % ENTITY-CELLS)) (getD cs (i * CELL-BYTES) 0)
+    (word-at 8 cs (i * CELL-BYTES + 1))) 0 (ENTITY-CELLS * entity-count f)
 
 unfoldable pub flags-below : ℕ → ℕ → List ℕ → Bool
 unfolding each
@@ -160,7 +202,7 @@ flags-below bound n fs = each (λ e. ltb (getD fs e 0) bound) 0 n
 unfoldable pub is-state : File → List ℕ → Bool
 unfolding flags-below cells-fit store-fits input-fits-in
 is-state f m =
-    ltb (word-at 4 m 0) 4294967296
+    ltb (word-at NUMBER-BYTES m 0) 4294967296
     && (flags-below 2 (entity-count f) (now-flags (entity-count f) m)
     && (flags-below 2 (entity-count f) (previous-flags (entity-count f) m)
     && (flags-below 3 (entity-count f) (read-flags (entity-count f) m)

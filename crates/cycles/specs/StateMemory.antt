@@ -12,7 +12,7 @@ use Rattle.checking.specs.DirectoryReads.{Few}
 use Rattle.checking.specs.Directory.{kind-class, Bench}
 use Rattle.cycles.specs.declared.image.Plane.{Plane}
 use Rattle.cycles.specs.declared.image.Plane.the-variants.{Now, Previous, Inputs}
-use Rattle.cycles.specs.StateImage.{store-fits, input-fits-in, cells-fit, is-state}
+use Rattle.cycles.specs.StateImage.{ENTITY-CELL-BYTES, NUMBER-BYTES, store-fits, input-fits-in, cells-fit, is-state}
 use Rattle.cycles.specs.CellTokens.{Token-of}
 
 -- ---- tests
@@ -48,10 +48,10 @@ pub record Put (bytes before : List ℕ) (at : ℕ) (after : List ℕ) (r : ℕ)
 -- the image of a state of n entities whose parts stand in areas of their own, each from the area's front on
 unfoldable pub gathered : ℕ → ℕ → List ℕ → List ℕ → List ℕ → List ℕ → List ℕ → List ℕ → List ℕ
 gathered n last now-flags now-cells previous-flags previous-cells input-flags input-cells =
-    low-first 4 last
+    low-first NUMBER-BYTES last
     ++ take n now-flags
     ++ take n previous-flags
     ++ take n input-flags
-    ++ take (108 * n) now-cells
-    ++ take (108 * n) previous-cells
-    ++ take (108 * n) input-cells
+    ++ take (ENTITY-CELL-BYTES * n) now-cells
+    ++ take (ENTITY-CELL-BYTES * n) previous-cells
+    ++ take (ENTITY-CELL-BYTES * n) input-cells

@@ -1,17 +1,31 @@
 // All rules, each for every binding of its variables.
-ghost use Prim.Native.Nat.{_+_, _≤_};
+ghost use Prim.Native.Nat.{_+_, _*_, _≤_};
 ghost use mathlib.Core.Path.{_≡_};
 ghost use mathlib.Core.Bool.{cond};
 ghost use lib.ListN.{length, getD};
-ghost use Rattle.checking.specs.Directory.{rule-row};
+ghost use Rattle.checking.specs.Directory.{ENTITY-COUNT-ROW, rule-row};
+ghost use Rattle.checking.specs.CountFaults.{MOST-INTERFACES};
 ghost use Rattle.cycles.specs.AllRules.{complete, candidate, Ranged, Ranges, Bindings-put, Rules-put};
-ghost use Rattle.cycles.specs.Guards.{Guards-found, Marks-set};
+ghost use Rattle.cycles.specs.Guards.{ALL-GUARD-ROWS, Guards-found, Marks-set};
+ghost use Rattle.cycles.specs.StateImage.{MOST-CELL-BYTES};
 use crate::calls::rule_at;
 use crate::evaluate::Binding;
 use crate::evaluate::is_present;
 use crate::evaluate::with_entity;
 use crate::finding::find_guards;
 use crate::guards::narrow;
+use crate::layout::ALL_GUARD_ROWS;
+use crate::layout::ALL_RANGE_ROWS;
+use checking::layout::ENTITY_COUNT_ROW;
+use checking::layout::ENTITY_INTERFACE_ROWS;
+use checking::layout::MOST_ENTITIES;
+use checking::layout::MOST_ENTITIES_8;
+use checking::layout::MOST_INTERFACES_8;
+use checking::layout::MOST_RULES;
+use checking::layout::MOST_VARIABLES_8;
+use checking::layout::RULE_COUNT_ROW;
+use checking::layout::RULE_ROWS;
+use checking::layout::SCOPE_ROWS;
 use checking::row;
 use text::walks::class_at;
 
@@ -19,10 +33,10 @@ use text::walks::class_at;
 fn is_complete(scopes: &[u8], k: u8, level: u8) -> bool
     ensures { λ r. ⌜ r ≡ complete (now (scopes .entry)) k level ⌝ }
 {
-    if 3 <= level {
+    if MOST_VARIABLES_8 <= level {
         return true;
     }
-    class_at(scopes, 4 * (k as usize)) == level
+    class_at(scopes, SCOPE_ROWS * (k as usize)) == level
 }
 
 // Is entity e present, and of the interface of this number?
@@ -32,7 +46,7 @@ fn is_candidate(d: &[u16], flags: &[u8], face: u8, e: u8) -> bool
     if !is_present(flags, e) {
         return false;
     }
-    row(d, 323 + (e as usize)) == face as usize
+    row(d, ENTITY_INTERFACE_ROWS + (e as usize)) == face as usize
 }
 
 // Where among the entities the candidates for an interface stand: from `first` on, below `end`.
@@ -63,11 +77,11 @@ fn range_of(d: &[u16], flags: &[u8], n: u8, face: u8) -> Range
 
 // The ranges of all interfaces, in two rows each.
 fn find_ranges(d: &[u16], flags: &[u8], n: u8, ranges: &mut [u8])
-    requires { ⌜ 32 ≤ length (now ranges) ⌝ }
+    requires { ⌜ 2 * MOST-INTERFACES ≤ length (now ranges) ⌝ }
     ensures { λ _. ⌜ Ranges (now (d .entry)) (now (flags .entry)) n (now (ranges .exit)) ⌝ }
 {
     let mut face: u8 = 0;
-    while face < 16 {
+    while face < MOST_INTERFACES_8 {
         let range = range_of(d, flags, n, face);
         let row = 2 * (face as usize);
         ranges[row] = range.first;
@@ -116,15 +130,15 @@ fn bind(
     b: Binding,
     area: &mut [u8],
 )
-    requires { ⌜ 3456 ≤ length (now area) ⌝ }
-    requires { ⌜ Ranges (now d) (now flags) (getD (now d) 1 0) (now ranges) ⌝ }
+    requires { ⌜ MOST-CELL-BYTES ≤ length (now area) ⌝ }
+    requires { ⌜ Ranges (now d) (now flags) (getD (now d) ENTITY-COUNT-ROW 0) (now ranges) ⌝ }
     requires { ⌜ Guards-found (now classes) (now refs) (getD (now d) (rule-row k) 0 + 1) (now guards) count ⌝ }
     ensures { λ _. ⌜
         Bindings-put (now (classes .entry)) (now (values .entry)) (now (d .entry)) (now (refs .entry)) (now (scopes .entry)) (now (flags .entry))
         (now (cells .entry)) (now («previous_flags» .entry)) (now («previous_cells» .entry)) k level b (now (area .entry)) (now (area .exit)) ⌝ }
 {
     if is_complete(scopes, k, level) {
-        let at = row(d, 259 + (k as usize)) + 1;
+        let at = row(d, RULE_ROWS + (k as usize)) + 1;
         rule_at(
             classes,
             values,
@@ -139,14 +153,14 @@ fn bind(
         );
         return;
     }
-    let face = class_at(scopes, 4 * (k as usize) + 1 + (level as usize));
+    let face = class_at(scopes, SCOPE_ROWS * (k as usize) + 1 + (level as usize));
     let range = 2 * (face as usize);
     let first = class_at(ranges, range);
     let end = class_at(ranges, range + 1);
-    if 32 < end {
+    if MOST_ENTITIES_8 < end {
         return;
     }
-    let mut marks: [u8; 32] = [0; 32];
+    let mut marks: [u8; MOST_ENTITIES] = [0; MOST_ENTITIES];
     mark_candidates(d, flags, face, first, end, &mut marks);
     narrow(
         classes,
@@ -202,17 +216,17 @@ fn rule_guards(
     k: u8,
     guards: &mut [usize],
 ) -> usize
-    requires { ⌜ 64 ≤ length (now guards) ⌝ }
+    requires { ⌜ ALL-GUARD-ROWS ≤ length (now guards) ⌝ }
     ensures { λ r. ⌜
         Guards-found (now (classes .entry)) (now (refs .entry)) (getD (now (d .entry)) (rule-row k) 0 + 1) (now (guards .exit)) r ⌝ }
 {
-    if class_at(scopes, 4 * (k as usize)) == 0 {
+    if class_at(scopes, SCOPE_ROWS * (k as usize)) == 0 {
         return 0;
     }
-    find_guards(classes, refs, row(d, 259 + (k as usize)) + 1, guards)
+    find_guards(classes, refs, row(d, RULE_ROWS + (k as usize)) + 1, guards)
 }
 
-// What all rules write goes into the area, of 384 cells.
+// What all rules write goes into the area.
 pub fn all_rules(
     classes: &[u8],
     values: &[u32],
@@ -225,23 +239,23 @@ pub fn all_rules(
     previous_cells: &[u8],
     area: &mut [u8],
 )
-    requires { ⌜ 3456 ≤ length (now area) ⌝ }
+    requires { ⌜ MOST-CELL-BYTES ≤ length (now area) ⌝ }
     ensures { λ _. ⌜
         Rules-put (now (classes .entry)) (now (values .entry)) (now (d .entry)) (now (refs .entry)) (now (scopes .entry)) (now (flags .entry))
         (now (cells .entry)) (now («previous_flags» .entry)) (now («previous_cells» .entry)) (now (area .entry)) (now (area .exit)) ⌝ }
 {
-    let n = row(d, 2);
-    if 64 < n {
+    let n = row(d, RULE_COUNT_ROW);
+    if MOST_RULES < n {
         return;
     }
     let none = Binding { entities: 0 };
-    let entities = row(d, 1);
-    if 32 < entities {
+    let entities = row(d, ENTITY_COUNT_ROW);
+    if MOST_ENTITIES < entities {
         return;
     }
-    let mut ranges: [u8; 32] = [0; 32];
+    let mut ranges: [u8; ALL_RANGE_ROWS] = [0; ALL_RANGE_ROWS];
     find_ranges(d, flags, entities as u8, &mut ranges);
-    let mut guards: [usize; 64] = [0; 64];
+    let mut guards: [usize; ALL_GUARD_ROWS] = [0; ALL_GUARD_ROWS];
     let mut k: u8 = 0;
     while (k as usize) < n {
         let count = rule_guards(classes, refs, scopes, d, k, &mut guards);

@@ -5,6 +5,7 @@ ghost use Rattle.text.specs.Tokens.{COMMA};
 ghost use Rattle.text.specs.Readers.{many};
 ghost use Rattle.text.specs.Grammar.{call-reader, call-after};
 ghost use Rattle.cycles.specs.Evaluation.{Call-walk, Calls-walk, Rule-puts};
+ghost use Rattle.cycles.specs.StateImage.{MOST-CELL-BYTES};
 use crate::conditions::both;
 use crate::conditions::condition;
 use crate::conditions::filter;
@@ -21,7 +22,7 @@ use text::grammar::OPENERS;
 use text::walks::class_at;
 use text::walks::skip;
 
-// One call: what it writes goes into the area, of 384 cells. The number of the token after it.
+// One call: what it writes goes into the area. The number of the token after it.
 fn call(
     classes: &[u8],
     values: &[u32],
@@ -32,7 +33,7 @@ fn call(
     at: usize,
     area: &mut [u8],
 ) -> usize
-    requires { ⌜ 3456 ≤ length (now area) ⌝ }
+    requires { ⌜ MOST-CELL-BYTES ≤ length (now area) ⌝ }
     ensures { λ r. ⌜
         Call-walk (now (classes .entry)) (now (values .entry)) (now (refs .entry)) b (now (flags .entry)) (now (cells .entry)) (now (area .entry))
         call-reader at (now (area .exit)) r ⌝ }
@@ -82,7 +83,7 @@ fn further_calls(
     at: usize,
     area: &mut [u8],
 ) -> usize
-    requires { ⌜ 3456 ≤ length (now area) ⌝ }
+    requires { ⌜ MOST-CELL-BYTES ≤ length (now area) ⌝ }
     ensures { λ r. ⌜
         Calls-walk (now (classes .entry)) (now (values .entry)) (now (refs .entry)) b (now (flags .entry)) (now (cells .entry)) (now (area .entry))
         (many COMMA call-after) at (now (area .exit)) r ⌝ }
@@ -116,7 +117,7 @@ pub fn rule_at(
     at: usize,
     area: &mut [u8],
 )
-    requires { ⌜ 3456 ≤ length (now area) ⌝ }
+    requires { ⌜ MOST-CELL-BYTES ≤ length (now area) ⌝ }
     ensures { λ _. ⌜
         Rule-puts (now (classes .entry)) (now (values .entry)) (now (refs .entry)) b (now (flags .entry)) (now (cells .entry))
         (now («previous_flags» .entry)) (now («previous_cells» .entry)) at (now (area .entry)) (now (area .exit)) ⌝ }

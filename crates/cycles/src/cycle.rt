@@ -4,7 +4,8 @@ ghost use mathlib.Core.List.{_++_};
 ghost use mathlib.Core.Bool.{cond};
 ghost use Prim.Native.Nat.{_+_, _*_, _≤_, _<_};
 ghost use lib.ListN.{length, drop};
-ghost use Rattle.cycles.specs.StateImage.{STATE, table};
+ghost use Rattle.checking.specs.CountFaults.{MOST-ENTITIES};
+ghost use Rattle.cycles.specs.StateImage.{CELL-BYTES, ENTITY-CELLS, ENTITY-CELL-BYTES, MOST-CELL-BYTES, STATE, table};
 ghost use Rattle.cycles.specs.Judging.{present-by};
 ghost use Rattle.cycles.specs.CycleMemory.{seen-flag, leaves-by, seen-value, next-value, Value-of, Values-put, Cycled};
 use crate::bindings::all_rules;
@@ -12,6 +13,15 @@ use crate::image::cell_token;
 use crate::image::is_sort;
 use crate::image::put_state;
 use crate::judge::present_after;
+use crate::layout::BEFORE_NOW_CELLS;
+use crate::layout::BEFORE_PREVIOUS_CELLS;
+use crate::layout::CELL_BYTES;
+use crate::layout::ENTITY_CELLS;
+use crate::layout::MOST_CELL_BYTES;
+use crate::layout::NO_READING;
+use crate::layout::NUMBER_BYTES;
+use checking::layout::ENTITY_COUNT_ROW;
+use checking::layout::MOST_ENTITIES;
 use text::classes::ACTION;
 use text::classes::ATTRIBUTE;
 use values::Value;
@@ -62,17 +72,17 @@ fn seen_value(
     inputs: &[u8],
     i: usize,
 ) -> Value
-    requires { ⌜ (i < 12 * length (now present)) × (i < 12 * length (now seen)) ⌝ }
-    requires { ⌜ (i * 9 + 9 ≤ length (now cells)) × (i * 9 + 9 ≤ length (now inputs)) ⌝ }
+    requires { ⌜ (i < ENTITY-CELLS * length (now present)) × (i < ENTITY-CELLS * length (now seen)) ⌝ }
+    requires { ⌜ (i * CELL-BYTES + CELL-BYTES ≤ length (now cells)) × (i * CELL-BYTES + CELL-BYTES ≤ length (now inputs)) ⌝ }
     ensures { λ r. ⌜
         Value-of (now (classes .entry)) (now (d .entry))
         (seen-value (now (present .entry)) (now (seen .entry)) (now (cells .entry)) (now (inputs .entry))) i r ⌝ }
 {
-    let at = i * 9;
-    if inputs[at] != 4 {
+    let at = i * CELL_BYTES;
+    if inputs[at] != NO_READING {
         return cell(inputs, i);
     }
-    let e = i / 12;
+    let e = i / ENTITY_CELLS;
     if !leaves(present[e], seen[e]) {
         return cell(cells, i);
     }
@@ -94,12 +104,12 @@ fn see_cells(
     out: &mut [u8],
 )
     requires { ⌜ (n ≤ length (now present)) × (n ≤ length (now seen)) ⌝ }
-    requires { ⌜ (108 * n ≤ length (now cells)) × (108 * n ≤ length (now inputs)) × (108 * n ≤ length (now out)) ⌝ }
+    requires { ⌜ (ENTITY-CELL-BYTES * n ≤ length (now cells)) × (ENTITY-CELL-BYTES * n ≤ length (now inputs)) × (ENTITY-CELL-BYTES * n ≤ length (now out)) ⌝ }
     ensures { λ _. ⌜
         Values-put (now (classes .entry)) (now (d .entry))
-        (seen-value (now (present .entry)) (now (seen .entry)) (now (cells .entry)) (now (inputs .entry))) (12 * n) (now (out .entry)) (now (out .exit)) ⌝ }
+        (seen-value (now (present .entry)) (now (seen .entry)) (now (cells .entry)) (now (inputs .entry))) (ENTITY-CELLS * n) (now (out .entry)) (now (out .exit)) ⌝ }
 {
-    let end = 12 * n;
+    let end = ENTITY_CELLS * n;
     let mut i = 0;
     while i < end {
         let v = seen_value(classes, d, present, seen, cells, inputs, i);
@@ -112,7 +122,7 @@ fn see_cells(
 
 // Cell number i after the cycle: an action's as it was written, any other as the rules saw it.
 fn next_value(classes: &[u8], d: &[u16], cells: &[u8], area: &[u8], i: usize) -> Value
-    requires { ⌜ (i * 9 + 9 ≤ length (now cells)) × (i * 9 + 9 ≤ length (now area)) ⌝ }
+    requires { ⌜ (i * CELL-BYTES + CELL-BYTES ≤ length (now cells)) × (i * CELL-BYTES + CELL-BYTES ≤ length (now area)) ⌝ }
     ensures { λ r. ⌜ Value-of (now (classes .entry)) (now (d .entry)) (next-value (now (cells .entry)) (now (area .entry))) i r ⌝ }
 {
     if is_sort(classes, cell_token(d, i), ACTION) {
@@ -123,12 +133,12 @@ fn next_value(classes: &[u8], d: &[u16], cells: &[u8], area: &[u8], i: usize) ->
 
 // Puts the cells of n entities after the cycle into the area, which has the writes.
 fn put_next(classes: &[u8], d: &[u16], n: usize, cells: &[u8], area: &mut [u8])
-    requires { ⌜ (108 * n ≤ length (now cells)) × (108 * n ≤ length (now area)) ⌝ }
+    requires { ⌜ (ENTITY-CELL-BYTES * n ≤ length (now cells)) × (ENTITY-CELL-BYTES * n ≤ length (now area)) ⌝ }
     ensures { λ _. ⌜
-        Values-put (now (classes .entry)) (now (d .entry)) (next-value (now (cells .entry)) (now (area .entry))) (12 * n)
+        Values-put (now (classes .entry)) (now (d .entry)) (next-value (now (cells .entry)) (now (area .entry))) (ENTITY-CELLS * n)
         (now (area .entry)) (now (area .exit)) ⌝ }
 {
-    let end = 12 * n;
+    let end = ENTITY_CELLS * n;
     let mut i = 0;
     while i < end {
         let v = next_value(classes, d, cells, area, i);
@@ -149,28 +159,28 @@ pub fn cycle(
     input_cells: &[u8],
     state: &mut [u8],
 )
-    requires { ⌜ (32 ≤ length (now «input_flags»)) × (3456 ≤ length (now «input_cells»)) ⌝ }
+    requires { ⌜ (MOST-ENTITIES ≤ length (now «input_flags»)) × (MOST-CELL-BYTES ≤ length (now «input_cells»)) ⌝ }
     requires { ⌜ STATE ≤ length (now state) ⌝ }
     ensures { λ _. ⌜
         Cycled (now (classes .entry)) (now (values .entry)) (now (d .entry)) (now (refs .entry)) (now (scopes .entry)) number
         (now («input_flags» .entry)) (now («input_cells» .entry)) (now (state .entry)) (now (state .exit)) ⌝ }
 {
-    let n = checking::row(d, 1);
-    if 32 < n {
+    let n = checking::row(d, ENTITY_COUNT_ROW);
+    if MOST_ENTITIES < n {
         return;
     }
-    let previous_flags = 4 + n;
-    let now_cells = 4 + 3 * n;
-    let previous_cells = 4 + 111 * n;
-    let mut flags = [0u8; 32];
-    let mut cells = [0u8; 3456];
-    let mut area = [0u8; 3456];
-    see_flags(n, &state[4..], input_flags, &mut flags);
+    let previous_flags = NUMBER_BYTES + n;
+    let now_cells = NUMBER_BYTES + BEFORE_NOW_CELLS * n;
+    let previous_cells = NUMBER_BYTES + BEFORE_PREVIOUS_CELLS * n;
+    let mut flags = [0u8; MOST_ENTITIES];
+    let mut cells = [0u8; MOST_CELL_BYTES];
+    let mut area = [0u8; MOST_CELL_BYTES];
+    see_flags(n, &state[NUMBER_BYTES..], input_flags, &mut flags);
     see_cells(
         classes,
         d,
         n,
-        &state[4..],
+        &state[NUMBER_BYTES..],
         &flags,
         &state[now_cells..],
         input_cells,

@@ -4,11 +4,23 @@ ghost use mathlib.Core.Bool.{_&&_};
 ghost use Prim.Native.Nat.{_≤_, _/_, _%_};
 ghost use lib.Dec.{ltb, eqb};
 ghost use lib.ListN.{length, getD};
+ghost use Rattle.checking.specs.Directory.{NO-MEMBER};
 ghost use Rattle.cycles.specs.Evaluation.{bound, Cell-read, Put};
 ghost use Rattle.cycles.specs.AllRules.{Entity-added};
+ghost use Rattle.cycles.specs.StateImage.{MOST-CELL-BYTES};
+use crate::layout::CELL_BYTES;
+use crate::layout::ENTITY_CELLS;
+use crate::layout::MOST_CELLS;
+use checking::layout::FIRST_VARIABLE_8;
+use checking::layout::MOST_MEMBERS_8;
 use checking::row;
 use text::walks::class_at;
 use values::Value;
+
+// A rule's second variable, as a reference, and no member, in 8 bits.
+const SECOND_VARIABLE: u8 = FIRST_VARIABLE_8 + 1;
+
+const NO_MEMBER_8: u8 = MOST_MEMBERS_8;
 
 // The entities of a rule's variables, at most three: a byte for each, the first variable's the lowest. One number goes in a register.
 pub struct Binding {
@@ -33,13 +45,13 @@ pub fn member(refs: &[u16], i: usize) -> u8
 pub fn bound(b: Binding, r: u8) -> u8
     ensures { λ e. ⌜ e ≡ bound b r ⌝ }
 {
-    if r < 32 {
+    if r < FIRST_VARIABLE_8 {
         return r;
     }
-    if r == 32 {
+    if r == FIRST_VARIABLE_8 {
         return (b.entities % 256) as u8;
     }
-    if r == 33 {
+    if r == SECOND_VARIABLE {
         return (b.entities / 256 % 256) as u8;
     }
     (b.entities / 65536 % 256) as u8
@@ -68,11 +80,11 @@ pub fn is_present(flags: &[u8], e: u8) -> bool
     class_at(flags, e as usize) == 1
 }
 
-// Is entity e present, of which member m is asked? A name that means no member has number 12.
+// Is entity e present, of which member m is asked? A name that means no member has the number NO_MEMBER.
 pub fn is_present_at(flags: &[u8], e: u8, m: u8) -> bool
-    ensures { λ r. ⌜ r ≡ (ltb m 12 && eqb (getD (now (flags .entry)) e 0) 1) ⌝ }
+    ensures { λ r. ⌜ r ≡ (ltb m NO-MEMBER && eqb (getD (now (flags .entry)) e 0) 1) ⌝ }
 {
-    if 12 <= m {
+    if NO_MEMBER_8 <= m {
         return false;
     }
     is_present(flags, e)
@@ -85,8 +97,8 @@ pub fn read_cell(flags: &[u8], cells: &[u8], e: u8, m: u8) -> Value
     if !is_present_at(flags, e, m) {
         return Value::Unset;
     }
-    let i = (e as usize) * 12 + (m as usize);
-    if cells.len() < i * 9 + 9 {
+    let i = (e as usize) * ENTITY_CELLS + (m as usize);
+    if cells.len() < i * CELL_BYTES + CELL_BYTES {
         return Value::Unset;
     }
     values::cell(cells, i)
@@ -94,17 +106,17 @@ pub fn read_cell(flags: &[u8], cells: &[u8], e: u8, m: u8) -> Value
 
 // The write of a value to member m of entity e, if it is to be made and there is such a member.
 pub fn put(area: &mut [u8], made: bool, e: u8, m: u8, v: Value)
-    requires { ⌜ 3456 ≤ length (now area) ⌝ }
+    requires { ⌜ MOST-CELL-BYTES ≤ length (now area) ⌝ }
     ensures { λ _. ⌜ Put (now (area .entry)) made e m v (now (area .exit)) ⌝ }
 {
     if !made {
         return;
     }
-    if 12 <= m {
+    if NO_MEMBER_8 <= m {
         return;
     }
-    let i = (e as usize) * 12 + (m as usize);
-    if 384 <= i {
+    let i = (e as usize) * ENTITY_CELLS + (m as usize);
+    if MOST_CELLS <= i {
         return;
     }
     values::put_cell(area, i, v);

@@ -3,10 +3,15 @@ ghost use Prim.Native.Nat.{_+_, _<_, _≤_};
 ghost use mathlib.Core.Path.{_≡_};
 ghost use lib.ListN.{length};
 ghost use Rattle.text.specs.Grammar.{OPENERS, clause-reader, atom-reader, conjunction-reader};
-ghost use Rattle.cycles.specs.Guards.{Covered, Guards-found};
+ghost use Rattle.checking.specs.CountFaults.{MOST-VARIABLES};
+ghost use Rattle.cycles.specs.Guards.{ALL-GUARD-ROWS, Covered, Guards-found};
 ghost use Rattle.cycles.specs.Finding.{Guard-put, Part-put, Filter-guards-walk, Test-guards-walk, Condition-guards-walk, Call-guarded};
 use crate::conditions::target_end;
 use crate::evaluate::owner;
+use crate::layout::GUARD_ROWS;
+use crate::layout::MOST_GUARDS;
+use checking::layout::FIRST_VARIABLE_8;
+use checking::layout::MOST_VARIABLES_8;
 use text::classes::AND;
 use text::classes::CHANGED;
 use text::classes::COMMA;
@@ -24,10 +29,15 @@ pub struct Found {
     pub next: usize,
 }
 
+// The references before and after those of variables.
+const BEFORE_VARIABLES: u8 = FIRST_VARIABLE_8 - 1;
+
+const AFTER_VARIABLES: u8 = FIRST_VARIABLE_8 + MOST_VARIABLES_8;
+
 // ---- levels
 
 fn greater(a: u8, b: u8) -> u8
-    ensures { λ r. ⌜ (a ≤ r) × (b ≤ r) × (a ≤ 3 → b ≤ 3 → r ≤ 3) ⌝ }
+    ensures { λ r. ⌜ (a ≤ r) × (b ≤ r) × (a ≤ MOST-VARIABLES → b ≤ MOST-VARIABLES → r ≤ MOST-VARIABLES) ⌝ }
 {
     if a < b {
         return b;
@@ -37,21 +47,21 @@ fn greater(a: u8, b: u8) -> u8
 
 // One more than the variable that token number i refers to, 0 if to none.
 fn level_at(refs: &[u16], i: usize) -> u8
-    ensures { λ r. ⌜ Covered (now (refs .entry)) r i (i + 1) × (r ≤ 3) ⌝ }
+    ensures { λ r. ⌜ Covered (now (refs .entry)) r i (i + 1) × (r ≤ MOST-VARIABLES) ⌝ }
 {
     let r = owner(refs, i);
-    if r < 32 {
+    if r < FIRST_VARIABLE_8 {
         return 0;
     }
-    if 35 <= r {
+    if AFTER_VARIABLES <= r {
         return 0;
     }
-    r - 31
+    r - BEFORE_VARIABLES
 }
 
 // One more than the last variable that tokens number `from` up to `to` refer to.
 fn level_of(refs: &[u16], from: usize, to: usize) -> u8
-    ensures { λ r. ⌜ Covered (now (refs .entry)) r from to × (r ≤ 3) ⌝ }
+    ensures { λ r. ⌜ Covered (now (refs .entry)) r from to × (r ≤ MOST-VARIABLES) ⌝ }
 {
     let mut level: u8 = 0;
     let mut i = from;
@@ -84,15 +94,15 @@ fn put_guard(
     m: usize,
     at: usize,
 ) -> usize
-    requires { ⌜ 64 ≤ length (now guards) ⌝ }
+    requires { ⌜ ALL-GUARD-ROWS ≤ length (now guards) ⌝ }
     ensures { λ r. ⌜
         Guard-put level inner kind n m at
         (record { before = now (guards .entry); count = count; after = now (guards .exit); total = r }) ⌝ }
 {
-    if 16 <= count {
+    if MOST_GUARDS <= count {
         return count;
     }
-    let row = 4 * count;
+    let row = GUARD_ROWS * count;
     guards[row] = (kind as usize) + 8 * (level as usize) + 32 * (inner as usize);
     guards[row + 1] = n;
     guards[row + 2] = m;
@@ -112,7 +122,7 @@ fn put_part(
     guards: &mut [usize],
     count: usize,
 ) -> usize
-    requires { ⌜ 64 ≤ length (now guards) ⌝ }
+    requires { ⌜ ALL-GUARD-ROWS ≤ length (now guards) ⌝ }
     ensures { λ r. ⌜
         Part-put (now (refs .entry)) kind n m at next
         (record { before = now (guards .entry); count = count; after = now (guards .exit); total = r }) ⌝ }
@@ -143,7 +153,7 @@ fn put_in_pass(
     count: usize,
     dear: bool,
 ) -> usize
-    requires { ⌜ 64 ≤ length (now guards) ⌝ }
+    requires { ⌜ ALL-GUARD-ROWS ≤ length (now guards) ⌝ }
     ensures { λ r. ⌜
         Part-put (now (refs .entry)) kind n m at next
         (record { before = now (guards .entry); count = count; after = now (guards .exit); total = r }) ⌝ }
@@ -166,7 +176,7 @@ fn filter_guard(
     count: usize,
     dear: bool,
 ) -> Found
-    requires { ⌜ 64 ≤ length (now guards) ⌝ }
+    requires { ⌜ ALL-GUARD-ROWS ≤ length (now guards) ⌝ }
     ensures { λ r. ⌜
         Filter-guards-walk (now (classes .entry)) (now (refs .entry)) n at
         (record { before = now (guards .entry); count = count; after = now (guards .exit); total = r .count }) (r .next) ⌝ }
@@ -195,7 +205,7 @@ fn test_guards(
     count: usize,
     dear: bool,
 ) -> Found
-    requires { ⌜ 64 ≤ length (now guards) ⌝ }
+    requires { ⌜ ALL-GUARD-ROWS ≤ length (now guards) ⌝ }
     ensures { λ r. ⌜
         Test-guards-walk (now (classes .entry)) (now (refs .entry)) n m at
         (record { before = now (guards .entry); count = count; after = now (guards .exit); total = r .count }) (r .next) ⌝ }
@@ -223,7 +233,7 @@ fn clause_guards(
     count: usize,
     dear: bool,
 ) -> Found
-    requires { ⌜ 64 ≤ length (now guards) ⌝ }
+    requires { ⌜ ALL-GUARD-ROWS ≤ length (now guards) ⌝ }
     ensures { λ r. ⌜
         Condition-guards-walk (now (classes .entry)) (now (refs .entry)) (clause-reader OPENERS) at
         (record { before = now (guards .entry); count = count; after = now (guards .exit); total = r .count }) (r .next) ⌝ }
@@ -260,7 +270,7 @@ fn atom_guards(
     count: usize,
     dear: bool,
 ) -> Found
-    requires { ⌜ 64 ≤ length (now guards) ⌝ }
+    requires { ⌜ ALL-GUARD-ROWS ≤ length (now guards) ⌝ }
     ensures { λ r. ⌜
         Condition-guards-walk (now (classes .entry)) (now (refs .entry)) (atom-reader OPENERS) at
         (record { before = now (guards .entry); count = count; after = now (guards .exit); total = r .count }) (r .next) ⌝ }
@@ -284,7 +294,7 @@ fn conjuncts(
     count: usize,
     dear: bool,
 ) -> Found
-    requires { ⌜ 64 ≤ length (now guards) ⌝ }
+    requires { ⌜ ALL-GUARD-ROWS ≤ length (now guards) ⌝ }
     ensures { λ r. ⌜
         Condition-guards-walk (now (classes .entry)) (now (refs .entry)) (conjunction-reader OPENERS) at
         (record { before = now (guards .entry); count = count; after = now (guards .exit); total = r .count }) (r .next) ⌝ }
@@ -307,7 +317,7 @@ fn conjuncts(
 
 // The `with` of the call at number `at`, if no other call follows.
 fn call_guard(classes: &[u8], refs: &[u16], at: usize, guards: &mut [usize], count: usize) -> usize
-    requires { ⌜ 64 ≤ length (now guards) ⌝ }
+    requires { ⌜ ALL-GUARD-ROWS ≤ length (now guards) ⌝ }
     ensures { λ r. ⌜
         Call-guarded (now (classes .entry)) (now (refs .entry)) at
         (record { before = now (guards .entry); count = count; after = now (guards .exit); total = r }) ⌝ }
@@ -331,7 +341,7 @@ fn call_guard(classes: &[u8], refs: &[u16], at: usize, guards: &mut [usize], cou
 
 // Finds the guards of the rule whose tokens after `when` begin at number `at`, and answers how many there are.
 pub fn find_guards(classes: &[u8], refs: &[u16], at: usize, guards: &mut [usize]) -> usize
-    requires { ⌜ 64 ≤ length (now guards) ⌝ }
+    requires { ⌜ ALL-GUARD-ROWS ≤ length (now guards) ⌝ }
     ensures { λ r. ⌜ Guards-found (now (classes .entry)) (now (refs .entry)) at (now (guards .exit)) r ⌝ }
 {
     let cheap = conjuncts(classes, refs, at, guards, 0, false);

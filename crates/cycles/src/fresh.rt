@@ -5,12 +5,19 @@ ghost use Prim.Native.Nat.{_+_, _*_, _≤_};
 ghost use lib.ListN.{length, getD};
 ghost use Rattle.values.specs.Bytes.{low-first};
 ghost use Rattle.text.specs.Syntax.{whole-number, real-number, literal-value};
-ghost use Rattle.cycles.specs.StateImage.{STATE};
+ghost use Rattle.cycles.specs.StateImage.{CELL-BYTES, NUMBER-BYTES, BEFORE-NOW-CELLS, STATE};
 ghost use Rattle.cycles.specs.StateMemory.{Put};
 ghost use Rattle.cycles.specs.FreshMemory.{Number-at, Literal-at, Assigned-value, Fresh-cell, Fresh-cells-put, flags-of, blanks-of, Fresh-put};
 use crate::image::cell_token;
 use crate::image::is_sort;
 use crate::image::put_number;
+use crate::layout::CELL_BYTES;
+use crate::layout::ENTITY_CELLS;
+use crate::layout::NO_READING;
+use crate::layout::NUMBER_BYTES;
+use checking::layout::ENTITY_COUNT_ROW;
+use checking::layout::ENTITY_ROWS;
+use checking::layout::MOST_ENTITIES;
 use text::classes::ATTRIBUTE;
 use text::classes::FALSE;
 use text::classes::MINUS;
@@ -126,7 +133,7 @@ fn fresh_value(
     if !is_sort(classes, token, ATTRIBUTE) {
         return Value::Unset;
     }
-    let from = checking::row(d, 227 + i / 12) + 5;
+    let from = checking::row(d, ENTITY_ROWS + i / ENTITY_CELLS) + 5;
     assigned_value(text, classes, offsets, lengths, values, from, token + 1)
 }
 
@@ -145,18 +152,18 @@ fn put_flags(state: &mut [u8], at: usize, n: usize, flag: u8) -> usize
 }
 
 fn put_tagged(state: &mut [u8], at: usize, tag: u8, word: u64) -> usize
-    requires { ⌜ at + 9 ≤ length (now state) ⌝ }
-    ensures { λ r. ⌜ (r ≡ at + 9) × Put (tag ∷ low-first 8 word) (now (state .entry)) at (now (state .exit)) r ⌝ }
+    requires { ⌜ at + CELL-BYTES ≤ length (now state) ⌝ }
+    ensures { λ r. ⌜ (r ≡ at + CELL-BYTES) × Put (tag ∷ low-first 8 word) (now (state .entry)) at (now (state .exit)) r ⌝ }
 {
     let next = at + 1;
     state[at] = tag;
     values::put_word(state, next, word);
-    at + 9
+    at + CELL_BYTES
 }
 
 fn put_blanks(state: &mut [u8], at: usize, count: usize, tag: u8) -> usize
-    requires { ⌜ at + 9 * count ≤ length (now state) ⌝ }
-    ensures { λ r. ⌜ (r ≡ at + 9 * count) × Put (blanks-of tag count) (now (state .entry)) at (now (state .exit)) r ⌝ }
+    requires { ⌜ at + CELL-BYTES * count ≤ length (now state) ⌝ }
+    ensures { λ r. ⌜ (r ≡ at + CELL-BYTES * count) × Put (blanks-of tag count) (now (state .entry)) at (now (state .exit)) r ⌝ }
 {
     let mut end = at;
     let mut i = 0;
@@ -178,7 +185,7 @@ fn put_fresh_cells(
     state: &mut [u8],
     at: usize,
 ) -> usize
-    requires { ⌜ at + 9 * count ≤ length (now state) ⌝ }
+    requires { ⌜ at + CELL-BYTES * count ≤ length (now state) ⌝ }
     ensures { λ r. ⌜
         Fresh-cells-put (now (text .entry)) (now (classes .entry)) (now (offsets .entry)) (now (lengths .entry)) (now (values .entry)) (now (d .entry))
         count (now (state .entry)) at (now (state .exit)) r ⌝ }
@@ -196,13 +203,13 @@ fn put_fresh_cells(
 
 // The last number, and who is present now, was before, and was read to be.
 fn put_fresh_flags(state: &mut [u8], n: usize) -> usize
-    requires { ⌜ 4 + 3 * n ≤ length (now state) ⌝ }
+    requires { ⌜ NUMBER-BYTES + BEFORE-NOW-CELLS * n ≤ length (now state) ⌝ }
     ensures { λ r. ⌜
-        (r ≡ 4 + 3 * n)
-        × Put (low-first 4 0 ++ flags-of 1 n ++ flags-of 0 n ++ flags-of 0 n) (now (state .entry)) 0 (now (state .exit)) r ⌝ }
+        (r ≡ NUMBER-BYTES + BEFORE-NOW-CELLS * n)
+        × Put (low-first NUMBER-BYTES 0 ++ flags-of 1 n ++ flags-of 0 n ++ flags-of 0 n) (now (state .entry)) 0 (now (state .exit)) r ⌝ }
 {
     put_number(state, 0);
-    let a = put_flags(state, 4, n, 1);
+    let a = put_flags(state, NUMBER_BYTES, n, 1);
     let b = put_flags(state, a, n, 0);
     put_flags(state, b, n, 0)
 }
@@ -222,11 +229,11 @@ pub fn put_fresh(
         Fresh-put (now (text .entry)) (now (classes .entry)) (now (offsets .entry)) (now (lengths .entry)) (now (values .entry)) (now (d .entry))
         (now (state .entry)) (now (state .exit)) ⌝ }
 {
-    let n = checking::row(d, 1);
-    if 32 < n {
+    let n = checking::row(d, ENTITY_COUNT_ROW);
+    if MOST_ENTITIES < n {
         return;
     }
-    let count = 12 * n;
+    let count = ENTITY_CELLS * n;
     let flags = put_fresh_flags(state, n);
     let cells = put_fresh_cells(
         text,
@@ -240,5 +247,5 @@ pub fn put_fresh(
         flags,
     );
     let previous = put_blanks(state, cells, count, 0);
-    put_blanks(state, previous, count, 4);
+    put_blanks(state, previous, count, NO_READING);
 }

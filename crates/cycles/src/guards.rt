@@ -12,6 +12,7 @@ use crate::evaluate::owner;
 use crate::evaluate::read_cell;
 use crate::evaluate::with_entity;
 use crate::expressions::expression;
+use crate::layout::GUARD_ROWS;
 use text::grammar::OPENERS;
 use values::Value;
 
@@ -361,12 +362,12 @@ pub fn narrow(
         (now (marks .exit)) ⌝ }
 {
     // so many guards of four rows each would not fit
-    if guards.len() / 4 < count {
+    if guards.len() / GUARD_ROWS < count {
         return;
     }
     let mut j = 0;
     while j < count {
-        let row = 4 * j;
+        let row = GUARD_ROWS * j;
         let code = guard_row(guards, row);
         j += 1;
         if code / 8 % 4 != (level as usize) + 1 {

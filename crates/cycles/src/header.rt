@@ -7,14 +7,22 @@ ghost use Rattle.cycles.specs.Fields.{split};
 ghost use Rattle.cycles.specs.Header.{column-of-entity, column};
 ghost use Rattle.cycles.specs.HeaderReads.{Column-read, backwards, is-number-among, Header-read, MOST-COLUMNS};
 use crate::fields::field_start;
+use crate::layout::ENTITY_COLUMNS;
+use crate::layout::MOST_HEADER_BYTES;
+use crate::layout::NO_COLUMN;
+use crate::layout::NO_HEADER;
+use crate::layout::PRESENCE_COLUMN;
 use checking::entity_called;
+use checking::layout::ENTITY_INTERFACE_ROWS;
+use checking::layout::NO_ENTITY;
+use checking::layout::NO_MEMBER;
 use checking::member_called;
 use checking::member_sort;
 use checking::row;
 use text::classes::EVENT;
 use values::same_bytes;
 
-// The column of an event by the names of its entity and of itself; 416 if there is none.
+// The column of an event by the names of its entity and of itself; NO_COLUMN if there is none.
 fn event_column(
     text: &[u8],
     classes: &[u8],
@@ -29,21 +37,21 @@ fn event_column(
         (λ f. column-of-entity f (entity-named f (now (owner .entry))) (now (member .entry))) r ⌝ }
 {
     let e = entity_called(text, offsets, lengths, d, owner);
-    if e == 32 {
-        return 416;
+    if e == NO_ENTITY {
+        return NO_COLUMN;
     }
-    let face = row(d, 323 + e);
+    let face = row(d, ENTITY_INTERFACE_ROWS + e);
     let m = member_called(text, offsets, lengths, d, face, member);
-    if m == 12 {
-        return 416;
+    if m == NO_MEMBER {
+        return NO_COLUMN;
     }
     if member_sort(classes, d, face, m) != EVENT {
-        return 416;
+        return NO_COLUMN;
     }
-    e * 13 + m
+    e * ENTITY_COLUMNS + m
 }
 
-// The column that a field of a header names; 416 if there is none.
+// The column that a field of a header names; NO_COLUMN if there is none.
 fn column_called(
     text: &[u8],
     classes: &[u8],
@@ -60,14 +68,14 @@ fn column_called(
     let last = field_start(field, size, 46);
     if last == 0 {
         let e = entity_called(text, offsets, lengths, d, field);
-        if e == 32 {
-            return 416;
+        if e == NO_ENTITY {
+            return NO_COLUMN;
         }
-        return e * 13 + 12;
+        return e * ENTITY_COLUMNS + PRESENCE_COLUMN;
     }
     let end = last - 1;
     if field_start(field, end, 46) != 0 {
-        return 416;
+        return NO_COLUMN;
     }
     event_column(
         text,
@@ -96,7 +104,7 @@ fn is_read(columns: &[u16], count: usize, column: u16) -> bool
     false
 }
 
-// Reads the columns, the last one first, and answers their number; 417 for no header.
+// Reads the columns, the last one first, and answers their number; NO_HEADER for no header.
 pub fn read_header(
     text: &[u8],
     classes: &[u8],
@@ -111,8 +119,8 @@ pub fn read_header(
         Header-read (now (text .entry)) (now (classes .entry)) (now (offsets .entry)) (now (lengths .entry)) (now (d .entry)) (now (names .entry))
         (now (columns .exit)) r ⌝ }
 {
-    if 32768 < names.len() {
-        return 417;
+    if MOST_HEADER_BYTES < names.len() {
+        return NO_HEADER;
     }
     let mut end = names.len();
     let mut count: usize = 0;
@@ -122,15 +130,15 @@ pub fn read_header(
             if same_bytes(&names[0..end], b"n") {
                 return count;
             }
-            return 417;
+            return NO_HEADER;
         }
         let column = column_called(text, classes, offsets, lengths, d, &names[start..end]);
-        if column == 416 {
-            return 417;
+        if column == NO_COLUMN {
+            return NO_HEADER;
         }
         let number = column as u16;
         if is_read(columns, count, number) {
-            return 417;
+            return NO_HEADER;
         }
         columns[count] = number;
         count += 1;

@@ -4,9 +4,28 @@ ghost use mathlib.Core.List.{_++_};
 ghost use Prim.Native.Nat.{_+_, _*_, _≤_};
 ghost use lib.ListN.{length, getD, take, drop};
 ghost use Rattle.values.specs.Bytes.{word-at, low-first, overwritten};
-ghost use Rattle.cycles.specs.StateImage.{STATE, image-size, flags-below, is-unset-cell, is-blank-cell, is-set-cell, is-value-cell, store-fits, input-fits-in};
+ghost use Rattle.checking.specs.CountFaults.{MOST-ENTITIES};
+ghost use Rattle.checking.specs.Directory.{ENTITY-COUNT-ROW};
+ghost use Rattle.cycles.specs.StateImage.{ENTITY-CELL-BYTES, MOST-CELL-BYTES, NUMBER-BYTES, STATE, image-size, flags-below};
+ghost use Rattle.cycles.specs.StateImage.{is-unset-cell, is-blank-cell, is-set-cell, is-value-cell, store-fits, input-fits-in};
 ghost use Rattle.cycles.specs.CellTokens.{Cell-token, Sort-test};
 ghost use Rattle.cycles.specs.StateMemory.{Kind-test, fit-of, Cell-test, Cells-test, State-test, Put, gathered};
+use crate::layout::BEFORE_INPUT_CELLS;
+use crate::layout::BEFORE_NOW_CELLS;
+use crate::layout::BEFORE_PREVIOUS_CELLS;
+use crate::layout::BEFORE_READ_FLAGS;
+use crate::layout::CELL_BYTES;
+use crate::layout::ENTITY_CELL_BYTES;
+use crate::layout::ENTITY_CELLS;
+use crate::layout::NO_READING;
+use crate::layout::NUMBER_BYTES;
+use checking::layout::ENTITY_COUNT_ROW;
+use checking::layout::ENTITY_INTERFACE_ROWS;
+use checking::layout::INTERFACE_COUNT_ROW;
+use checking::layout::MEMBER_COUNT_ROWS;
+use checking::layout::MEMBER_ROWS;
+use checking::layout::MOST_ENTITIES;
+use checking::layout::MOST_MEMBERS;
 
 // No token's number.
 pub const NO_TOKEN: usize = 65536;
@@ -22,19 +41,19 @@ pub enum Plane {
 pub fn cell_token(d: &[u16], i: usize) -> usize
     ensures { λ r. ⌜ Cell-token (now (d .entry)) i r ⌝ }
 {
-    let e = i / 12;
-    let m = i % 12;
-    if checking::row(d, 1) <= e {
+    let e = i / ENTITY_CELLS;
+    let m = i % ENTITY_CELLS;
+    if checking::row(d, ENTITY_COUNT_ROW) <= e {
         return NO_TOKEN;
     }
-    let face = checking::row(d, 323 + e);
-    if checking::row(d, 0) <= face {
+    let face = checking::row(d, ENTITY_INTERFACE_ROWS + e);
+    if checking::row(d, INTERFACE_COUNT_ROW) <= face {
         return NO_TOKEN;
     }
-    if checking::row(d, 19 + face) <= m {
+    if checking::row(d, MEMBER_COUNT_ROWS + face) <= m {
         return NO_TOKEN;
     }
-    checking::row(d, 35 + face * 12 + m)
+    checking::row(d, MEMBER_ROWS + face * MOST_MEMBERS + m)
 }
 
 // Whether the member whose first token has number `at` has the sort that the class says.
@@ -61,7 +80,7 @@ fn is_unset_cell(t: u8, w: u64) -> bool
 fn is_blank_cell(t: u8, w: u64) -> bool
     ensures { λ r. ⌜ r ≡ is-blank-cell t w ⌝ }
 {
-    if t == 4 {
+    if t == NO_READING {
         return w == 0;
     }
     false
@@ -162,15 +181,15 @@ fn flags_below(flags: &[u8], n: usize, bound: u8) -> bool
 }
 
 fn cells_fit(plane: Plane, classes: &[u8], d: &[u16], flags: &[u8], cells: &[u8]) -> bool
-    requires { ⌜ getD (now d) 1 0 ≤ length (now flags) ⌝ }
-    requires { ⌜ 108 * getD (now d) 1 0 ≤ length (now cells) ⌝ }
+    requires { ⌜ getD (now d) ENTITY-COUNT-ROW 0 ≤ length (now flags) ⌝ }
+    requires { ⌜ ENTITY-CELL-BYTES * getD (now d) ENTITY-COUNT-ROW 0 ≤ length (now cells) ⌝ }
     ensures { λ r. ⌜ Cells-test plane (now (classes .entry)) (now (d .entry)) (now (flags .entry)) (now (cells .entry)) r ⌝ }
 {
-    let end = 12 * checking::row(d, 1);
+    let end = ENTITY_CELLS * checking::row(d, ENTITY_COUNT_ROW);
     let mut i = 0;
     while i < end {
-        let present = flags[i / 12] == 1;
-        let at = i * 9;
+        let present = flags[i / ENTITY_CELLS] == 1;
+        let at = i * CELL_BYTES;
         let next = at + 1;
         let w = values::word_at(cells, next);
         if !fits(plane, present, classes, cell_token(d, i), cells[at], w) {
@@ -186,16 +205,16 @@ pub fn is_state(classes: &[u8], d: &[u16], state: &[u8]) -> bool
     requires { ⌜ STATE ≤ length (now state) ⌝ }
     ensures { λ r. ⌜ State-test (now (classes .entry)) (now (d .entry)) (now (state .entry)) r ⌝ }
 {
-    let n = checking::row(d, 1);
-    if 32 < n {
+    let n = checking::row(d, ENTITY_COUNT_ROW);
+    if MOST_ENTITIES < n {
         return false;
     }
-    let previous_flags = 4 + n;
-    let read_flags = 4 + 2 * n;
-    let now_cells = 4 + 3 * n;
-    let previous_cells = 4 + 111 * n;
-    let input_cells = 4 + 219 * n;
-    if !flags_below(&state[4..], n, 2) {
+    let previous_flags = NUMBER_BYTES + n;
+    let read_flags = NUMBER_BYTES + BEFORE_READ_FLAGS * n;
+    let now_cells = NUMBER_BYTES + BEFORE_NOW_CELLS * n;
+    let previous_cells = NUMBER_BYTES + BEFORE_PREVIOUS_CELLS * n;
+    let input_cells = NUMBER_BYTES + BEFORE_INPUT_CELLS * n;
+    if !flags_below(&state[NUMBER_BYTES..], n, 2) {
         return false;
     }
     if !flags_below(&state[previous_flags..], n, 2) {
@@ -204,7 +223,13 @@ pub fn is_state(classes: &[u8], d: &[u16], state: &[u8]) -> bool
     if !flags_below(&state[read_flags..], n, 3) {
         return false;
     }
-    if !cells_fit(Plane::Now, classes, d, &state[4..], &state[now_cells..]) {
+    if !cells_fit(
+        Plane::Now,
+        classes,
+        d,
+        &state[NUMBER_BYTES..],
+        &state[now_cells..],
+    ) {
         return false;
     }
     if !cells_fit(
@@ -229,8 +254,8 @@ pub fn is_state(classes: &[u8], d: &[u16], state: &[u8]) -> bool
 
 // The last line's number.
 pub fn number(state: &[u8]) -> u32
-    requires { ⌜ 4 ≤ length (now state) ⌝ }
-    ensures { λ r. ⌜ r ≡ word-at 4 (now (state .entry)) 0 ⌝ }
+    requires { ⌜ NUMBER-BYTES ≤ length (now state) ⌝ }
+    ensures { λ r. ⌜ r ≡ word-at NUMBER-BYTES (now (state .entry)) 0 ⌝ }
 {
     let w3 = values::slices::wide(state[3]);
     let w2 = values::slices::wide(state[2]) + 256 * w3;
@@ -239,8 +264,8 @@ pub fn number(state: &[u8]) -> u32
 }
 
 pub fn put_number(state: &mut [u8], n: u32)
-    requires { ⌜ 4 ≤ length (now state) ⌝ }
-    ensures { λ _. ⌜ now (state .exit) ≡ overwritten (now (state .entry)) 0 (low-first 4 n) ⌝ }
+    requires { ⌜ NUMBER-BYTES ≤ length (now state) ⌝ }
+    ensures { λ _. ⌜ now (state .exit) ≡ overwritten (now (state .entry)) 0 (low-first NUMBER-BYTES n) ⌝ }
 {
     let n1 = n / 256;
     let n2 = n1 / 256;
@@ -293,22 +318,29 @@ pub fn put_state(
     input_cells: &[u8],
     state: &mut [u8],
 )
-    requires { ⌜ (32 ≤ length (now «now_flags»)) × (3456 ≤ length (now «now_cells»)) ⌝ }
-    requires { ⌜ (32 ≤ length (now «previous_flags»)) × (3456 ≤ length (now «previous_cells»)) ⌝ }
-    requires { ⌜ (32 ≤ length (now «input_flags»)) × (3456 ≤ length (now «input_cells»)) ⌝ }
+    requires { ⌜ (MOST-ENTITIES ≤ length (now «now_flags»)) × (MOST-CELL-BYTES ≤ length (now «now_cells»)) ⌝ }
+    requires { ⌜ (MOST-ENTITIES ≤ length (now «previous_flags»)) × (MOST-CELL-BYTES ≤ length (now «previous_cells»)) ⌝ }
+    requires { ⌜ (MOST-ENTITIES ≤ length (now «input_flags»)) × (MOST-CELL-BYTES ≤ length (now «input_cells»)) ⌝ }
     requires { ⌜ STATE ≤ length (now state) ⌝ }
-    ensures { λ _. ⌜ (getD (now (d .entry)) 1 0 ≤ 32
+    ensures { λ _. ⌜ (getD (now (d .entry)) ENTITY-COUNT-ROW 0 ≤ MOST-ENTITIES
         → now (state .exit)
-        ≡ gathered (getD (now (d .entry)) 1 0) last (now («now_flags» .entry)) (now («now_cells» .entry)) (now («previous_flags» .entry))
+        ≡ gathered (getD (now (d .entry)) ENTITY-COUNT-ROW 0) last (now («now_flags» .entry)) (now («now_cells» .entry)) (now («previous_flags» .entry))
         (now («previous_cells» .entry)) (now («input_flags» .entry)) (now («input_cells» .entry))
-        ++ drop (image-size (getD (now (d .entry)) 1 0)) (now (state .entry))) ⌝ }
+        ++ drop (image-size (getD (now (d .entry)) ENTITY-COUNT-ROW 0)) (now (state .entry))) ⌝ }
 {
-    let n = checking::row(d, 1);
-    if 32 < n {
+    let n = checking::row(d, ENTITY_COUNT_ROW);
+    if MOST_ENTITIES < n {
         return;
     }
-    let size = 108 * n;
+    let size = ENTITY_CELL_BYTES * n;
     put_number(state, last);
-    let flags = put_fronts(state, 4, now_flags, previous_flags, input_flags, n);
+    let flags = put_fronts(
+        state,
+        NUMBER_BYTES,
+        now_flags,
+        previous_flags,
+        input_flags,
+        n,
+    );
     put_fronts(state, flags, now_cells, previous_cells, input_cells, size);
 }

@@ -3,8 +3,13 @@ ghost use mathlib.Core.Path.{_≡_};
 ghost use Prim.Native.Nat.{_*_, _+_, _≤_, _<_};
 ghost use lib.ListN.{length};
 ghost use Rattle.cycles.specs.Line.{in-turn};
-ghost use Rattle.cycles.specs.StateImage.{each};
+ghost use Rattle.cycles.specs.StateImage.{CELL-BYTES, ENTITY-CELLS, ENTITY-CELL-BYTES, each};
 ghost use Rattle.cycles.specs.Judging.{present-by, takes-cell, same-memory, Judged};
+use crate::layout::CELL_BYTES;
+use crate::layout::ENTITY_CELL_BYTES;
+use crate::layout::ENTITY_CELLS;
+use crate::layout::MOST_LINES;
+use crate::layout::NO_READING;
 use values::same_bytes;
 
 // A refusal by its code, a new line, or a retransmission.
@@ -26,23 +31,23 @@ pub fn present_after(present: u8, flag: u8) -> bool
 
 // Does cell number i have no reading, or is its entity present after the line?
 fn takes_cell(present: &[u8], flags: &[u8], cells: &[u8], i: usize) -> bool
-    requires { ⌜ (i < 12 * length (now present)) × (i < 12 * length (now flags)) × (i * 9 < length (now cells)) ⌝ }
+    requires { ⌜ (i < ENTITY-CELLS * length (now present)) × (i < ENTITY-CELLS * length (now flags)) × (i * CELL-BYTES < length (now cells)) ⌝ }
     ensures { λ r. ⌜ r ≡ takes-cell (now (present .entry)) (now (flags .entry)) (now (cells .entry)) i ⌝ }
 {
-    let at = i * 9;
-    if cells[at] == 4 {
+    let at = i * CELL_BYTES;
+    if cells[at] == NO_READING {
         return true;
     }
-    let e = i / 12;
+    let e = i / ENTITY_CELLS;
     present_after(present[e], flags[e])
 }
 
 // Do all the cells of n entities?
 fn takes_cells(n: usize, present: &[u8], flags: &[u8], cells: &[u8]) -> bool
-    requires { ⌜ (n ≤ length (now present)) × (n ≤ length (now flags)) × (108 * n ≤ length (now cells)) ⌝ }
-    ensures { λ r. ⌜ r ≡ each (takes-cell (now (present .entry)) (now (flags .entry)) (now (cells .entry))) 0 (12 * n) ⌝ }
+    requires { ⌜ (n ≤ length (now present)) × (n ≤ length (now flags)) × (ENTITY-CELL-BYTES * n ≤ length (now cells)) ⌝ }
+    ensures { λ r. ⌜ r ≡ each (takes-cell (now (present .entry)) (now (flags .entry)) (now (cells .entry))) 0 (ENTITY-CELLS * n) ⌝ }
 {
-    let count = 12 * n;
+    let count = ENTITY_CELLS * n;
     let mut i = 0;
     while i < count {
         if !takes_cell(present, flags, cells, i) {
@@ -60,7 +65,7 @@ fn in_turn(last: u32, number: u64) -> bool
     if number == 0 {
         return false;
     }
-    if 4294967295 < number {
+    if MOST_LINES < number {
         return false;
     }
     if number == before {
@@ -71,13 +76,13 @@ fn in_turn(last: u32, number: u64) -> bool
 
 // Are the flags and cells of n entities the same bytes?
 fn same_inputs(n: usize, flags: &[u8], cells: &[u8], other_flags: &[u8], other_cells: &[u8]) -> bool
-    requires { ⌜ (n ≤ length (now flags)) × (108 * n ≤ length (now cells)) ⌝ }
-    requires { ⌜ (n ≤ length (now «other_flags»)) × (108 * n ≤ length (now «other_cells»)) ⌝ }
+    requires { ⌜ (n ≤ length (now flags)) × (ENTITY-CELL-BYTES * n ≤ length (now cells)) ⌝ }
+    requires { ⌜ (n ≤ length (now «other_flags»)) × (ENTITY-CELL-BYTES * n ≤ length (now «other_cells»)) ⌝ }
     ensures { λ r. ⌜
         r ≡ same-memory n (now (flags .entry)) (now (cells .entry)) (now («other_flags» .entry)) (now («other_cells» .entry)) ⌝ }
 {
     if same_bytes(&flags[0..n], &other_flags[0..n]) {
-        let size = 108 * n;
+        let size = ENTITY_CELL_BYTES * n;
         return same_bytes(&cells[0..size], &other_cells[0..size]);
     }
     false
@@ -95,8 +100,8 @@ pub fn judge(
     flags: &[u8],
     cells: &[u8],
 ) -> Judgement
-    requires { ⌜ (n ≤ length (now present)) × (n ≤ length (now «stored_flags»)) × (108 * n ≤ length (now «stored_cells»)) ⌝ }
-    requires { ⌜ (n ≤ length (now flags)) × (108 * n ≤ length (now cells)) ⌝ }
+    requires { ⌜ (n ≤ length (now present)) × (n ≤ length (now «stored_flags»)) × (ENTITY-CELL-BYTES * n ≤ length (now «stored_cells»)) ⌝ }
+    requires { ⌜ (n ≤ length (now flags)) × (ENTITY-CELL-BYTES * n ≤ length (now cells)) ⌝ }
     ensures { λ r. ⌜
         Judged n last number (now (present .entry)) (now («stored_flags» .entry)) (now («stored_cells» .entry)) (now (flags .entry))
         (now (cells .entry)) r ⌝ }

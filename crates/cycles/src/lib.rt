@@ -12,6 +12,7 @@ pub mod guards; // what must hold for a rule to write anything
 pub mod header; // the columns of a line
 pub mod image; // the state image
 pub mod judge; // what a state says to a line
+pub mod layout; // the sizes of memory
 pub mod lines; // a record under a header
 mod record; // the values of a line
 pub mod rows; // rows of fired actions, and their header
@@ -40,5 +41,5 @@ pub use rows::put_row_header;
 pub fn state_size() -> usize
     ensures { λ r. ⌜ r ≡ STATE ⌝ }
 {
-    10468
+    layout::STATE
 }

@@ -1,12 +1,17 @@
 // A record under a header that is read: a number and inputs in lent memory, or a refusal.
 ghost use Prim.Native.Nat.{ℕ, _≤_, _<_};
 ghost use lib.ListN.{length, getD};
+ghost use Rattle.checking.specs.CountFaults.{MOST-ENTITIES};
 ghost use Rattle.cycles.specs.HeaderReads.{NO-COLUMN};
 ghost use Rattle.cycles.specs.LineReads.{Record-read};
+ghost use Rattle.cycles.specs.StateImage.{MOST-CELL-BYTES};
+use crate::layout::ENTITY_CELLS;
 use crate::record::clear_cells;
 use crate::record::clear_flags;
 use crate::record::read_values;
 use crate::record::record_number;
+use checking::layout::ENTITY_COUNT_ROW;
+use checking::layout::MOST_ENTITIES;
 use checking::row;
 use values::Number;
 
@@ -27,13 +32,13 @@ pub fn read_record(
     cells: &mut [u8],
 ) -> Reading
     requires { ⌜ (count ≤ length (now columns)) × ((k : ℕ) → k < count → getD (now columns) k 0 < NO-COLUMN) ⌝ }
-    requires { ⌜ (32 ≤ length (now flags)) × (3456 ≤ length (now cells)) ⌝ }
+    requires { ⌜ (MOST-ENTITIES ≤ length (now flags)) × (MOST-CELL-BYTES ≤ length (now cells)) ⌝ }
     ensures { λ r. ⌜
         Record-read (now (classes .entry)) (now (d .entry)) (now (values .entry)) (now (columns .entry)) count (now (flags .entry)) (now (cells .entry))
         (now (flags .exit)) (now (cells .exit)) r ⌝ }
 {
-    let entities = row(d, 1);
-    if 32 < entities {
+    let entities = row(d, ENTITY_COUNT_ROW);
+    if MOST_ENTITIES < entities {
         return Reading::Refused(21);
     }
     let number = record_number(values, count);
@@ -41,7 +46,7 @@ pub fn read_record(
         Number::Not => Reading::Refused(21),
         Number::Is(n) => {
             clear_flags(flags, entities);
-            clear_cells(cells, 12 * entities);
+            clear_cells(cells, ENTITY_CELLS * entities);
             if read_values(classes, d, values, columns, count, flags, cells) {
                 return Reading::Got(n);
             }

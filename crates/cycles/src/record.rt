@@ -7,13 +7,21 @@ ghost use lib.ListN.{length, getD, drop};
 ghost use Rattle.values.specs.declared.Kind.{Kind};
 ghost use Rattle.values.specs.Bytes.{overwritten};
 ghost use Rattle.checking.specs.Directory.{kind-class};
+ghost use Rattle.checking.specs.CountFaults.{MOST-ENTITIES};
 ghost use Rattle.cycles.specs.Record.{record-of, as-truth};
-ghost use Rattle.cycles.specs.StateImage.{table, presence-flag, input-bytes};
+ghost use Rattle.cycles.specs.StateImage.{CELL-BYTES, MOST-CELL-BYTES, table, presence-flag, input-bytes};
 ghost use Rattle.cycles.specs.HeaderReads.{NO-COLUMN};
 ghost use Rattle.cycles.specs.LineReads.{number-if-record, is-well-formed, said, Input-put, Values-read};
 use crate::fields::field_start;
 use crate::fields::first_size;
 use crate::fields::has_byte;
+use crate::layout::CELL_BYTES;
+use crate::layout::ENTITY_CELLS;
+use crate::layout::ENTITY_COLUMNS;
+use crate::layout::MOST_RECORD_BYTES;
+use crate::layout::NO_READING;
+use crate::layout::PRESENCE_COLUMN;
+use checking::layout::ENTITY_INTERFACE_ROWS;
 use checking::member_kind;
 use checking::row;
 use text::classes::BOOL;
@@ -32,7 +40,7 @@ use values::read_presence;
 pub fn record_number(values: &[u8], count: usize) -> Number
     ensures { λ r. ⌜ r ≡ number-if-record (record-of count (now (values .entry))) ⌝ }
 {
-    if 8192 < values.len() {
+    if MOST_RECORD_BYTES < values.len() {
         return Number::Not;
     }
     if has_byte(values, 10) {
@@ -75,19 +83,19 @@ fn presence_byte(field: Field) -> u8
 
 // Puts no reading into cell number i.
 fn put_blank(cells: &mut [u8], i: usize)
-    requires { ⌜ i * 9 + 9 ≤ length (now cells) ⌝ }
-    ensures { λ _. ⌜ now (cells .exit) ≡ overwritten (now (cells .entry)) (i * 9) (input-bytes none) ⌝ }
+    requires { ⌜ i * CELL-BYTES + CELL-BYTES ≤ length (now cells) ⌝ }
+    ensures { λ _. ⌜ now (cells .exit) ≡ overwritten (now (cells .entry)) (i * CELL-BYTES) (input-bytes none) ⌝ }
 {
-    let at = i * 9;
+    let at = i * CELL_BYTES;
     let next = at + 1;
-    cells[at] = 4;
+    cells[at] = NO_READING;
     put_word(cells, next, 0);
 }
 
 // Puts what a field says into cell number i.
 fn put_said(cells: &mut [u8], i: usize, field: Field)
-    requires { ⌜ i * 9 + 9 ≤ length (now cells) ⌝ }
-    ensures { λ _. ⌜ now (cells .exit) ≡ overwritten (now (cells .entry)) (i * 9) (input-bytes (said field)) ⌝ }
+    requires { ⌜ i * CELL-BYTES + CELL-BYTES ≤ length (now cells) ⌝ }
+    ensures { λ _. ⌜ now (cells .exit) ≡ overwritten (now (cells .entry)) (i * CELL-BYTES) (input-bytes (said field)) ⌝ }
 {
     match field {
         Field::Blank => put_blank(cells, i),
@@ -119,21 +127,21 @@ fn put_input(
     cells: &mut [u8],
 ) -> bool
     requires { ⌜ column < NO-COLUMN ⌝ }
-    requires { ⌜ (32 ≤ length (now flags)) × (3456 ≤ length (now cells)) ⌝ }
+    requires { ⌜ (MOST-ENTITIES ≤ length (now flags)) × (MOST-CELL-BYTES ≤ length (now cells)) ⌝ }
     ensures { λ r. ⌜
         Input-put (now (classes .entry)) (now (d .entry)) column (now (field .entry)) (now (flags .entry)) (now (cells .entry)) (now (flags .exit))
         (now (cells .exit)) r ⌝ }
 {
-    let e = column / 13;
-    let m = column % 13;
-    if m == 12 {
+    let e = column / ENTITY_COLUMNS;
+    let m = column % ENTITY_COLUMNS;
+    if m == PRESENCE_COLUMN {
         let presence = read_presence(field);
         flags[e] = presence_byte(presence);
         return well_formed(presence);
     }
-    let face = row(d, 323 + e);
+    let face = row(d, ENTITY_INTERFACE_ROWS + e);
     let event = read_event(field, kind_of(member_kind(classes, d, face, m)));
-    put_said(cells, e * 12 + m, event);
+    put_said(cells, e * ENTITY_CELLS + m, event);
     well_formed(event)
 }
 
@@ -150,7 +158,7 @@ pub fn read_values(
     cells: &mut [u8],
 ) -> bool
     requires { ⌜ (count ≤ length (now columns)) × ((k : ℕ) → k < count → getD (now columns) k 0 < NO-COLUMN) ⌝ }
-    requires { ⌜ (32 ≤ length (now flags)) × (3456 ≤ length (now cells)) ⌝ }
+    requires { ⌜ (MOST-ENTITIES ≤ length (now flags)) × (MOST-CELL-BYTES ≤ length (now cells)) ⌝ }
     ensures { λ r. ⌜
         Values-read (now (classes .entry)) (now (d .entry)) (now (values .entry)) (now (columns .entry)) count (now (flags .entry)) (now (cells .entry))
         (now (flags .exit)) (now (cells .exit)) r ⌝ }
@@ -186,8 +194,8 @@ pub fn clear_flags(flags: &mut [u8], n: usize)
 
 // Puts no reading into the first n cells.
 pub fn clear_cells(cells: &mut [u8], n: usize)
-    requires { ⌜ n * 9 ≤ length (now cells) ⌝ }
-    ensures { λ _. ⌜ now (cells .exit) ≡ table (λ i. input-bytes none) 0 n ++ drop (n * 9) (now (cells .entry)) ⌝ }
+    requires { ⌜ n * CELL-BYTES ≤ length (now cells) ⌝ }
+    ensures { λ _. ⌜ now (cells .exit) ≡ table (λ i. input-bytes none) 0 n ++ drop (n * CELL-BYTES) (now (cells .entry)) ⌝ }
 {
     let mut i = 0;
     while i < n {

@@ -1,14 +1,19 @@
 // Rows of fired actions, and their header.
 ghost use Prim.Native.Nat.{_+_, _*_, _≤_};
 ghost use lib.ListN.{length};
-ghost use Rattle.cycles.specs.RowMemory.{Fired-put, Name-put, Row-put, Header-put};
+ghost use Rattle.cycles.specs.RowMemory.{MOST-ROW-BYTES, Fired-put, Name-put, Row-put, Header-put};
+ghost use Rattle.cycles.specs.StateImage.{CELL-BYTES, MOST-CELL-BYTES};
 use crate::image::cell_token;
 use crate::image::is_sort;
+use crate::layout::ENTITY_CELLS;
+use checking::layout::ENTITY_COUNT_ROW;
+use checking::layout::ENTITY_ROWS;
+use checking::layout::MOST_ENTITIES;
 use text::classes::ACTION;
 
 // Puts a space and the value of cell number i, if the cell is an action's, and answers the offset after them.
 fn put_fired(classes: &[u8], d: &[u16], cells: &[u8], i: usize, row: &mut [u8], at: usize) -> usize
-    requires { ⌜ i * 9 + 9 ≤ length (now cells) ⌝ }
+    requires { ⌜ i * CELL-BYTES + CELL-BYTES ≤ length (now cells) ⌝ }
     requires { ⌜ at + 17 ≤ length (now row) ⌝ }
     ensures { λ r. ⌜ Fired-put (now (classes .entry)) (now (d .entry)) (now (cells .entry)) i (now (row .entry)) at (now (row .exit)) r ⌝ }
 {
@@ -21,15 +26,15 @@ fn put_fired(classes: &[u8], d: &[u16], cells: &[u8], i: usize, row: &mut [u8], 
 
 // The row of a state with this last number and these cells: writes it to the front and answers its length.
 pub fn put_row(classes: &[u8], d: &[u16], last: u32, cells: &[u8], row: &mut [u8]) -> usize
-    requires { ⌜ 3456 ≤ length (now cells) ⌝ }
-    requires { ⌜ 32768 ≤ length (now row) ⌝ }
+    requires { ⌜ MOST-CELL-BYTES ≤ length (now cells) ⌝ }
+    requires { ⌜ MOST-ROW-BYTES ≤ length (now row) ⌝ }
     ensures { λ r. ⌜ Row-put (now (classes .entry)) (now (d .entry)) (now (cells .entry)) last (now (row .entry)) (now (row .exit)) r ⌝ }
 {
-    let n = checking::row(d, 1);
-    if 32 < n {
+    let n = checking::row(d, ENTITY_COUNT_ROW);
+    if MOST_ENTITIES < n {
         return 0;
     }
-    let end = 12 * n;
+    let end = ENTITY_CELLS * n;
     let mut at = values::put_decimal(row, 0, last as u64);
     let mut i = 0;
     while i < end {
@@ -59,7 +64,12 @@ fn put_name(
     if !is_sort(classes, token, ACTION) {
         return at;
     }
-    let entity = checking::name(text, offsets, lengths, checking::row(d, 227 + i / 12) + 1);
+    let entity = checking::name(
+        text,
+        offsets,
+        lengths,
+        checking::row(d, ENTITY_ROWS + i / ENTITY_CELLS) + 1,
+    );
     let member = checking::name(text, offsets, lengths, token + 1);
     if row.len() - at < entity.len() + member.len() + 2 {
         return at;
@@ -79,16 +89,16 @@ pub fn put_row_header(
     d: &[u16],
     row: &mut [u8],
 ) -> usize
-    requires { ⌜ 32768 ≤ length (now row) ⌝ }
+    requires { ⌜ MOST-ROW-BYTES ≤ length (now row) ⌝ }
     ensures { λ r. ⌜
         Header-put (now (text .entry)) (now (classes .entry)) (now (offsets .entry)) (now (lengths .entry)) (now (d .entry))
         (now (row .entry)) (now (row .exit)) r ⌝ }
 {
-    let n = checking::row(d, 1);
-    if 32 < n {
+    let n = checking::row(d, ENTITY_COUNT_ROW);
+    if MOST_ENTITIES < n {
         return 0;
     }
-    let end = 12 * n;
+    let end = ENTITY_CELLS * n;
     row[0] = 110;
     let mut at = 1;
     let mut i = 0;

@@ -1,0 +1,82 @@
+// The memory of cells and of a state, of columns, ranges and guards.
+use checking::layout::MOST_ENTITIES;
+use checking::layout::MOST_INTERFACES;
+use checking::layout::MOST_MEMBERS;
+
+// ---- cells
+
+pub const CELL_BYTES: usize = 9;
+
+// A cell for each member that an entity may have, and their bytes.
+pub const ENTITY_CELLS: usize = MOST_MEMBERS;
+
+pub const ENTITY_CELL_BYTES: usize = ENTITY_CELLS * CELL_BYTES;
+
+// The cells of as many entities as a file may have, and their bytes.
+pub const MOST_CELLS: usize = MOST_ENTITIES * ENTITY_CELLS;
+
+pub const MOST_CELL_BYTES: usize = MOST_ENTITIES * ENTITY_CELL_BYTES;
+
+// The tag of a cell with no reading.
+pub const NO_READING: u8 = 4;
+
+// ---- the state image
+
+// The last number's bytes. The flags now, before and read begin after it.
+pub const NUMBER_BYTES: usize = 4;
+
+// How many bytes for each entity stand between the number and a part: the flags that were read,
+pub const BEFORE_READ_FLAGS: usize = 2;
+
+// the cells now,
+pub const BEFORE_NOW_CELLS: usize = 3;
+
+// those before,
+pub const BEFORE_PREVIOUS_CELLS: usize = BEFORE_NOW_CELLS + ENTITY_CELL_BYTES;
+
+// and those that were read.
+pub const BEFORE_INPUT_CELLS: usize = BEFORE_PREVIOUS_CELLS + ENTITY_CELL_BYTES;
+
+// All bytes of an entity.
+pub const ENTITY_BYTES: usize = BEFORE_INPUT_CELLS + ENTITY_CELL_BYTES;
+
+// The image for as many entities as a file may have.
+pub const STATE: usize = NUMBER_BYTES + ENTITY_BYTES * MOST_ENTITIES;
+
+// ---- lines and rows
+
+// "A line of names: .., at most 32,768 bytes"
+pub const MOST_HEADER_BYTES: usize = 32768;
+
+// "lines of values in that order, at most 8,192 bytes"
+pub const MOST_RECORD_BYTES: usize = 8192;
+
+// "The stated size of memory for a row is 32,768 bytes at most"
+pub const MOST_ROW_BYTES: usize = 32768;
+
+// "It never exceeds 4,294,967,295"
+pub const MOST_LINES: u64 = 4294967295;
+
+// An entity's members have columns, and its presence after them.
+pub const PRESENCE_COLUMN: usize = MOST_MEMBERS;
+
+pub const ENTITY_COLUMNS: usize = PRESENCE_COLUMN + 1;
+
+pub const MOST_COLUMNS: usize = MOST_ENTITIES * ENTITY_COLUMNS;
+
+// The number for no column, and the count for no header.
+pub const NO_COLUMN: usize = MOST_COLUMNS;
+
+pub const NO_HEADER: usize = MOST_COLUMNS + 1;
+
+// ---- rules
+
+// Where among the entities the candidates for each interface begin and end.
+pub const ALL_RANGE_ROWS: usize = 2 * MOST_INTERFACES;
+
+// A guard's code and three tokens; the memory has room for so many guards.
+pub const GUARD_ROWS: usize = 4;
+
+pub const MOST_GUARDS: usize = 16;
+
+pub const ALL_GUARD_ROWS: usize = GUARD_ROWS * MOST_GUARDS;
