@@ -8,20 +8,21 @@ use lib.ListN.{length, take, drop}
 use Rattle.values.specs.Bytes.{word-at, low-first}
 use Rattle.text.specs.Syntax.{File}
 use Rattle.checking.specs.Verdict.{MOST-BYTES, accepted-file}
+use Rattle.cycles.specs.StateImage.{NUMBER-BYTES}
 
 -- the stated size
 abbrev pub BENCH : ℕ
-BENCH = 32772
+BENCH = NUMBER-BYTES + MOST-BYTES
 
 -- memory with a text's image written to it
 unfoldable pub with-bench : List ℕ → List ℕ → List ℕ
-with-bench text m = low-first 4 (length text) ++ text ++ drop (4 + length text) m
+with-bench text m = low-first NUMBER-BYTES (length text) ++ text ++ drop (NUMBER-BYTES + length text) m
 
 -- the file that memory stands for, or none: "32: memory is no checked bench", of memory of the stated size at least
 unfoldable pub bench-of : List ℕ → Option File
 unfolding accepted-file
-bench-of m = elim (leb (word-at 4 m 0) MOST-BYTES) [ true ↦ accepted-file (take (word-at 4 m 0) (drop 4 m)) | false ↦ none ]
+bench-of m = elim (leb (word-at NUMBER-BYTES m 0) MOST-BYTES) [ true ↦ accepted-file (take (word-at NUMBER-BYTES m 0) (drop NUMBER-BYTES m)) | false ↦ none ]
 
 -- the text that memory holds; none, which no check accepts, where its length is too great
 unfoldable pub text-in : List ℕ → List ℕ
-text-in m = elim (leb (word-at 4 m 0) MOST-BYTES) [ true ↦ take (word-at 4 m 0) (drop 4 m) | false ↦ [] ]
+text-in m = elim (leb (word-at NUMBER-BYTES m 0) MOST-BYTES) [ true ↦ take (word-at NUMBER-BYTES m 0) (drop NUMBER-BYTES m) | false ↦ [] ]

@@ -14,11 +14,12 @@ use Rattle.cycles.specs.Cycle.{fresh, follow, cycle}
 use Rattle.cycles.specs.Line.{Answer, refused, accepted, line}
 use Rattle.cycles.specs.Row.{row-header, row}
 use Rattle.cycles.specs.StateImage.{STATE, state-of, with-state}
+use Rattle.cycles.specs.RowMemory.{MOST-ROW-BYTES}
 use Rattle.engine.specs.BenchImage.{BENCH, with-bench, bench-of}
 
 -- the stated size of memory for a row
 abbrev pub ROW : ℕ
-ROW = 32768
+ROW = MOST-ROW-BYTES
 
 -- memory with a row written to it: "Bytes past a written row .. stay"
 unfoldable pub with-row : List ℕ → List ℕ → List ℕ

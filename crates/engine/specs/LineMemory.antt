@@ -14,13 +14,13 @@ use Rattle.cycles.specs.Header.{Column, header}
 use Rattle.cycles.specs.Record.{inputs-of}
 use Rattle.cycles.specs.Line.{accepted, Reading, reading}
 use Rattle.cycles.specs.Row.{row}
-use Rattle.cycles.specs.StateImage.{entity-count, is-state, state-of}
+use Rattle.cycles.specs.StateImage.{ENTITY-CELL-BYTES, entity-count, is-state, state-of}
 use Rattle.cycles.specs.HeaderReads.{column-number, backwards}
 use Rattle.cycles.specs.LineReads.{presence-table, input-table}
 use Rattle.cycles.specs.RowMemory.{In-front}
 use Rattle.engine.specs.declared.line.Taken.{Taken}
 use Rattle.engine.specs.declared.line.Taken.the-variants.{Refused, Row}
-use Rattle.engine.specs.Calls.{After-line, line-in-state}
+use Rattle.engine.specs.Calls.{ROW, After-line, line-in-state}
 
 -- the number of a refusal; "Acceptance returns 0", with the row's length above it
 unfoldable pub taken-answer : Taken → ℕ
@@ -30,14 +30,14 @@ taken-answer (Row n) = 256 * n
 -- a row has no more bytes than the memory for it
 abbrev pub Short-row : Taken → Type 0
 Short-row (Refused code) = Unit {0}
-Short-row (Row n) = n ≤ 32768
+Short-row (Row n) = n ≤ ROW
 
 abbrev pub after-line : Taken → List ℕ → List ℕ → After-line
 after-line r state row = record { answer = taken-answer r; state = state; row = row }
 
 -- the row of a state, at the front of memory
 pub record Shown (classes d state before after : List ℕ) (r : ℕ) : Type 0 where
-  pub short : r ≤ 32768
+  pub short : r ≤ ROW
   pub is : (text offsets lengths : List ℕ) (w : Bench text classes offsets lengths d) → Few (w .file)
       → (s : State) → state-of (w .file) state ≡ some s → In-front (row (w .file) s) before after r
 
@@ -54,7 +54,7 @@ pub record Settled (classes literals d refs scopes : List ℕ) (number : ℕ) (f
       → is-state (b .checked .bench .file) state ≡ true
       → (names values : List ℕ) (says : Reading) → reading (b .checked .bench .file) names values ≡ accepted says → says .number ≡ number
       → take (entity-count (b .checked .bench .file)) flags ≡ presence-table (inputs-of (says .inputs)) (entity-count (b .checked .bench .file))
-      → take (108 * entity-count (b .checked .bench .file)) cells ≡ input-table (inputs-of (says .inputs)) (entity-count (b .checked .bench .file))
+      → take (ENTITY-CELL-BYTES * entity-count (b .checked .bench .file)) cells ≡ input-table (inputs-of (says .inputs)) (entity-count (b .checked .bench .file))
       → after-line r new-state new-row
       ≡ line-in-state (b .checked .bench .file) (state-of (b .checked .bench .file) state) state names values row
 

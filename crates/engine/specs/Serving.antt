@@ -51,6 +51,10 @@ served Line text state shown names values out = served-line (line-on-bench (acce
 served Header text state shown names values out = served-row (header-on-bench (accepted-file text) out) state
 served Row text state shown names values out = served-row (row-on-bench (accepted-file text) shown out) state
 
+-- the most bytes of a text that is served with less memory to clear
+abbrev pub SHORT-TEXT : ℕ
+SHORT-TEXT = 4096
+
 -- what a call needs of the memory lent to it
 abbrev pub Room : Call → List ℕ → List ℕ → List ℕ → Type 0
 Room Check state shown out = BENCH ≤ length out

@@ -4,6 +4,8 @@ ghost use Prim.Native.Nat.{_≤_};
 ghost use lib.ListN.{length};
 ghost use Rattle.checking.specs.Verdict.{MOST-BYTES};
 ghost use Rattle.engine.specs.BenchImage.{BENCH, with-bench, text-in};
+use checking::layout::MOST_BYTES;
+use cycles::layout::NUMBER_BYTES;
 use values::put_bytes;
 
 // The text that an image holds; no text, where its length is too great.
@@ -12,10 +14,10 @@ pub fn text_of(bench: &[u8]) -> &[u8]
     ensures { λ r. ⌜ now r ≡ text-in (now (bench .entry)) ⌝ }
 {
     let size = cycles::number(bench) as usize;
-    if 32768 < size {
+    if MOST_BYTES < size {
         return &bench[0..0];
     }
-    &bench[4..4 + size]
+    &bench[NUMBER_BYTES..NUMBER_BYTES + size]
 }
 
 // Writes the image of a text.
@@ -24,5 +26,5 @@ pub fn put_bench(text: &[u8], bench: &mut [u8])
     ensures { λ _. ⌜ now (bench .exit) ≡ with-bench (now (text .entry)) (now (bench .entry)) ⌝ }
 {
     cycles::put_number(bench, text.len() as u32);
-    put_bytes(bench, 4, text);
+    put_bytes(bench, NUMBER_BYTES, text);
 }

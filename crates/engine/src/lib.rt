@@ -8,15 +8,17 @@ pub mod serve; // a call on a bench's text
 
 ghost use Rattle.engine.specs.Calls.{Check-contract, Fresh-contract, Line-contract, Header-contract, Row-contract};
 use bench::text_of;
+use checking::layout::MOST_BYTES;
+use cycles::layout::MOST_ROW_BYTES;
+use cycles::layout::NUMBER_BYTES;
+use cycles::layout::STATE;
 use serve::Call;
 use serve::serve;
 
-// Stated sizes: memory that is shorter is refused by 31.
-const BENCH: usize = 32772;
+// Stated sizes, as that of a state: memory that is shorter is refused by 31.
+const BENCH: usize = NUMBER_BYTES + MOST_BYTES;
 
-const STATE: usize = 10468;
-
-const ROW: usize = 32768;
+const ROW: usize = MOST_ROW_BYTES;
 
 // Checks a bench file and writes its image: 31, 11 to 18 with the offset of the fault, or 0.
 #[no_mangle]

@@ -1,15 +1,24 @@
 // A line on a checked bench whose rules' names are resolved.
 ghost use Prim.Native.Nat.{ℕ, _≤_, _<_};
 ghost use lib.ListN.{length, getD};
-ghost use Rattle.cycles.specs.StateImage.{STATE};
+ghost use Rattle.checking.specs.CountFaults.{MOST-ENTITIES};
+ghost use Rattle.cycles.specs.StateImage.{MOST-CELL-BYTES, STATE};
 ghost use Rattle.cycles.specs.HeaderReads.{NO-COLUMN};
 ghost use Rattle.engine.specs.Calls.{ROW};
 ghost use Rattle.engine.specs.LineMemory.{Shown, Settled, Record-taken, Line-taken};
+use checking::layout::ENTITY_COUNT_ROW;
+use checking::layout::MOST_ENTITIES;
 use cycles::cycle::cycle;
 use cycles::header::read_header;
 use cycles::is_state;
 use cycles::judge::Judgement;
 use cycles::judge::judge;
+use cycles::layout::BEFORE_INPUT_CELLS;
+use cycles::layout::BEFORE_NOW_CELLS;
+use cycles::layout::BEFORE_READ_FLAGS;
+use cycles::layout::MOST_CELL_BYTES;
+use cycles::layout::MOST_COLUMNS;
+use cycles::layout::NUMBER_BYTES;
 use cycles::lines::Reading;
 use cycles::lines::read_record;
 use cycles::number;
@@ -27,11 +36,11 @@ pub fn show(classes: &[u8], d: &[u16], state: &[u8], row: &mut [u8]) -> usize
     requires { ⌜ ROW ≤ length (now row) ⌝ }
     ensures { λ r. ⌜ Shown (now (classes .entry)) (now (d .entry)) (now (state .entry)) (now (row .entry)) (now (row .exit)) r ⌝ }
 {
-    let n = checking::row(d, 1);
-    if 32 < n {
+    let n = checking::row(d, ENTITY_COUNT_ROW);
+    if MOST_ENTITIES < n {
         return 0;
     }
-    let cells = 4 + 3 * n;
+    let cells = NUMBER_BYTES + BEFORE_NOW_CELLS * n;
     put_row(classes, d, number(state), &state[cells..], row)
 }
 
@@ -48,24 +57,24 @@ fn settle(
     state: &mut [u8],
     row: &mut [u8],
 ) -> Taken
-    requires { ⌜ (32 ≤ length (now flags)) × (3456 ≤ length (now cells)) ⌝ }
+    requires { ⌜ (MOST-ENTITIES ≤ length (now flags)) × (MOST-CELL-BYTES ≤ length (now cells)) ⌝ }
     requires { ⌜ STATE ≤ length (now state) ⌝ }
     requires { ⌜ ROW ≤ length (now row) ⌝ }
     ensures { λ r. ⌜
         Settled (now (classes .entry)) (now (literals .entry)) (now (d .entry)) (now (refs .entry)) (now (scopes .entry)) line (now (flags .entry))
         (now (cells .entry)) (now (state .entry)) (now (row .entry)) (now (state .exit)) (now (row .exit)) r ⌝ }
 {
-    let n = checking::row(d, 1);
-    if 32 < n {
+    let n = checking::row(d, ENTITY_COUNT_ROW);
+    if MOST_ENTITIES < n {
         return Taken::Refused(33);
     }
-    let read = 4 + 2 * n;
-    let inputs = 4 + 219 * n;
+    let read = NUMBER_BYTES + BEFORE_READ_FLAGS * n;
+    let inputs = NUMBER_BYTES + BEFORE_INPUT_CELLS * n;
     let judgement = judge(
         n,
         number(state),
         line,
-        &state[4..],
+        &state[NUMBER_BYTES..],
         &state[read..],
         &state[inputs..],
         flags,
@@ -112,8 +121,8 @@ pub fn take_record(
         Record-taken (now (classes .entry)) (now (literals .entry)) (now (d .entry)) (now (refs .entry)) (now (scopes .entry)) (now (columns .entry)) count
         (now (values .entry)) (now (state .entry)) (now (row .entry)) (now (state .exit)) (now (row .exit)) r ⌝ }
 {
-    let mut flags = [0u8; 32];
-    let mut cells = [0u8; 3456];
+    let mut flags = [0u8; MOST_ENTITIES];
+    let mut cells = [0u8; MOST_CELL_BYTES];
     let reading = read_record(classes, d, values, columns, count, &mut flags, &mut cells);
     match reading {
         Reading::Refused(code) => Taken::Refused(code),
@@ -157,9 +166,9 @@ pub fn take_line(
     if !is_state(classes, d, state) {
         return Taken::Refused(33);
     }
-    let mut columns = [0u16; 416];
+    let mut columns = [0u16; MOST_COLUMNS];
     let count = read_header(text, classes, offsets, lengths, d, names, &mut columns);
-    if 416 < count {
+    if MOST_COLUMNS < count {
         return Taken::Refused(22);
     }
     take_record(

@@ -6,8 +6,10 @@ ghost use lib.ListN.{length};
 ghost use Rattle.text.specs.TokenTable.{columns-of};
 ghost use Rattle.checking.specs.Verdict.{MOST-BYTES};
 ghost use Rattle.checking.specs.CheckedBench.{has-room};
+ghost use Rattle.checking.specs.Resolution.{ALL-SCOPE-ROWS};
 ghost use Rattle.engine.specs.LineMemory.{taken-answer, Short-row};
-ghost use Rattle.engine.specs.Serving.{Served, served, Room, On-bench, refusal};
+ghost use Rattle.engine.specs.Serving.{SHORT-TEXT, Served, served, Room, On-bench, refusal};
+ghost use Rattle.engine.specs.Calls.{ROW};
 use crate::bench::put_bench;
 use crate::line::Taken;
 use crate::line::show;
@@ -15,13 +17,20 @@ use crate::line::take_line;
 use checking::check::Checked;
 use checking::check::check;
 use checking::coded;
+use checking::layout::ALL_SCOPE_ROWS;
+use checking::layout::DIRECTORY;
+use checking::layout::MOST_BYTES;
 use checking::resolver::resolve;
 use cycles::is_state;
+use cycles::layout::MOST_ROW_BYTES;
 use cycles::put_fresh;
 use cycles::put_row_header;
 
 // The answer of a call that is accepted and writes no row.
 const ACCEPTED: u64 = 0;
+
+// The most bytes of a short text.
+const SHORT_TEXT: usize = 4096;
 
 // The public calls.
 pub enum Call {
@@ -34,10 +43,10 @@ pub enum Call {
 
 // The answer of a call that is accepted and writes a row of that length.
 fn row_answer(length: usize) -> u64
-    ensures { λ r. ⌜ (length ≤ 32768 → r ≡ 256 * length) ⌝ }
+    ensures { λ r. ⌜ (length ≤ ROW → r ≡ 256 * length) ⌝ }
 {
     // only where no bench stands in the columns
-    if 32768 < length {
+    if MOST_ROW_BYTES < length {
         return 0;
     }
     256 * (length as u64)
@@ -84,7 +93,7 @@ fn on_bench(
     out: &mut [u8],
 ) -> u64
     requires { ⌜ length (now text) ≤ MOST-BYTES ⌝ }
-    requires { ⌜ (length (now classes) ≤ length (now refs)) × (256 ≤ length (now scopes)) ⌝ }
+    requires { ⌜ (length (now classes) ≤ length (now refs)) × (ALL-SCOPE-ROWS ≤ length (now scopes)) ⌝ }
     requires { ⌜ Room call (now state) (now shown) (now out) ⌝ }
     ensures { λ r. ⌜
         On-bench call (now (text .entry)) (now (classes .entry)) (now (offsets .entry)) (now (lengths .entry)) (now (literals .entry)) (now (d .entry))
@@ -144,7 +153,7 @@ fn on_text(
     out: &mut [u8],
 ) -> u64
     requires { ⌜ has-room (now text) (columns-of (now classes) (now offsets) (now lengths) (now literals)) (now d) ≡ true ⌝ }
-    requires { ⌜ (length (now classes) ≤ length (now refs)) × (256 ≤ length (now scopes)) ⌝ }
+    requires { ⌜ (length (now classes) ≤ length (now refs)) × (ALL-SCOPE-ROWS ≤ length (now scopes)) ⌝ }
     requires { ⌜ Room call (now state) (now shown) (now out) ⌝ }
     ensures { λ r. ⌜
         record { answer = r; state = now (state .exit); out = now (out .exit) }
@@ -173,7 +182,7 @@ fn on_text(
     }
 }
 
-// A call on a text of 4,096 bytes at most: less memory to clear.
+// A call on a short text: less memory to clear.
 fn on_short_text(
     call: Call,
     text: &[u8],
@@ -183,19 +192,19 @@ fn on_short_text(
     values: &[u8],
     out: &mut [u8],
 ) -> u64
-    requires { ⌜ length (now text) ≤ 4096 ⌝ }
+    requires { ⌜ length (now text) ≤ SHORT-TEXT ⌝ }
     requires { ⌜ Room call (now state) (now shown) (now out) ⌝ }
     ensures { λ r. ⌜
         record { answer = r; state = now (state .exit); out = now (out .exit) }
         ≡ served call (now (text .entry)) (now (state .entry)) (now (shown .entry)) (now (names .entry)) (now (values .entry)) (now (out .entry)) ⌝ }
 {
-    let mut classes = [0u8; 4096];
-    let mut offsets = [0u16; 4096];
-    let mut lengths = [0u8; 4096];
-    let mut literals = [0u32; 4096];
-    let mut d = [0u16; 355];
-    let mut refs = [0u16; 4096];
-    let mut scopes = [0u8; 256];
+    let mut classes = [0u8; SHORT_TEXT];
+    let mut offsets = [0u16; SHORT_TEXT];
+    let mut lengths = [0u8; SHORT_TEXT];
+    let mut literals = [0u32; SHORT_TEXT];
+    let mut d = [0u16; DIRECTORY];
+    let mut refs = [0u16; SHORT_TEXT];
+    let mut scopes = [0u8; ALL_SCOPE_ROWS];
     on_text(
         call,
         text,
@@ -228,13 +237,13 @@ fn on_long_text(
         record { answer = r; state = now (state .exit); out = now (out .exit) }
         ≡ served call (now (text .entry)) (now (state .entry)) (now (shown .entry)) (now (names .entry)) (now (values .entry)) (now (out .entry)) ⌝ }
 {
-    let mut classes = [0u8; 32768];
-    let mut offsets = [0u16; 32768];
-    let mut lengths = [0u8; 32768];
-    let mut literals = [0u32; 32768];
-    let mut d = [0u16; 355];
-    let mut refs = [0u16; 32768];
-    let mut scopes = [0u8; 256];
+    let mut classes = [0u8; MOST_BYTES];
+    let mut offsets = [0u16; MOST_BYTES];
+    let mut lengths = [0u8; MOST_BYTES];
+    let mut literals = [0u32; MOST_BYTES];
+    let mut d = [0u16; DIRECTORY];
+    let mut refs = [0u16; MOST_BYTES];
+    let mut scopes = [0u8; ALL_SCOPE_ROWS];
     on_text(
         call,
         text,
@@ -268,7 +277,7 @@ pub fn serve(
         record { answer = r; state = now (state .exit); out = now (out .exit) }
         ≡ served call (now (text .entry)) (now (state .entry)) (now (shown .entry)) (now (names .entry)) (now (values .entry)) (now (out .entry)) ⌝ }
 {
-    if text.len() <= 4096 {
+    if text.len() <= SHORT_TEXT {
         return on_short_text(call, text, state, shown, names, values, out);
     }
     on_long_text(call, text, state, shown, names, values, out)

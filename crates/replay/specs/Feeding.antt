@@ -9,6 +9,8 @@ use Rattle.checking.specs.Verdict.{verdict}
 use Rattle.cycles.specs.HeaderReads.{MOST-COLUMNS}
 use Rattle.cycles.specs.Readings.{Part-of-line}
 use Rattle.cycles.specs.StateImage.{STATE}
+use Rattle.cycles.specs.Header.{MOST-HEADER-BYTES}
+use Rattle.cycles.specs.RowMemory.{MOST-ROW-BYTES}
 use Rattle.replay.specs.Awaiting.{
   Awaits,
   prints,
@@ -31,11 +33,11 @@ use Rattle.replay.specs.declared.rows.Step.{Step}
 
 -- the most bytes of a line that is not refused for its length: those of a header
 abbrev pub LONGEST : ℕ
-LONGEST = 32768
+LONGEST = MOST-HEADER-BYTES
 
 -- the most bytes of a row with its line feed
 abbrev pub ROOM : ℕ
-ROOM = 32769
+ROOM = MOST-ROW-BYTES + 1
 
 -- ---- a line over chunks
 

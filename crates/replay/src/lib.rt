@@ -9,19 +9,21 @@ ghost use Prim.Native.Nat.{_+_, _≤_, _<_};
 ghost use lib.ListN.{length};
 ghost use Rattle.text.specs.TokenTable.{columns-of};
 ghost use Rattle.checking.specs.CheckedBench.{has-room};
+ghost use Rattle.checking.specs.Resolution.{ALL-SCOPE-ROWS};
 ghost use Rattle.cycles.specs.StateImage.{STATE};
 ghost use Rattle.replay.specs.Awaiting.{bench-memory};
 ghost use Rattle.replay.specs.Feeding.{ROOM, Lent, Fed, Finished, Starts, is-over, is-closed};
 use checking::check::Checked;
 use checking::check::check;
 use checking::resolver::resolve;
+use cycles::layout::MOST_ROW_BYTES;
 use cycles::put_fresh;
 use gathering::gather;
 use rows::put_bench_refusal;
 use rows::put_line;
 
 // The most bytes of a row with its line feed.
-const ROOM: usize = 32769;
+const ROOM: usize = MOST_ROW_BYTES + 1;
 
 // What is awaited: the line of names, a line of values under so many columns, or nothing more.
 pub enum Stage {
@@ -59,7 +61,7 @@ pub fn start(
     out: &mut [u8],
 ) -> Begun
     requires { ⌜ has-room (now text) (columns-of (now classes) (now offsets) (now lengths) (now literals)) (now d) ≡ true ⌝ }
-    requires { ⌜ (length (now classes) ≤ length (now refs)) × (256 ≤ length (now scopes)) ⌝ }
+    requires { ⌜ (length (now classes) ≤ length (now refs)) × (ALL-SCOPE-ROWS ≤ length (now scopes)) ⌝ }
     requires { ⌜ (STATE ≤ length (now state)) × (ROOM ≤ length (now out)) ⌝ }
     ensures { λ r. ⌜
         Starts (now (text .entry)) (now (classes .exit)) (now (offsets .exit)) (now (lengths .exit)) (now (literals .exit)) (now (d .exit))

@@ -12,6 +12,7 @@ ghost use Rattle.replay.specs.Feeding.{ROOM, Line-put};
 ghost use Rattle.replay.specs.declared.Stage.the-variants.{Names, Values};
 use crate::Stage;
 use cycles::header::read_header;
+use cycles::layout::MOST_COLUMNS;
 use cycles::put_row_header;
 use engine::line::Taken;
 use engine::line::take_record;
@@ -68,7 +69,7 @@ fn put_names(
         (now (out .entry)) used (now (columns .exit)) (now (state .entry)) (now (out .exit)) r ⌝ }
 {
     let count = read_header(text, classes, offsets, lengths, d, line, columns);
-    if 416 < count {
+    if MOST_COLUMNS < count {
         let word = put_refusal(out, used, 22);
         let end = values::put_bytes(out, word, b"\n");
         return Step {
