@@ -10,12 +10,23 @@ ghost use Rattle.cycles.specs.StateImage.{STATE};
 ghost use Rattle.replay.specs.Awaiting.{bench-memory, Stood};
 ghost use Rattle.replay.specs.Feeding.{ROOM, Lent};
 ghost use Rattle.runner.specs.Passing.{Passed, File-passed};
+use checking::layout::ALL_SCOPE_ROWS;
+use checking::layout::DIRECTORY;
+use checking::layout::MOST_BYTES;
+use cycles::layout::MOST_COLUMNS;
+use cycles::layout::MOST_HEADER_BYTES;
+use cycles::layout::STATE;
 use libc::STDOUT_FILENO;
 use replay::Stage;
 use replay::feed;
 use replay::finish;
 use replay::is_closed;
 use replay::start;
+
+// One byte more than a line of names may have, and than a bench: so it shows that one is too long.
+const LINE: usize = MOST_HEADER_BYTES + 1;
+
+const TEXT: usize = MOST_BYTES + 1;
 
 // What is awaited, and how many bytes of a line wait for its end.
 pub struct Waiting {
@@ -180,7 +191,7 @@ fn pass_readings(
         (now columns) (now state) ⌝ }
 {
     let mut chunk = io::large_buffer();
-    let mut line = [0u8; 32769];
+    let mut line = [0u8; LINE];
     let fd = os::open_read(readings);
     let w = pass_file(
         fd,
@@ -234,18 +245,18 @@ fn load(path: &[u8], room: &mut [u8]) -> usize
     n
 }
 
-// The rows of the two files. One byte more of a bench is read than is allowed.
+// The rows of the two files.
 pub fn run(bench: &[u8], readings: &[u8]) {
-    let mut text = [0u8; 32769];
-    let mut classes = [0u8; 32768];
-    let mut offsets = [0u16; 32768];
-    let mut lengths = [0u8; 32768];
-    let mut literals = [0u32; 32768];
-    let mut d = [0u16; 355];
-    let mut refs = [0u16; 32768];
-    let mut scopes = [0u8; 256];
-    let mut columns = [0u16; 416];
-    let mut state = [0u8; 10468];
+    let mut text = [0u8; TEXT];
+    let mut classes = [0u8; MOST_BYTES];
+    let mut offsets = [0u16; MOST_BYTES];
+    let mut lengths = [0u8; MOST_BYTES];
+    let mut literals = [0u32; MOST_BYTES];
+    let mut d = [0u16; DIRECTORY];
+    let mut refs = [0u16; MOST_BYTES];
+    let mut scopes = [0u8; ALL_SCOPE_ROWS];
+    let mut columns = [0u16; MOST_COLUMNS];
+    let mut state = [0u8; STATE];
     let mut out = io::large_buffer();
     let n = load(bench, &mut text);
     let begun = start(
