@@ -78,11 +78,11 @@ use Rattle.text.specs.Grammar.{
   condition-of,
   atom-reader,
   condition-reader,
-  OPENERS,
   call-reader,
   call-after,
   rule-after,
 }
+use Rattle.text.specs.Syntax.{OPENERS}
 use Rattle.text.specs.Walks.{nth-token, Rows}
 use Rattle.text.proofs.ListLaws.{flatMap-append}
 use Rattle.text.proofs.ReaderLaws.{loop-ends, loop-stops, loop-turns}

@@ -26,7 +26,8 @@ use Rattle.text.specs.Syntax.{
   Rule,
 }
 use Rattle.text.specs.Readers.{read, many}
-use Rattle.text.specs.Grammar.{name-of, operator-of, apply-at, both-at, either-at, condition-reader, OPENERS, call-reader, call-after, rule-after}
+use Rattle.text.specs.Grammar.{name-of, operator-of, apply-at, both-at, either-at, condition-reader, call-reader, call-after, rule-after}
+use Rattle.text.specs.Syntax.{OPENERS}
 use Rattle.text.specs.Walks.{no-token, nth-token, Steps, Walks}
 use Rattle.text.proofs.ListLaws.{flatMap-append}
 use Rattle.text.proofs.WalkLaws.{next-steps, getElem?-inside, walk-yields}

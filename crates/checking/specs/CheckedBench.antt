@@ -24,7 +24,7 @@ Values-of values ts = (i : ℕ) (t : Token) → getElem? ts i ≡ some t → t .
 
 -- ---- an answer as document 01's numbers
 
--- "Acceptance returns 0"; a refusal's code and offset; "31: lent memory shorter than the stated size"
+-- "Acceptance returns 0"; a refusal's code and offset; 31: "lent memory shorter than the stated size"
 unfoldable pub checked-answer : Checked → ℕ
 checked-answer (Accepted n) = 0
 checked-answer (Refused code at) = refusal-answer code at

@@ -27,7 +27,7 @@ MOST-CLAUSES = 8
 abbrev pub MOST-CALLS : ℕ
 MOST-CALLS = 8
 
--- "14, place: first word of the first item beyond a count": items by the offsets of their first tokens
+-- 14, place: "first word of the first item beyond a count": items by the offsets of their first tokens
 unfoldable pub beyond : ℕ → List ℕ → List Fault
 beyond most offsets = map (fault 14) (drop most offsets)
 

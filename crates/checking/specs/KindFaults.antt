@@ -52,7 +52,7 @@ kind-of s (to-real at a) = bind (kind-of s a) real-kind
 kind-of s (negate at a) = bind (kind-of s a) number-kind
 kind-of s (apply o at a b) = bind (kind-of s a) λ j. bind (kind-of s b) λ k. operated-kind j k
 
--- "18, place: first .. operator, `real` .. of unfitting kinds"
+-- 18, place: "first .. operator, `real` .. of unfitting kinds"
 unfoldable pub expression-kinds : Scope → Expression → List Fault
 unfolding fault-unless operand-fits real-kind number-kind operands-fit kind-of
 expression-kinds s (literal l) = []

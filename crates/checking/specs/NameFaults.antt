@@ -51,12 +51,12 @@ repeated-faults before [] = []
 repeated-faults before (n ∷ ns) =
     fault-unless (not (is-found (look-up (λ m. m) (n .bytes) before))) 15 (n .at) ++ repeated-faults (before ++ n ∷ []) ns
 
--- "15: name declared or attribute set again": a name of the list that stands among those before it
+-- 15: "name declared or attribute set again": a name of the list that stands among those before it
 unfoldable pub again-faults : List Name → List Fault
 unfolding repeated-faults
 again-faults ns = repeated-faults [] ns
 
--- "16: name .. unknown": of an interface
+-- 16: "name .. unknown": of an interface
 unfoldable pub interface-faults : File → Name → List Fault
 unfolding fault-unless is-found interface-named
 interface-faults f n = fault-unless (is-found (interface-named f (n .bytes))) 16 (n .at)
@@ -65,7 +65,7 @@ unfoldable pub is-of-sort : (Sort → Bool) → Option (Found Member) → Bool
 is-of-sort sort none = false
 is-of-sort sort (some m) = sort (m .item .sort)
 
--- "16: .. member unknown, or of the wrong sort there"; "A member is looked up only where its interface is known"
+-- 16: ".. member unknown, or of the wrong sort there"; "A member is looked up only where its interface is known"
 unfoldable pub member-faults : (Sort → Bool) → Option Interface → Name → List Fault
 unfolding fault-unless is-of-sort member-named
 member-faults sort none n = []
@@ -76,7 +76,7 @@ unfoldable pub interface-names : Interface → List Fault
 unfolding again-faults
 interface-names i = again-faults (map (λ m. m .name) (i .members))
 
--- "17, place of `}`: attribute not set"
+-- 17, place of `}`: "attribute not set"
 unfoldable pub attribute-faults : Entity → Member → List Fault
 unfolding fault-unless is-attribute is-found look-up
 attribute-faults e m =
@@ -96,7 +96,7 @@ entity-names f e =
     ++ flatMap (λ a. member-faults is-attribute (interface-named f (e .interface .bytes)) (a .name)) (e .assignments)
     ++ unset-faults e (interface-named f (e .interface .bytes))
 
--- "16: name .. unknown": neither an entity nor a variable of the rule
+-- 16: "name .. unknown": neither an entity nor a variable of the rule
 unfoldable pub name-faults-at : Scope → Name → List Fault
 unfolding fault-unless is-known
 name-faults-at s n = fault-unless (is-known s (n .bytes)) 16 (n .at)

@@ -110,7 +110,7 @@ unfoldable pub variable-named : List Variable → List ℕ → Option (Found Var
 unfolding look-up
 variable-named vs n = look-up (λ v. v .name) n vs
 
--- where a rule's names are looked up: "a variable may be used anywhere in its rule"
+-- where a rule's names are looked up: "A variable may be used anywhere in its rule"
 pub record Scope : Type 0 where
   pub file : File
   pub variables : List Variable

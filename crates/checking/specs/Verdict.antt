@@ -31,13 +31,13 @@ file-verdict f =
     (refused-by (earliest (kind-faults f))
     (accepted f)))
 
--- then 13
+-- before these, 13
 unfoldable pub parsing-verdict : Parsing → Verdict
 unfolding file-verdict
 parsing-verdict (grammatical f) = file-verdict f
 parsing-verdict (ungrammatical-at p) = refused 13 p
 
--- then 12
+-- before that, 12
 unfoldable pub lexing-verdict : ℕ → Lexing → Verdict
 unfolding parsing-verdict parse
 lexing-verdict end (tokens ts) = parsing-verdict (parse end ts)
@@ -47,7 +47,7 @@ lexing-verdict end (no-token-at p) = refused 12 p
 abbrev pub MOST-BYTES : ℕ
 MOST-BYTES = 32768
 
--- "11, 32768: bench text too long", before all others
+-- 11, 32768: "bench text too long", before all others
 unfoldable pub verdict : List ℕ → Verdict
 unfolding lexing-verdict tokens-of
 verdict text = elim (leb (length text) MOST-BYTES) [

@@ -20,12 +20,11 @@ use Rattle.cycles.specs.Evaluate.{
   value,
   filter-holds,
   holds,
-  Write,
-  written-if,
   call-writes,
   writes-if,
   binding-writes,
 }
+use Rattle.cycles.specs.Reference.{Write, written-if}
 use Rattle.cycles.specs.Bindings.{number-if, candidates, bindings, rule-writes, all-writes}
 use Rattle.cycles.specs.Cycle.{seen, after-writes, cycle, follow}
 use Rattle.cycles.specs.ClosedSet.{Among, here, there, is-of, can-be, Reads-inside, Closed}

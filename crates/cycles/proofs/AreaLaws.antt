@@ -14,7 +14,7 @@ use Rattle.values.proofs.CellLaws.{length-with-cell, cell-same, cell-other}
 use Rattle.text.specs.Syntax.{File}
 use Rattle.text.proofs.ListLaws.{none-some, All}
 use Rattle.checking.proofs.WithinCounts.{Within-counts}
-use Rattle.cycles.specs.Evaluate.{Write}
+use Rattle.cycles.specs.Reference.{Write}
 use Rattle.cycles.specs.Cycle.{after-writes}
 use Rattle.cycles.specs.Evaluation.{puts}
 use Rattle.cycles.proofs.CellNumbers.{no-member-no-cell}

@@ -20,7 +20,8 @@ use Rattle.checking.proofs.DirectoryLaws.{number-inside}
 use Rattle.cycles.specs.declared.evaluate.Binding.{Binding}
 use Rattle.cycles.specs.Store.{Store}
 use Rattle.cycles.specs.Spots.{spots, numbered}
-use Rattle.cycles.specs.Evaluate.{Write, writes-if, binding-writes}
+use Rattle.cycles.specs.Reference.{Write}
+use Rattle.cycles.specs.Evaluate.{writes-if, binding-writes}
 use Rattle.cycles.specs.Bindings.{number-if, candidates, bindings}
 use Rattle.cycles.specs.ClosedSet.{is-of}
 use Rattle.cycles.specs.AllRules.{Rules-given, Binds, Gives, candidate, Entity-added}

@@ -20,18 +20,19 @@ use Rattle.text.specs.Grammar.{
   target-reader,
   filter-reader,
   condition-reader,
-  OPENERS,
   call-reader,
   call-after,
   rule-after,
 }
+use Rattle.text.specs.Syntax.{OPENERS}
 use Rattle.text.specs.Walks.{nth-token, Rows, Stands, Steps, Means, meant, vain, Means-at, Looping}
 use Rattle.text.proofs.ReaderLaws.{and-then-reads, and-then-refuses}
 use Rattle.text.proofs.TreeLaws.{Makes, give-makes, expect-makes, any-makes, and-then-makes}
 use Rattle.text.proofs.WalkLaws.{stands, next-steps, give-means, expect-means, then-means, walk-in, walk-yields, many-begins, many-turns, many-stops}
 use Rattle.text.proofs.ConditionWalks.{rule-walk}
 use Rattle.cycles.specs.declared.evaluate.Binding.{Binding}
-use Rattle.cycles.specs.Evaluate.{value, filter-holds, written-if, call-writes, binding-writes}
+use Rattle.cycles.specs.Evaluate.{value, filter-holds, call-writes, binding-writes}
+use Rattle.cycles.specs.Reference.{written-if}
 use Rattle.cycles.specs.Evaluation.{
   bound,
   Locates,

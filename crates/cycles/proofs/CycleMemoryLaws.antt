@@ -18,7 +18,7 @@ use Rattle.checking.proofs.VerdictLaws.{accepted-verdict}
 use Rattle.checking.proofs.CheckedFile.{accepted-known}
 use Rattle.checking.proofs.WithinCounts.{Within-counts}
 use Rattle.cycles.specs.Store.{Store, Inputs, State, Line}
-use Rattle.cycles.specs.Evaluate.{Write}
+use Rattle.cycles.specs.Reference.{Write}
 use Rattle.cycles.specs.Bindings.{all-writes}
 use Rattle.cycles.specs.Cycle.{is-sort, seen, after-writes, stored, next-state, cycle}
 use Rattle.cycles.specs.SoundState.{Sound-store, Sound-inputs, Sound-state}

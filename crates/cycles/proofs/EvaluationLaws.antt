@@ -18,7 +18,8 @@ use Rattle.text.proofs.WalkLaws.{turn-less, getElem?-inside}
 use Rattle.cycles.specs.declared.evaluate.Binding.{Binding}
 use Rattle.cycles.specs.Store.{Store}
 use Rattle.cycles.specs.Spots.{Spot}
-use Rattle.cycles.specs.Evaluate.{value-at, is-present-at, Write, written-if}
+use Rattle.cycles.specs.Evaluate.{value-at, is-present-at}
+use Rattle.cycles.specs.Reference.{Write, written-if}
 use Rattle.cycles.specs.StateImage.{decode-store}
 use Rattle.cycles.specs.Evaluation.{bound, Locates, located, missing, Refers, Targeted, bare, declares, Resolved, Stored, Cell-read, puts, Put}
 

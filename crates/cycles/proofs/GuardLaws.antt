@@ -14,7 +14,8 @@ use Rattle.values.specs.declared.Value.{Value}
 use Rattle.values.specs.Value.{equal, differ}
 use Rattle.text.specs.Syntax.{Expression, Condition, File}
 use Rattle.text.specs.Readers.{Reader}
-use Rattle.text.specs.Grammar.{OPENERS, expression-reader, atom-reader}
+use Rattle.text.specs.Syntax.{OPENERS}
+use Rattle.text.specs.Grammar.{expression-reader, atom-reader}
 use Rattle.text.specs.Walks.{Rows}
 use Rattle.text.proofs.ListLaws.{none-some, some-injective, flatMap-none}
 use Rattle.text.proofs.SpotLaws.{stands-below}

@@ -13,7 +13,6 @@ use Rattle.text.specs.Syntax.{Expression, Target, Filter, Clause, clause}
 use Rattle.text.specs.Readers.{Reader, joined}
 use Rattle.text.specs.Grammar.{
   name-of,
-  OPENERS,
   expression-reader,
   filter-reader,
   clause-reader,
@@ -22,6 +21,7 @@ use Rattle.text.specs.Grammar.{
   atom-reader,
   conjunction-reader,
 }
+use Rattle.text.specs.Syntax.{OPENERS}
 use Rattle.text.specs.Walks.{nth-token, Rows, Stands, Steps, Walks, Looping, Ends}
 use Rattle.text.proofs.WalkLaws.{walk-then, walk-stops, chain-turns}
 use Rattle.text.proofs.ConditionWalks.{filter-none, filter-some, test-changed, test-equals, clause-walk, atom-clause, conjunction-begins}

@@ -9,8 +9,8 @@ use lib.ListN.{length, getD, drop}
 use Rattle.text.specs.Tokens.{Token, NAME, ACTION, WITH, ON, OR, ROUND-OPEN, ROUND-CLOSE, COMMA}
 use Rattle.text.specs.Syntax.{Condition, Call, Rule}
 use Rattle.text.specs.Readers.{read, joined, many}
+use Rattle.text.specs.Syntax.{OPENERS}
 use Rattle.text.specs.Grammar.{
-  OPENERS,
   expression-reader,
   target-reader,
   filter-reader,

@@ -46,16 +46,14 @@ use Rattle.checking.proofs.CheckedExpressions.{Known-equation, Known-filter, Kn
 use Rattle.cycles.specs.Outcome.{Outcome, running, proceed}
 use Rattle.cycles.specs.Store.{Store}
 use Rattle.cycles.specs.Spots.{Spot, Spots}
+use Rattle.cycles.specs.Reference.{read-spot, Write, written-if}
 use Rattle.cycles.specs.Evaluate.{
-  read-spot,
   value-at,
   value,
   filter-holds,
   test-holds,
   clause-holds,
   holds,
-  Write,
-  written-if,
   call-writes,
   writes-if,
   binding-writes,

@@ -15,7 +15,7 @@ use Rattle.text.specs.Syntax.{Sort, attribute, event, Member, File}
 use Rattle.text.proofs.ListLaws.{some-injective, none-some, All}
 use Rattle.checking.specs.Scope.{member-of, is-attribute, is-action}
 use Rattle.cycles.specs.Store.{Store, Inputs}
-use Rattle.cycles.specs.Evaluate.{Write}
+use Rattle.cycles.specs.Reference.{Write}
 use Rattle.cycles.specs.Cycle.{is-sort, leaves, seen, after-writes, stored}
 use Rattle.cycles.specs.SoundState.{Sound-store, Sound-inputs}
 use Rattle.cycles.proofs.SoundEvaluation.{Sound-write}

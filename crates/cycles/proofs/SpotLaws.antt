@@ -16,7 +16,7 @@ use Rattle.checking.proofs.LookUpLaws.{found-at}
 use Rattle.checking.proofs.CheckedExpressions.{Known-member}
 use Rattle.cycles.specs.Store.{Store}
 use Rattle.cycles.specs.Spots.{Spot, Spots, spot-at, spot-among, spot-of, numbered, members-of, entity-cells, cells}
-use Rattle.cycles.specs.Evaluate.{read-spot}
+use Rattle.cycles.specs.Reference.{read-spot}
 use Rattle.cycles.specs.SoundState.{Sound-store}
 use Rattle.cycles.proofs.AmongLaws.{numbered-at}
 use Rattle.cycles.proofs.WalkLaws.{member-among}

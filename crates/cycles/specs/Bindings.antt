@@ -8,7 +8,8 @@ use Rattle.checking.specs.Scope.{Found, is-found, interface-named, Variable, va
 use Rattle.cycles.specs.Outcome.{Outcome, running, run-if, collected}
 use Rattle.cycles.specs.Store.{Store}
 use Rattle.cycles.specs.Spots.{spots, numbered, every}
-use Rattle.cycles.specs.Evaluate.{Write, binding-writes}
+use Rattle.cycles.specs.Reference.{Write}
+use Rattle.cycles.specs.Evaluate.{binding-writes}
 use Rattle.cycles.specs.Reference.{ref-binding-writes}
 
 unfoldable pub number-if : Bool → ℕ → List ℕ

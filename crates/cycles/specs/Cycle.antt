@@ -14,7 +14,7 @@ use Rattle.checking.specs.Scope.{Found, look-up, is-found, member-of, interface
 use Rattle.cycles.specs.Outcome.{Outcome, running, proceed, run-if}
 use Rattle.cycles.specs.Store.{Store, Inputs, State, Line}
 use Rattle.cycles.specs.Spots.{Spot, every, cells}
-use Rattle.cycles.specs.Evaluate.{Write}
+use Rattle.cycles.specs.Reference.{Write}
 use Rattle.cycles.specs.Bindings.{all-writes, ref-all-writes}
 
 unfoldable pub is-sort : (Sort → Bool) → Option Member → Bool

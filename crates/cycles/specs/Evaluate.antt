@@ -1,4 +1,5 @@
--- Expressions, conditions and calls at one binding, as code works them out: the total machine. What the reference machine is stuck at gives unset, false or no write here.
+-- Expressions, conditions and calls at one binding, as code works them out: the total machine. It is the reference machine (Reference), but what
+-- that is stuck at gives unset, false or no write here; for accepted files the two are equal (`accepted-sound`).
 use Prim.Native.Nat.{ℕ}
 use mathlib.Core.List.{List, [], _∷_, flatMap}
 use mathlib.Core.Bool.{Bool, true, false, not, _&&_, _||_}
@@ -28,12 +29,9 @@ use Rattle.text.specs.Syntax.{
   Call,
   Rule,
 }
-use Rattle.cycles.specs.Store.{Store, read-cell}
+use Rattle.cycles.specs.Store.{Store}
 use Rattle.cycles.specs.Spots.{Spot, Spots}
-
-unfoldable pub read-spot : Store → Spot → Value
-unfolding read-cell
-read-spot s p = read-cell s (p .entity) (p .member)
+use Rattle.cycles.specs.Reference.{read-spot, Write, written-if}
 
 unfoldable pub value-at : Store → Option Spot → Value
 unfolding read-spot
@@ -52,20 +50,20 @@ value sp s (to-real at a) = as-real (value sp s a)
 value sp s (negate at a) = negated (value sp s a)
 value sp s (apply o at a b) = operated o (value sp s a) (value sp s b)
 
--- "`with` attribute `=` sum", at a target, read in one store
+-- as `ref-filter`
 unfoldable pub filter-holds : Spots → Store → Target → Option Filter → Bool
 unfolding value-at value
 filter-holds sp s t none = true
 filter-holds sp s t (some g) = equal (value-at s (sp (t .name .bytes) (g .attribute .bytes))) (value sp s (g .expression))
 
--- "`value = X` holds if equal now and not equal one cycle before, X worked out in each. `changed` holds if the two values differ"
+-- as `ref-test`
 unfoldable pub test-holds : Spots → Store → Store → Option Spot → Test → Bool
 unfolding value-at value
 test-holds sp now previous p changed = differ (value-at now p) (value-at previous p)
 test-holds sp now previous p (equals at a) =
     equal (value-at now p) (value sp now a) && not (equal (value-at previous p) (value sp previous a))
 
--- "A clause's `with` reads the cycle before"; "A clause at an absent entity is false"
+-- as `ref-clause`
 unfoldable pub clause-holds : Spots → Store → Store → Clause → Bool
 unfolding is-present-at filter-holds test-holds
 clause-holds sp now previous c =
@@ -79,17 +77,7 @@ holds sp now previous (clause c) = clause-holds sp now previous c
 holds sp now previous (both a b) = holds sp now previous a && holds sp now previous b
 holds sp now previous (either a b) = holds sp now previous a || holds sp now previous b
 
-pub record Write : Type 0 where
-  pub entity : ℕ
-  pub member : ℕ
-  pub value : Value
-
-unfoldable pub written-if : Bool → Option Spot → Value → List Write
-written-if false p v = []
-written-if true none v = []
-written-if true (some p) v = record { entity = p .entity; member = p .member; value = v } ∷ []
-
--- "a call's `with` and parameter read now"; "a call [at an absent entity] writes nothing"; "An unset parameter writes nothing"
+-- as `ref-call`
 unfoldable pub call-writes : Spots → Store → Call → List Write
 unfolding written-if is-present-at filter-holds value
 call-writes sp now c =

@@ -21,7 +21,8 @@ use Rattle.checking.specs.Resolution.{FIRST-VARIABLE}
 use Rattle.cycles.specs.declared.evaluate.Binding.{Binding}
 use Rattle.cycles.specs.Store.{Store}
 use Rattle.cycles.specs.Spots.{Spot, Spots}
-use Rattle.cycles.specs.Evaluate.{value-at, value, filter-holds, test-holds, holds, Write, written-if, call-writes, binding-writes}
+use Rattle.cycles.specs.Evaluate.{value-at, value, filter-holds, test-holds, holds, call-writes, binding-writes}
+use Rattle.cycles.specs.Reference.{Write, written-if}
 use Rattle.cycles.specs.StateImage.{ENTITY-CELLS, ENTITY-CELL-BYTES}
 
 -- ---- references

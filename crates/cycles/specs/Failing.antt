@@ -7,7 +7,8 @@ use mathlib.Core.Logic.{_⊎_}
 use lib.ListN.{getD}
 use Rattle.values.specs.declared.Value.{Value}
 use Rattle.values.specs.Value.{equal, differ}
-use Rattle.text.specs.Grammar.{OPENERS, expression-reader, atom-reader}
+use Rattle.text.specs.Syntax.{OPENERS}
+use Rattle.text.specs.Grammar.{expression-reader, atom-reader}
 use Rattle.checking.specs.CountFaults.{MOST-VARIABLES}
 use Rattle.checking.specs.Resolution.{FIRST-VARIABLE}
 use Rattle.cycles.specs.declared.evaluate.Binding.{Binding}

@@ -9,7 +9,8 @@ use lib.ListN.{length, getD, set}
 use Rattle.text.specs.Tokens.{NAME, WITH, COMMA}
 use Rattle.text.specs.Syntax.{Target, Filter, Test, Condition, Call, Rule}
 use Rattle.text.specs.Readers.{Reader}
-use Rattle.text.specs.Grammar.{OPENERS, filter-reader, test-reader, call-reader}
+use Rattle.text.specs.Syntax.{OPENERS}
+use Rattle.text.specs.Grammar.{filter-reader, test-reader, call-reader}
 use Rattle.text.specs.Walks.{nth-token, Rows, Stands, Walks}
 use Rattle.cycles.specs.Store.{Store}
 use Rattle.cycles.specs.Spots.{Spots}

@@ -11,7 +11,8 @@ use Rattle.values.specs.Value.{equal, differ}
 use Rattle.text.specs.Tokens.{Token, NAME, EVENT, FROM, WITH, ON}
 use Rattle.text.specs.Syntax.{Expression, Condition, Rule}
 use Rattle.text.specs.Readers.{Reader, read}
-use Rattle.text.specs.Grammar.{OPENERS, expression-reader, atom-reader, rule-after}
+use Rattle.text.specs.Syntax.{OPENERS}
+use Rattle.text.specs.Grammar.{expression-reader, atom-reader, rule-after}
 use Rattle.text.specs.Walks.{nth-token, Rows, Stands}
 use Rattle.checking.specs.Directory.{rule-row}
 use Rattle.checking.specs.CountFaults.{MOST-VARIABLES}

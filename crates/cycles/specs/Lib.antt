@@ -1,9 +1,9 @@
 pub mod Outcome
 pub mod Store
 pub mod Spots
+pub mod Reference
 pub mod Evaluate
 pub mod Evaluation
-pub mod Reference
 pub mod Bindings
 pub mod Cycle
 pub mod Fields

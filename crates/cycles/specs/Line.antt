@@ -51,11 +51,11 @@ same-inputs f i j =
 abbrev pub MOST-LINES : ℕ
 MOST-LINES = 4294967295
 
--- "24: number neither last nor last plus 1, or 0, or too great"
+-- 24: "number neither last nor last plus 1, or 0, or too great"
 unfoldable pub in-turn : ℕ → ℕ → Bool
 in-turn last n = not (eqb n 0) && (leb n MOST-LINES && (eqb n last || eqb n (last + 1)))
 
--- "25: last number, other readings"
+-- 25: "last number, other readings"
 unfoldable pub new-or-same : File → State → Line → Bool
 unfolding same-inputs
 new-or-same f s l = not (eqb (l .number) (s .last)) || same-inputs f (s .inputs) (l .inputs)
@@ -79,7 +79,7 @@ unfolding inputs-of
 line-of r = record { number = r .number; inputs = inputs-of (r .inputs) }
 
 unfoldable pub judged : Bool → Bool → Bool → Line → Answer Line
-judged false in-turn known l = refused 23
+judged false turn known l = refused 23
 judged true false known l = refused 24
 judged true true false l = refused 25
 judged true true true l = accepted l

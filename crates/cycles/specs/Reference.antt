@@ -1,4 +1,5 @@
 -- The reference machine, document 01's bare machine, at one binding: "Of each choice it works out every clause and, if the condition holds, every call's `with` and parameter."
+use Prim.Native.Nat.{ℕ}
 use mathlib.Core.List.{List, [], _∷_}
 use mathlib.Core.Bool.{Bool, true, false, not, _&&_, _||_}
 use mathlib.Core.Option.{Option, none, some}
@@ -31,9 +32,26 @@ use Rattle.text.specs.Syntax.{
 }
 use Rattle.checking.specs.Scope.{is-attribute, is-action, is-event}
 use Rattle.cycles.specs.Outcome.{Outcome, stuck, running, proceed, with-found, run-if, collected}
-use Rattle.cycles.specs.Store.{Store}
+use Rattle.cycles.specs.Store.{Store, read-cell}
 use Rattle.cycles.specs.Spots.{Spot, Spots}
-use Rattle.cycles.specs.Evaluate.{read-spot, Write, written-if}
+
+-- ---- what is read and written
+
+unfoldable pub read-spot : Store → Spot → Value
+unfolding read-cell
+read-spot s p = read-cell s (p .entity) (p .member)
+
+pub record Write : Type 0 where
+  pub entity : ℕ
+  pub member : ℕ
+  pub value : Value
+
+unfoldable pub written-if : Bool → Option Spot → Value → List Write
+written-if false p v = []
+written-if true none v = []
+written-if true (some p) v = record { entity = p .entity; member = p .member; value = v } ∷ []
+
+-- ---- one binding
 
 -- "It stops .. where `=`, an operator, `real` or a parameter meets values of unfitting kinds"
 unfoldable pub ref-equal : Value → Value → Outcome Bool
@@ -56,6 +74,7 @@ unfoldable pub with-sort : (Sort → Bool) → Option Spot → {B : Type 0} → 
 unfolding with-found run-if
 with-sort sort p next = with-found p λ q. run-if (sort (q .what .sort)) (next q)
 
+-- "`with` attribute `=` sum", at a target, read in one store
 unfoldable pub ref-filter : Spots → Store → Target → Option Filter → Outcome Bool
 unfolding with-sort is-attribute proceed ref-value ref-equal
 ref-filter sp s t none = running true
@@ -64,6 +83,7 @@ ref-filter sp s t (some g) =
     proceed (ref-value sp s (g .expression)) λ x.
     ref-equal (read-spot s p) x
 
+-- "`value = X` holds if equal now and not equal one cycle before, X worked out in each. `changed` holds if the two values differ"
 unfoldable pub ref-test : Spots → Store → Store → Spot → Test → Outcome Bool
 unfolding proceed ref-value ref-equal
 ref-test sp now previous p changed = running (differ (read-spot now p) (read-spot previous p))
@@ -74,6 +94,7 @@ ref-test sp now previous p (equals at a) =
     proceed (ref-equal (read-spot previous p) y) λ j.
     running (i && not j)
 
+-- "A clause's `with` reads the cycle before"; "A clause at an absent entity is false"
 unfoldable pub ref-clause : Spots → Store → Store → Clause → Outcome Bool
 unfolding with-sort is-event proceed ref-filter ref-test
 ref-clause sp now previous c =
@@ -90,6 +111,7 @@ ref-holds sp now previous (both a b) =
 ref-holds sp now previous (either a b) =
     proceed (ref-holds sp now previous a) λ i. proceed (ref-holds sp now previous b) λ j. running (i || j)
 
+-- "a call's `with` and parameter read now"; "a call there writes nothing", at an absent entity; "An unset parameter writes nothing"
 unfoldable pub ref-call : Spots → Store → Call → Outcome (List Write)
 unfolding with-sort is-action proceed ref-value run-if of-kind ref-filter written-if
 ref-call sp now c =

@@ -196,7 +196,7 @@ unfoldable pub flags-below : ℕ → ℕ → List ℕ → Bool
 unfolding each
 flags-below bound n fs = each (λ e. ltb (getD fs e 0) bound) 0 n
 
--- "33: memory is no state of that bench", of memory of the stated size at least
+-- 33: "memory is no state of that bench", of memory of the stated size at least
 -- (the first test holds of every memory of bytes; it is for lists of other numbers). Attributes are set now, and as the rules saw them one cycle
 -- before where their entity was present
 unfoldable pub is-state : File → List ℕ → Bool

@@ -26,7 +26,7 @@ pub record State : Type 0 where
   pub last : ℕ
   pub inputs : Inputs
 
--- an accepted line
+-- what a line says: its number and its readings
 pub record Line : Type 0 where
   pub number : ℕ
   pub inputs : Inputs

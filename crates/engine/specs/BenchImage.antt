@@ -18,11 +18,11 @@ BENCH = NUMBER-BYTES + MOST-BYTES
 unfoldable pub with-bench : List ℕ → List ℕ → List ℕ
 with-bench text m = low-first NUMBER-BYTES (length text) ++ text ++ drop (NUMBER-BYTES + length text) m
 
--- the file that memory stands for, or none: "32: memory is no checked bench", of memory of the stated size at least
+-- the file that memory stands for, or none: 32: "memory is no checked bench", of memory of the stated size at least
 unfoldable pub bench-of : List ℕ → Option File
 unfolding accepted-file
 bench-of m = elim (leb (word-at NUMBER-BYTES m 0) MOST-BYTES) [ true ↦ accepted-file (take (word-at NUMBER-BYTES m 0) (drop NUMBER-BYTES m)) | false ↦ none ]
 
--- the text that memory holds; none, which no check accepts, where its length is too great
+-- the text that memory holds; the empty one, which no check accepts, where its length is too great
 unfoldable pub text-in : List ℕ → List ℕ
 text-in m = elim (leb (word-at NUMBER-BYTES m 0) MOST-BYTES) [ true ↦ take (word-at NUMBER-BYTES m 0) (drop NUMBER-BYTES m) | false ↦ [] ]

@@ -73,7 +73,7 @@ line-refused code state r = record { answer = code; state = state; row = r }
 
 -- "then it is resent, the state stays, the fired actions are given again"
 unfoldable pub line-accepted : File → State → Line → List ℕ → List ℕ → After-line
-unfolding with-state with-row follow row
+unfolding with-state with-row cycle row
 line-accepted f s l state r = elim (eqb (l .number) (s .last)) [
   | true ↦ record { answer = row-answer (row f s); state = state; row = with-row (row f s) r }
   | false ↦ record { answer = row-answer (row f (cycle f s l)); state = with-state f (cycle f s l) state; row = with-row (row f (cycle f s l)) r }

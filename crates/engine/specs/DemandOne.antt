@@ -8,7 +8,7 @@ use Rattle.cycles.specs.ClosedSet.{Among}
 abbrev pub number-of : ℕ → ℕ
 number-of answer = answer % 256
 
--- document 01's table by calls, "Order: 31, 32, 33, then as listed"; "Memory that a call only fills gets neither 32 nor 33"
+-- document 01's table by calls; "Memory that a call only fills gets neither 32 nor 33"
 abbrev pub CHECK-NUMBERS : List ℕ
 CHECK-NUMBERS = 0 ∷ 31 ∷ 11 ∷ 12 ∷ 13 ∷ 14 ∷ 15 ∷ 16 ∷ 17 ∷ 18 ∷ []
 

@@ -63,7 +63,7 @@ Room Line state shown out = (STATE ≤ length state) × (ROW ≤ length out)
 Room Header state shown out = ROW ≤ length out
 Room Row state shown out = (STATE ≤ length shown) × (ROW ≤ length out)
 
--- the answer of a call whose text is refused: "32: memory is no checked bench", but the check says why
+-- the answer of a call whose text is refused: 32: "memory is no checked bench", but the check says why
 unfoldable pub refusal : Call → ℕ → ℕ → ℕ
 unfolding checked-answer
 refusal Check code at = checked-answer (Refused code at)

@@ -5,7 +5,7 @@ use mathlib.Core.List.{List}
 use Rattle.text.specs.declared.reading.Syntax.{Syntax}
 use Rattle.text.specs.declared.reading.Syntax.the-variants.{File, TooLong, NoTokenAt, UnfitAt, NoRoom}
 use Rattle.text.specs.TokenTable.{Token-columns}
-use Rattle.text.specs.Answers.{syntax-answer}
+use Rattle.text.specs.EnumAnswers.{syntax-answer}
 use Rattle.text.specs.Syntaxes.{Reads-text}
 
 -- how many tokens a file has

@@ -28,7 +28,7 @@ use Rattle.text.specs.Grammar.{
   file-reader,
 }
 use Rattle.text.specs.Parse.{ungrammatical-at, offset-of, ended, parsed, parse}
-use Rattle.text.specs.Answers.{parsing-answer}
+use Rattle.text.specs.EnumAnswers.{parsing-answer}
 use Rattle.text.specs.ParseAnswers.{
   classes-of,
   parse-answer,

@@ -41,11 +41,11 @@ use Rattle.text.specs.Grammar.{
   atom-reader,
   conjunction-reader,
   condition-reader,
-  OPENERS,
   call-reader,
   call-after,
   rule-after,
 }
+use Rattle.text.specs.Syntax.{OPENERS}
 use Rattle.text.specs.Walks.{nth-token, Rows, Stands, Steps, Walks, Looping}
 use Rattle.text.proofs.WalkLaws.{class-inside, stands, give-means, expect-means, next-yes, next-no, then-means, chain-begins}
 

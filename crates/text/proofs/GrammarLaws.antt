@@ -68,12 +68,12 @@ use Rattle.text.specs.Grammar.{
   atom-reader,
   conjunction-reader,
   condition-reader,
-  OPENERS,
   call-reader,
   call-after,
   rule-after,
   file-reader,
 }
+use Rattle.text.specs.Syntax.{OPENERS}
 use Rattle.text.specs.Language.{
   Language,
   Only,

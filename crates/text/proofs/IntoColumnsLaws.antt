@@ -9,7 +9,7 @@ use borrow.Author.Tests.{lt-ltb, le-ltb, ltb-true, ltb-false}
 use Rattle.text.specs.declared.Lexed.{Lexed}
 use Rattle.text.specs.declared.Lexed.the-variants.{Count, TooLong, BadAt, NoRoom}
 use Rattle.text.specs.Tokens.{tokens, no-token-at, tokens-of}
-use Rattle.text.specs.Answers.{lexed-answer}
+use Rattle.text.specs.EnumAnswers.{lexed-answer}
 use Rattle.text.specs.TokenTable.{Token-columns, rows, lacks-rows, Into-columns, too-long, no-room, lexing, into-columns, columns-answer, told, Lexes}
 
 -- ---- short columns

@@ -56,11 +56,11 @@ use Rattle.text.specs.Grammar.{
   condition-of,
   atom-reader,
   condition-reader,
-  OPENERS,
   call-reader,
   call-after,
   rule-after,
 }
+use Rattle.text.specs.Syntax.{OPENERS}
 use Rattle.text.proofs.SpotLaws.{
   Starts,
   Marks,

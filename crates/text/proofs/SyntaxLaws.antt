@@ -14,7 +14,7 @@ use Rattle.text.specs.declared.grammar.Parsing.the-variants.{Grammatical
 use Rattle.text.specs.declared.reading.Syntax.{Syntax}
 use Rattle.text.specs.declared.reading.Syntax.the-variants.{File, TooLong, NoTokenAt, UnfitAt, NoRoom}
 use Rattle.text.specs.Tokens.{Lexing}
-use Rattle.text.specs.Answers.{syntax-answer}
+use Rattle.text.specs.EnumAnswers.{syntax-answer}
 use Rattle.text.specs.TokenTable.{Token-columns, columns-of, part, row-token, rows, lacks-rows, lexing, into-columns, columns-answer, told, Lexes}
 use Rattle.text.specs.Readers.{read}
 use Rattle.text.specs.Parse.{ungrammatical-at, offset-of, parse}

@@ -79,6 +79,7 @@ use Rattle.text.specs.Syntax.{
   Call,
   Rule,
   File,
+  OPENERS,
 }
 use Rattle.text.specs.Readers.{Reader, give, halt, expect, if-next, and-then, chain, many}
 
@@ -282,10 +283,6 @@ conjunction-reader left = conjunction-of (atom-reader left)
 unfoldable pub condition-reader : ℕ → Reader Condition
 unfolding condition-of atom-reader
 condition-reader left = condition-of (atom-reader left)
-
--- "At most 16 openers"
-abbrev pub OPENERS : ℕ
-OPENERS = 16
 
 -- "Call: `action` name `(` sum `)` `on` place, optionally `with` attribute `=` sum"
 unfoldable pub call-reader : Reader Call

@@ -40,6 +40,7 @@ use Rattle.text.specs.Tokens.{
   TIMES,
   DIVIDE,
 }
+use Rattle.text.specs.Syntax.{OPENERS}
 
 abbrev pub Language : Type 1
 Language = List ℕ → Type 0
@@ -167,14 +168,14 @@ Atom-language (suc left) = Clause-language (suc left) or Only ROUND-OPEN ⨾ Con
 unfoldable pub Call-language : Language
 unfolding Expression-language Target-language Filter-language
 Call-language =
-    Only ACTION ⨾ Only NAME ⨾ Only ROUND-OPEN ⨾ Expression-language 16 ⨾ Only ROUND-CLOSE
-    ⨾ Only ON ⨾ Target-language ⨾ Filter-language 16
+    Only ACTION ⨾ Only NAME ⨾ Only ROUND-OPEN ⨾ Expression-language OPENERS ⨾ Only ROUND-CLOSE
+    ⨾ Only ON ⨾ Target-language ⨾ Filter-language OPENERS
 
 -- "Rule: `when` condition `trigger` calls separated by `,` `end`"
 unfoldable pub Rule-language : Language
 unfolding Condition-over Atom-language Call-language
 Rule-language =
-    Only WHEN ⨾ Condition-over (Atom-language 16) ⨾ Only TRIGGER
+    Only WHEN ⨾ Condition-over (Atom-language OPENERS) ⨾ Only TRIGGER
     ⨾ Call-language ⨾ Many (Only COMMA ⨾ Call-language)
     ⨾ Only END
 

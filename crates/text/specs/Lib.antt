@@ -5,6 +5,7 @@ pub mod Readers
 pub mod Grammar
 pub mod Parse
 pub mod Answers
+pub mod EnumAnswers
 pub mod TokenTable
 pub mod ParseAnswers
 pub mod Walks

@@ -27,7 +27,7 @@ unfolding offset-of ended
 parsed end ts (read f n) = ended end f (drop n ts)
 parsed end ts (refused n) = ungrammatical-at (offset-of end (drop n ts))
 
--- "13, place: first word that no grammatical file has after those before it", in a text of this length
+-- 13, place: "first word that no grammatical file has after those before it", in a text of this length
 unfoldable pub parse : ℕ → List Token → Parsing
 unfolding parsed file-reader
 parse end ts = parsed end ts (file-reader ts)

@@ -14,7 +14,8 @@ use Rattle.text.specs.Syntax.{File}
 use Rattle.text.specs.Readers.{Parse, read, refused, Reader}
 use Rattle.text.specs.Grammar.{file-reader}
 use Rattle.text.specs.Parse.{Parsing as Outcome, grammatical, ungrammatical-at, offset-of, parse}
-use Rattle.text.specs.Answers.{refusal-answer, parsing-answer}
+use Rattle.text.specs.Answers.{refusal-answer}
+use Rattle.text.specs.EnumAnswers.{parsing-answer}
 
 abbrev pub classes-of : List Token → List ℕ
 classes-of ts = map (λ t. t .class) ts

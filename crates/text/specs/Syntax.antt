@@ -102,6 +102,10 @@ pub record File : Type 0 where
   pub entities : List Entity
   pub rules : List Rule
 
+-- "At most 16 openers .. enclose one another; the 17th breaks the grammar"
+abbrev pub OPENERS : ℕ
+OPENERS = 16
+
 -- what a literal is: its kind, and its value; "with `r` after it, that whole as a real"
 unfoldable pub literal-kind : Literal → Kind
 literal-kind (truth b) = Bools

@@ -14,7 +14,7 @@ use Rattle.text.specs.Syntax.{File as Syntax-tree}
 use Rattle.text.specs.Readers.{read}
 use Rattle.text.specs.Grammar.{file-reader}
 use Rattle.text.specs.Parse.{grammatical, ungrammatical-at, parse}
-use Rattle.text.specs.Answers.{syntax-answer}
+use Rattle.text.specs.EnumAnswers.{syntax-answer}
 use Rattle.text.specs.ParseAnswers.{outcome-answer}
 
 -- document 01's answer: 11, no room, 12, and then 13

@@ -12,7 +12,8 @@ use Rattle.text.specs.declared.Lexed.the-variants.{Count, TooLong, BadAt
 use Rattle.text.specs.declared.Run.{Run}
 use Rattle.text.specs.declared.Run.the-variants.{Comment, Name, Digits}
 use Rattle.text.specs.Bytes.{is-digit, is-name-byte, is-comment-byte}
-use Rattle.text.specs.Answers.{refusal-answer, lexed-answer}
+use Rattle.text.specs.Answers.{refusal-answer}
+use Rattle.text.specs.EnumAnswers.{lexed-answer}
 use Rattle.text.specs.Tokens.{Fixed, Token, Item, gap, found, bad, item, Lexing, tokens, no-token-at, tokens-of}
 
 -- which bytes a run goes on with

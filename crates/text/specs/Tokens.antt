@@ -207,7 +207,7 @@ item b bs = elim (is-blank b) [
   ]
 ]
 
--- the tokens of a text, or "12, place: first byte or word not allowed"
+-- the tokens of a text, or 12, place: "first byte or word not allowed"
 pub data Lexing : Type 0 where
   tokens : List Token → Lexing
   no-token-at : ℕ → Lexing
@@ -224,7 +224,7 @@ taken (found c v more) at b bs others = add-token (record { class = c; at = at; 
 taken bad at b bs others = no-token-at at
 
 -- "Words are taken one after another from the text": the first `skip` bytes still belong to the last item, a count by which the recursion is
--- seen to end (`tokens-equation` in proofs/SkipLaws is the equation without it)
+-- seen to end (`tokens-equation` in proofs/theorems/SkipLaws is the equation without it)
 unfoldable pub tokens-from : ℕ → ℕ → List ℕ → Lexing
 unfolding item taken
 tokens-from skip at [] = tokens []

@@ -107,7 +107,7 @@ kind-field Reals s = real-field s
 abbrev pub event-field : Kind → List ℕ → Field
 event-field k s = cond (same-bytes s dash) Blank (cond (same-bytes s query) (Given Unset) (kind-field k s))
 
--- "`?` .. not for presence"; "presence is bool"
+-- "`?` .. not for presence"; "Presence is bool"
 abbrev pub presence-field : List ℕ → Field
 presence-field s = cond (same-bytes s dash) Blank (truth-field s)
 
