@@ -9,19 +9,19 @@ use lib.Dec.{leb}
 use lib.ListN.{length, length-map, drop, getElem?}
 use Rattle.text.specs.Tokens.{Token, Lexing, tokens, no-token-at, tokens-of}
 use Rattle.text.specs.Syntax.{Member, Interface, Entity, Rule, File}
-use Rattle.text.specs.Parse.{Parsing, grammatical, ungrammatical-at, parse}
+use Rattle.text.specs.Parse.{Parse-verdict, grammatical, ungrammatical-at, parse}
 use Rattle.checking.specs.Faults.{Fault, fault, earliest}
-use Rattle.checking.specs.Scope.{Found, look-up, item-of, interface-named, interface-of-entity, interface-of}
-use Rattle.checking.specs.CountFaults.{beyond, interface-counts, rule-counts, count-faults}
+use Rattle.checking.specs.Scope.{Indexed, look-up, item-of, interface-named, interface-of-entity, interface-of}
+use Rattle.checking.specs.CountFaults.{beyond, interface-count-faults, rule-count-faults, count-faults}
 use Rattle.checking.specs.NameFaults.{name-faults}
 use Rattle.checking.specs.KindFaults.{kind-faults}
-use Rattle.checking.specs.Verdict.{Verdict, accepted, refused, refused-by, file-verdict, parsing-verdict, lexing-verdict, verdict, MOST-BYTES}
+use Rattle.checking.specs.Verdict.{Verdict, accepted, refused-at, refused-by, file-verdict, parsing-verdict, lexing-verdict, verdict, MOST-BYTES}
 use Rattle.checking.specs.Admitted.{Faultless}
 use Rattle.checking.proofs.WithinCounts.{Within-counts}
 use Rattle.text.proofs.ListLaws.{some-injective, none-some, five-empty, flatMap-empty, mapped-empty, drop-empty}
 use Rattle.checking.proofs.LookUpLaws.{found-member}
 
-refused-accepted : {c p : ℕ} {f : File} → refused c p ≡ accepted f → ⊥
+refused-accepted : {c p : ℕ} {f : File} → refused-at c p ≡ accepted f → ⊥
 refused-accepted h = let z : _≡_ {A = ℕ} 0 1 = cc in omega arith
 
 no-refusal : (fs : List Fault) (v : Verdict) {f : File} → refused-by (earliest fs) v ≡ accepted f → (fs ≡ []) × (v ≡ accepted f)
@@ -53,7 +53,7 @@ pub accepted-parsed : (text : List ℕ) (f : File) → verdict text ≡ accepted
 unfolding verdict
 accepted-parsed text f h = by-length (leb (length text) MOST-BYTES) h
   where
-    by-file : (ts : List Token) (p : Parsing) → parse (length text) ts ≡ p → tokens-of text ≡ tokens ts → parsing-verdict p ≡ accepted f → Parsed-text text f
+    by-file : (ts : List Token) (p : Parse-verdict) → parse (length text) ts ≡ p → tokens-of text ≡ tokens ts → parsing-verdict p ≡ accepted f → Parsed-text text f
     by-file ts (ungrammatical-at a) q l h = absurd (refused-accepted h)
     by-file ts (grammatical g) q l h =
         let e : g ≡ f = let k = verdict-parts g h .1 in cc in
@@ -63,7 +63,7 @@ accepted-parsed text f h = by-length (leb (length text) MOST-BYTES) h
     by-tokens (no-token-at p) l h = absurd (refused-accepted h)
     by-tokens (tokens ts) l h = by-file ts (parse (length text) ts) refl l h
 
-    by-length : (b : Bool) → (elim b [ true ↦ lexing-verdict (length text) (tokens-of text) | false ↦ refused 11 MOST-BYTES ]) ≡ accepted f
+    by-length : (b : Bool) → (elim b [ true ↦ lexing-verdict (length text) (tokens-of text) | false ↦ refused-at 11 MOST-BYTES ]) ≡ accepted f
         → Parsed-text text f
     by-length true h = by-tokens (tokens-of text) refl h
     by-length false h = absurd (refused-accepted h)
@@ -77,9 +77,9 @@ within most place xs h =
     rw length-map at l
 
 pub counted : (f : File) → count-faults f ≡ []
-    → (beyond 16 (map (λ (i : Interface). i .at) (f .interfaces)) ≡ []) × (flatMap interface-counts (f .interfaces) ≡ [])
+    → (beyond 16 (map (λ (i : Interface). i .at) (f .interfaces)) ≡ []) × (flatMap interface-count-faults (f .interfaces) ≡ [])
     × (beyond 32 (map (λ (e : Entity). e .at) (f .entities)) ≡ []) × (beyond 64 (map (λ (r : Rule). r .at) (f .rules)) ≡ [])
-    × (flatMap rule-counts (f .rules) ≡ [])
+    × (flatMap rule-count-faults (f .rules) ≡ [])
 unfolding count-faults
 counted f h = five-empty h
 
@@ -87,7 +87,7 @@ pub named-interface : (f : File) (n : List ℕ) {i : Interface} → interface-na
 unfolding interface-named
 named-interface f n {i} h = go (look-up (λ (i : Interface). i .name) n (f .interfaces)) (λ r e. found-member (λ (i : Interface). i .name) n (f .interfaces) e) h
   where
-    go : (o : Option (Found Interface)) → ((r : Found Interface) → o ≡ some r → List·Memᴰ (r .item) (f .interfaces)) → item-of o ≡ some i
+    go : (o : Option (Indexed Interface)) → ((r : Indexed Interface) → o ≡ some r → List·Memᴰ (r .item) (f .interfaces)) → item-of o ≡ some i
         → List·Memᴰ i (f .interfaces)
     go none k e = absurd (none-some e)
     go (some r) k e = rw (some-injective e) at (k r refl)
@@ -103,12 +103,12 @@ entity-interface f e {i} h = go (getElem? (f .entities) e) h
     go (some x) h = (x, refl, h)
 
 pub within-counts : (f : File) → file-verdict f ≡ accepted f → Within-counts f
-unfolding interface-counts
+unfolding interface-count-faults
 within-counts f h =
     let c = counted f (accepted-faultless f h .counts) in
     record {
       entities = within 32 (λ (e : Entity). e .at) (f .entities) (c .2);
       members = λ e i q.
           let (x, p, n) = entity-interface f e q in
-          within 12 (λ (m : Member). m .at) (i .members) (flatMap-empty interface-counts (f .interfaces) (c .1) (named-interface f (x .interface .bytes) n));
+          within 12 (λ (m : Member). m .at) (i .members) (flatMap-empty interface-count-faults (f .interfaces) (c .1) (named-interface f (x .interface .bytes) n));
     }

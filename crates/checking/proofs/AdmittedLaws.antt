@@ -8,7 +8,7 @@ use lib.ListN.{length}
 use borrow.Author.Tests.{le-leb}
 use Rattle.text.specs.Tokens.{Token, Lexing, tokens, no-token-at, tokens-of}
 use Rattle.text.specs.Syntax.{File}
-use Rattle.text.specs.Parse.{Parsing, grammatical, ungrammatical-at, parse}
+use Rattle.text.specs.Parse.{Parse-verdict, grammatical, ungrammatical-at, parse}
 use Rattle.text.proofs.ParserViable.{parser-exact}
 use Rattle.checking.specs.Faults.{Fault, earliest}
 use Rattle.checking.specs.CountFaults.{count-faults}

@@ -17,9 +17,9 @@ use Rattle.text.specs.Grammar.{assignment-after}
 use Rattle.checking.specs.declared.faults.Found.{Found}
 use Rattle.checking.specs.Faults.{fault-unless, earliest}
 use Rattle.checking.specs.FoundFaults.{found-as}
-use Rattle.checking.specs.Scope.{Found as Numbered, here-or-later, look-up, is-found, is-attribute, member-named}
+use Rattle.checking.specs.Scope.{Indexed as Numbered, here-or-later, look-up, is-found, is-attribute, member-named}
 use Rattle.checking.specs.NameFaults.{is-of-sort, member-faults}
-use Rattle.checking.specs.KindFaults.{kind-if-found, member-kind, assignment-kinds}
+use Rattle.checking.specs.KindFaults.{kind-if-found, member-kind, assignment-kind-faults}
 use Rattle.checking.specs.Directory.{name-in, Columns-of, Named, Bench, sort-class, kind-class, number-or, member-number}
 use Rattle.checking.specs.DirectoryReads.{Few, Member-class}
 use Rattle.checking.specs.Sequences.{Sequence, over}
@@ -250,7 +250,7 @@ module _ {text classes offsets lengths d : List ℕ} (w : Bench text classes off
 
 module _ {classes offsets d : List ℕ} {face m equals last : ℕ} where
   pub kind-unasked : 12 ≤ m → {r : Found} → found-as r ≡ none → Kind-found classes offsets d face m equals last r
-  unfolding assignment-kinds
+  unfolding assignment-kind-faults
   kind-unasked h e = record {
     is = λ text lengths w few a k o c.
         e
@@ -260,7 +260,7 @@ module _ {classes offsets d : List ℕ} {face m equals last : ℕ} where
   pub kind-asked : m < 12 → {j class given offset : ℕ} → Member-class classes d face m (λ x. kind-class (x .kind)) j → class ≡ getD classes last 0
       → given ≡ literal-class class → offset ≡ getD offsets equals 0 → {r : Found} → found-as r ≡ earliest (fault-unless (eqb j given) 18 offset)
       → Kind-found classes offsets d face m equals last r
-  unfolding assignment-kinds
+  unfolding assignment-kind-faults
   kind-asked h j l g o e = record {
     is = λ text lengths w few a k at c.
         e ∙ unless-same 18

@@ -15,9 +15,9 @@ use Rattle.text.specs.Grammar.{assignment-after}
 use Rattle.checking.specs.declared.faults.Found.{Found}
 use Rattle.checking.specs.Faults.{Fault, fault-unless, earliest}
 use Rattle.checking.specs.FoundFaults.{found-as, merged}
-use Rattle.checking.specs.Scope.{Found as Numbered, here-or-later, look-up, is-found, is-attribute}
+use Rattle.checking.specs.Scope.{Indexed as Numbered, here-or-later, look-up, is-found, is-attribute}
 use Rattle.checking.specs.NameFaults.{repeated-faults, again-faults, member-faults}
-use Rattle.checking.specs.KindFaults.{assignment-kinds}
+use Rattle.checking.specs.KindFaults.{assignment-kind-faults}
 use Rattle.checking.specs.Directory.{name-in, member-number}
 use Rattle.checking.specs.DirectoryReads.{Number-of, few-members}
 use Rattle.checking.specs.Sequences.{Sequence, over, one}
@@ -48,7 +48,7 @@ abbrev pub name-fault : {text classes offsets lengths d : List ℕ} {from : ℕ}
 name-fault b face a = member-faults is-attribute (getElem? (b .bench .file .interfaces) face) (a .name)
 
 abbrev pub kind-fault : {text classes offsets lengths d : List ℕ} {from : ℕ} → Body text classes offsets lengths d from → ℕ → Assignment → List Fault
-kind-fault b face a = assignment-kinds (getElem? (b .bench .file .interfaces) face) a
+kind-fault b face a = assignment-kind-faults (getElem? (b .bench .file .interfaces) face) a
 
 -- what is found before token number q, in one world
 pub record Assigning-in {text classes offsets lengths d : List ℕ} {from : ℕ} (b : Body text classes offsets lengths d from) (face : ℕ)

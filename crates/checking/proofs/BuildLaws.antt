@@ -15,7 +15,7 @@ use Rattle.values.specs.declared.Kind.{Kind}
 use Rattle.values.specs.declared.Kind.the-variants.{Wholes, Bools, Reals}
 use Rattle.text.specs.Tokens.{Token, INTERFACE, ATTRIBUTE, ACTION, ENTITY, WHEN}
 use Rattle.text.specs.Syntax.{Name, Sort, attribute, event, action, Member, Interface, Entity, Rule, File}
-use Rattle.text.specs.Readers.{Reader}
+use Rattle.text.specs.Readers.{Parser}
 use Rattle.text.specs.Grammar.{interface-after, entity-after}
 use Rattle.text.proofs.LanguageLaws.{is}
 use Rattle.text.proofs.SpotLaws.{Starts, stands-below}
@@ -34,7 +34,7 @@ use Rattle.checking.proofs.PlacedLaws.{Placed, spots-placed, interface-
 -- ---- what a directory says of a token
 
 module _ {ts : List Token} {p : ℕ} where
-  begins-at : {A : Type 0} {c : ℕ} {after : Token → Reader A} {a : A} → Starts ts p c after a → Begins ts p c after a
+  begins-at : {A : Type 0} {c : ℕ} {after : Token → Parser A} {a : A} → Starts ts p c after a → Begins ts p c after a
   begins-at {after = after} {a} s = record {
     token = s .token;
     stands = s .stands;

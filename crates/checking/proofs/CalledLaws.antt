@@ -8,7 +8,7 @@ use mathlib.Core.Option.{Option, none, some}
 use lib.ListN.{length, getD, getElem?}
 use Rattle.values.specs.Bytes.{same-bytes}
 use Rattle.text.specs.Syntax.{Name, Member, Interface, Entity, File}
-use Rattle.checking.specs.Scope.{Found, look-up, item-of, interface-of-entity, interface-of}
+use Rattle.checking.specs.Scope.{Indexed, look-up, item-of, interface-of-entity, interface-of}
 use Rattle.checking.specs.Directory.{
   name-in,
   Named,
@@ -149,15 +149,15 @@ module _ {A : Type 0} (name-of : A → Name) (n : List ℕ) (xs : List A) (most 
   unfolding number-or
   none-found h = go (look-up name-of n xs) refl h
     where
-      go : (o : Option (Found A)) → look-up name-of n xs ≡ o → number-or most o ≡ most → o ≡ none
+      go : (o : Option (Indexed A)) → look-up name-of n xs ≡ o → number-or most o ≡ most → o ≡ none
       go none q h = refl
       go (some r) q h = let b = number-below xs (r .number) (found-at name-of n xs q) in absurd (omega arith)
 
-  pub some-found : (k : ℕ) → k ≡ number-or most (look-up name-of n xs) → (k ≡ most → ⊥) → (r : Found A) × (look-up name-of n xs ≡ some r) × (k ≡ r .number)
+  pub some-found : (k : ℕ) → k ≡ number-or most (look-up name-of n xs) → (k ≡ most → ⊥) → (r : Indexed A) × (look-up name-of n xs ≡ some r) × (k ≡ r .number)
   unfolding number-or
   some-found k e d = go (look-up name-of n xs) refl e
     where
-      go : (o : Option (Found A)) → look-up name-of n xs ≡ o → k ≡ number-or most o → (r : Found A) × (o ≡ some r) × (k ≡ r .number)
+      go : (o : Option (Indexed A)) → look-up name-of n xs ≡ o → k ≡ number-or most o → (r : Indexed A) × (o ≡ some r) × (k ≡ r .number)
       go none q e = absurd (d e)
       go (some r) q e = (r, refl, e)
 
@@ -171,7 +171,7 @@ row-interface {d = d} w few e x s =
     ∙ go (look-up (λ (i : Interface). i .name) (x .interface .bytes) (w .file .interfaces)) refl
     ∙ sym (ap (interface-of-entity (w .file)) s)
   where
-    go : (o : Option (Found Interface)) → look-up (λ (i : Interface). i .name) (x .interface .bytes) (w .file .interfaces) ≡ o
+    go : (o : Option (Indexed Interface)) → look-up (λ (i : Interface). i .name) (x .interface .bytes) (w .file .interfaces) ≡ o
         → getElem? (w .file .interfaces) (number-or 16 o) ≡ item-of o
     go none q = number-beyond (w .file .interfaces) 16 few
     go (some r) q = found-at (λ (i : Interface). i .name) (x .interface .bytes) (w .file .interfaces) q

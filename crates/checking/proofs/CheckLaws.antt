@@ -24,7 +24,7 @@ use Rattle.checking.specs.declared.faults.Found.the-variants as variants
 use Rattle.checking.specs.declared.check.Checked.{Checked}
 use Rattle.checking.specs.declared.check.Checked.the-variants.{Accepted, Refused, NoRoom}
 use Rattle.checking.specs.FoundFaults.{found-as}
-use Rattle.checking.specs.Verdict.{refused, accepted, refused-by, MOST-BYTES, verdict, verdict-answer}
+use Rattle.checking.specs.Verdict.{refused-at, accepted, refused-by, MOST-BYTES, verdict, verdict-answer}
 use Rattle.checking.specs.Directory.{DIRECTORY, Columns-of}
 use Rattle.checking.specs.FileWalk.{Columned, Judged}
 use Rattle.checking.specs.CheckedBench.{Values-of, checked-answer, Accepts, Says, has-room, check-answer, Checks}
@@ -189,7 +189,7 @@ module _ {text cs os ls d e : List ℕ} {s : Syntax} where
   }
 
   refusal-told : {r : Checked} {code p : ℕ} → (s ≡ Short → ⊥)
-      → ((vs : List ℕ) (t : Token-columns) → Reads-text text t (columns-of cs os ls vs) s → (p ≤ MOST-BYTES) × (verdict text ≡ refused code p))
+      → ((vs : List ℕ) (t : Token-columns) → Reads-text text t (columns-of cs os ls vs) s → (p ≤ MOST-BYTES) × (verdict text ≡ refused-at code p))
       → Refuses code p r → Settles text cs os ls d e s r
   refusal-told a h f = room-told a λ vs t l k.
       let q = f .is (h vs t l .0) in

@@ -29,29 +29,29 @@ use Rattle.text.specs.Syntax.{
   Call,
 }
 use Rattle.checking.specs.Faults.{fault-unless}
-use Rattle.checking.specs.Scope.{Found, member-named, Scope, is-known, interface-in, is-attribute, is-action, is-event, is-member}
+use Rattle.checking.specs.Scope.{Indexed, member-named, Scope, is-known, interface-in, is-attribute, is-action, is-event, is-member}
 use Rattle.checking.specs.NameFaults.{
   is-of-sort,
   member-faults,
-  name-faults-at,
-  expression-names,
-  target-names,
-  filter-names,
-  test-names,
-  clause-names,
-  call-names,
+  unknown-name-faults,
+  expression-name-faults,
+  target-name-faults,
+  filter-name-faults,
+  test-name-faults,
+  clause-name-faults,
+  call-name-faults,
 }
 use Rattle.checking.specs.KindFaults.{
   kind-if-found,
   member-kind,
   kind-in,
   kind-of,
-  expression-kinds,
-  matched-kinds,
-  filter-kinds,
-  test-kinds,
-  clause-kinds,
-  call-kinds,
+  expression-kind-faults,
+  matched-kind-faults,
+  filter-kind-faults,
+  test-kind-faults,
+  clause-kind-faults,
+  call-kind-faults,
 }
 use Rattle.text.proofs.ListLaws.{both-empty, three-empty, four-empty}
 
@@ -65,7 +65,7 @@ no-fault false c p h = absurd (cons≢nil h)
 -- a name whose interface is known, and a member of that interface
 pub record Known-member (s : Scope) (sort : Sort → Bool) (n m : List ℕ) : Type 0 where
   pub interface : Interface
-  pub found : Found Member
+  pub found : Indexed Member
   pub of-interface : interface-in s n ≡ some interface
   pub named : member-named interface m ≡ some found
   pub of-sort : T (sort (found .item .sort))
@@ -98,7 +98,7 @@ pub kinds-fit-eq : (j k : Kind) → T (kinds-fit (some j) (some k)) → j ≡ k
 unfolding kinds-fit
 kinds-fit-eq j k h = same-kind-eq j k h
 
-pub member-kind-found : (i : Interface) (m : Name) {r : Found Member} → member-named i (m .bytes) ≡ some r → member-kind (some i) m ≡ some (r .item .kind)
+pub member-kind-found : (i : Interface) (m : Name) {r : Indexed Member} → member-named i (m .bytes) ≡ some r → member-kind (some i) m ≡ some (r .item .kind)
 unfolding member-kind
 member-kind-found i m h = ap kind-if-found h
 
@@ -130,7 +130,7 @@ module _ (s : Scope) (known-interface : (n : List ℕ) → T (is-known s n) → 
   unfolding member-faults
   member-known sort n m k h = go (known-interface n k)
     where
-      by-member : (i : Interface) → interface-in s n ≡ some i → (o : Option (Found Member)) → member-named i (m .bytes) ≡ o → T (is-of-sort sort o)
+      by-member : (i : Interface) → interface-in s n ≡ some i → (o : Option (Indexed Member)) → member-named i (m .bytes) ≡ o → T (is-of-sort sort o)
           → Known-member s sort n (m .bytes)
       by-member i e (some r) q t = record { interface = i; found = r; of-interface = e; named = q; of-sort = t }
 
@@ -138,62 +138,62 @@ module _ (s : Scope) (known-interface : (n : List ℕ) → T (is-known s n) → 
       go (i, e) =
           by-member i e (member-named i (m .bytes)) refl (no-fault (is-of-sort sort (member-named i (m .bytes))) 16 (m .at) (rw e at h))
 
-  expression-kinded : (a : Expression) → expression-names s a ≡ [] → expression-kinds s a ≡ [] → Kinded (kind-of s a)
-  unfolding Kinded expression-names expression-kinds
+  expression-kinded : (a : Expression) → expression-name-faults s a ≡ [] → expression-kind-faults s a ≡ [] → Kinded (kind-of s a)
+  unfolding Kinded expression-name-faults expression-kind-faults
   expression-kinded (literal l) n k = (literal-kind l, refl)
   expression-kinded (member x m) n k =
-      let p : (name-faults-at s x ≡ []) × (member-faults is-member (interface-in s (x .bytes)) m ≡ []) = both-empty n in
+      let p : (unknown-name-faults s x ≡ []) × (member-faults is-member (interface-in s (x .bytes)) m ≡ []) = both-empty n in
       let c = member-known is-member (x .bytes) m (no-fault (is-known s (x .bytes)) 16 (x .at) (p .0)) (p .1) in
       (c .found .item .kind, cell-kind s x m c)
   expression-kinded (to-real at a) n k =
-      let p : (fault-unless (operand-fits real-kind (kind-of s a)) 18 at ≡ []) × (expression-kinds s a ≡ []) = both-empty k in
+      let p : (fault-unless (operand-fits real-kind (kind-of s a)) 18 at ≡ []) × (expression-kind-faults s a ≡ []) = both-empty k in
       operand-kinded real-kind (kind-of s a) (expression-kinded a n (p .1)) (no-fault (operand-fits real-kind (kind-of s a)) 18 at (p .0))
   expression-kinded (negate at a) n k =
-      let p : (fault-unless (operand-fits number-kind (kind-of s a)) 18 at ≡ []) × (expression-kinds s a ≡ []) = both-empty k in
+      let p : (fault-unless (operand-fits number-kind (kind-of s a)) 18 at ≡ []) × (expression-kind-faults s a ≡ []) = both-empty k in
       operand-kinded number-kind (kind-of s a) (expression-kinded a n (p .1)) (no-fault (operand-fits number-kind (kind-of s a)) 18 at (p .0))
   expression-kinded (apply o at a b) n k =
-      let p : (fault-unless (operands-fit (kind-of s a) (kind-of s b)) 18 at ≡ []) × (expression-kinds s a ≡ []) × (expression-kinds s b ≡ []) =
+      let p : (fault-unless (operands-fit (kind-of s a) (kind-of s b)) 18 at ≡ []) × (expression-kind-faults s a ≡ []) × (expression-kind-faults s b ≡ []) =
       three-empty k in
-      let q : (expression-names s a ≡ []) × (expression-names s b ≡ []) = both-empty n in
+      let q : (expression-name-faults s a ≡ []) × (expression-name-faults s b ≡ []) = both-empty n in
       operands-kinded (kind-of s a) (kind-of s b) (expression-kinded a (q .0) (p .1)) (expression-kinded b (q .1) (p .2))
       (no-fault (operands-fit (kind-of s a) (kind-of s b)) 18 at (p .0))
 
   -- beside a cell
-  matched : (k : Kind) (at : ℕ) (a : Expression) → expression-names s a ≡ [] → matched-kinds s (some k) at a ≡ [] → kind-of s a ≡ some k
-  unfolding Kinded matched-kinds
+  matched : (k : Kind) (at : ℕ) (a : Expression) → expression-name-faults s a ≡ [] → matched-kind-faults s (some k) at a ≡ [] → kind-of s a ≡ some k
+  unfolding Kinded matched-kind-faults
   matched k at a n h =
-      let p : (fault-unless (kinds-fit (some k) (kind-of s a)) 18 at ≡ []) × (expression-kinds s a ≡ []) = both-empty h in
+      let p : (fault-unless (kinds-fit (some k) (kind-of s a)) 18 at ≡ []) × (expression-kind-faults s a ≡ []) = both-empty h in
       go (expression-kinded a n (p .1)) (no-fault (kinds-fit (some k) (kind-of s a)) 18 at (p .0))
     where
       go : Kinded (kind-of s a) → T (kinds-fit (some k) (kind-of s a)) → kind-of s a ≡ some k
       go (j, e) t = e ∙ ap some (sym (kinds-fit-eq k j (rw e at t)))
 
   equation-known : (sort : Sort → Bool) (x m : Name) (at : ℕ) (a : Expression) → T (is-known s (x .bytes))
-      → member-faults sort (interface-in s (x .bytes)) m ≡ [] → expression-names s a ≡ [] → matched-kinds s (kind-in s x m) at a ≡ []
+      → member-faults sort (interface-in s (x .bytes)) m ≡ [] → expression-name-faults s a ≡ [] → matched-kind-faults s (kind-in s x m) at a ≡ []
       → Known-equation s sort (x .bytes) (m .bytes) a
   equation-known sort x m at a k f n h =
       let c = member-known sort (x .bytes) m k f in
       record { cell = c; kind = matched (c .found .item .kind) at a n (rw (cell-kind s x m c) at h) }
 
-  filter-known : (t : Target) (g : Option Filter) → T (is-known s (t .name .bytes)) → filter-names s t g ≡ [] → filter-kinds s t g ≡ []
+  filter-known : (t : Target) (g : Option Filter) → T (is-known s (t .name .bytes)) → filter-name-faults s t g ≡ [] → filter-kind-faults s t g ≡ []
       → Known-filter s (t .name .bytes) g
-  unfolding filter-names filter-kinds
+  unfolding filter-name-faults filter-kind-faults
   filter-known t none k n h = tt
   filter-known t (some g) k n h =
-      let p : (member-faults is-attribute (interface-in s (t .name .bytes)) (g .attribute) ≡ []) × (expression-names s (g .expression) ≡ []) = both-empty n in
+      let p : (member-faults is-attribute (interface-in s (t .name .bytes)) (g .attribute) ≡ []) × (expression-name-faults s (g .expression) ≡ []) = both-empty n in
       equation-known is-attribute (t .name) (g .attribute) (g .equals-at) (g .expression) k (p .0) (p .1) h
 
-  test-known : (k : Kind) (t : Test) → test-names s t ≡ [] → test-kinds s (some k) t ≡ [] → Known-test s k t
-  unfolding test-names test-kinds
+  test-known : (k : Kind) (t : Test) → test-name-faults s t ≡ [] → test-kind-faults s (some k) t ≡ [] → Known-test s k t
+  unfolding test-name-faults test-kind-faults
   test-known k changed n h = tt
   test-known k (equals at a) n h = matched k at a n h
 
-  pub clause-known : (c : Clause) → T (is-known s (c .target .name .bytes)) → clause-names s c ≡ [] → clause-kinds s c ≡ [] → Known-clause s c
-  unfolding clause-names clause-kinds
+  pub clause-known : (c : Clause) → T (is-known s (c .target .name .bytes)) → clause-name-faults s c ≡ [] → clause-kind-faults s c ≡ [] → Known-clause s c
+  unfolding clause-name-faults clause-kind-faults
   clause-known c k n h =
-      let p : (member-faults is-event (interface-in s (c .target .name .bytes)) (c .event) ≡ []) × (target-names s (c .target) ≡ [])
-      × (filter-names s (c .target) (c .filter) ≡ []) × (test-names s (c .test) ≡ []) = four-empty n in
-      let q : (filter-kinds s (c .target) (c .filter) ≡ []) × (test-kinds s (kind-in s (c .target .name) (c .event)) (c .test) ≡ []) = both-empty h in
+      let p : (member-faults is-event (interface-in s (c .target .name .bytes)) (c .event) ≡ []) × (target-name-faults s (c .target) ≡ [])
+      × (filter-name-faults s (c .target) (c .filter) ≡ []) × (test-name-faults s (c .test) ≡ []) = four-empty n in
+      let q : (filter-kind-faults s (c .target) (c .filter) ≡ []) × (test-kind-faults s (kind-in s (c .target .name) (c .event)) (c .test) ≡ []) = both-empty h in
       let m = member-known is-event (c .target .name .bytes) (c .event) k (p .0) in
       record {
         cell = m;
@@ -201,13 +201,13 @@ module _ (s : Scope) (known-interface : (n : List ℕ) → T (is-known s n) → 
         test = test-known (m .found .item .kind) (c .test) (p .3) (rw (cell-kind s (c .target .name) (c .event) m) at (q .1));
       }
 
-  pub call-known : (c : Call) → T (is-known s (c .target .name .bytes)) → call-names s c ≡ [] → call-kinds s c ≡ [] → Known-call s c
-  unfolding call-names call-kinds
+  pub call-known : (c : Call) → T (is-known s (c .target .name .bytes)) → call-name-faults s c ≡ [] → call-kind-faults s c ≡ [] → Known-call s c
+  unfolding call-name-faults call-kind-faults
   call-known c k n h =
-      let p : (member-faults is-action (interface-in s (c .target .name .bytes)) (c .action) ≡ []) × (expression-names s (c .parameter) ≡ [])
-      × (target-names s (c .target) ≡ []) × (filter-names s (c .target) (c .filter) ≡ []) = four-empty n in
-      let q : (matched-kinds s (kind-in s (c .target .name) (c .action)) (c .open-at) (c .parameter) ≡ [])
-      × (filter-kinds s (c .target) (c .filter) ≡ []) = both-empty h in
+      let p : (member-faults is-action (interface-in s (c .target .name .bytes)) (c .action) ≡ []) × (expression-name-faults s (c .parameter) ≡ [])
+      × (target-name-faults s (c .target) ≡ []) × (filter-name-faults s (c .target) (c .filter) ≡ []) = four-empty n in
+      let q : (matched-kind-faults s (kind-in s (c .target .name) (c .action)) (c .open-at) (c .parameter) ≡ [])
+      × (filter-kind-faults s (c .target) (c .filter) ≡ []) = both-empty h in
       record {
         parameter = equation-known is-action (c .target .name) (c .action) (c .open-at) (c .parameter) k (p .0) (p .1) (q .0);
         filter = filter-known (c .target) (c .filter) k (p .3) (q .1);

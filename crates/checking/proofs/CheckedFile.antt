@@ -24,7 +24,7 @@ use Rattle.values.specs.Fitting.{kinds-fit}
 use Rattle.text.specs.Syntax.{Name, Member, Interface, literal-kind, Assignment, Entity, Target, Clause, Call, Rule, File}
 use Rattle.checking.specs.Faults.{fault-unless}
 use Rattle.checking.specs.Scope.{
-  Found,
+  Indexed,
   here-or-later,
   look-up,
   is-found,
@@ -53,21 +53,29 @@ use Rattle.checking.specs.NameFaults.{
   interface-faults,
   is-of-sort,
   member-faults,
-  interface-names,
+  interface-name-faults,
   attribute-faults,
   unset-faults,
-  entity-names,
+  entity-name-faults,
   declaration-faults,
-  expression-names,
-  target-names,
-  filter-names,
-  test-names,
-  clause-names,
-  call-names,
-  rule-names,
+  expression-name-faults,
+  target-name-faults,
+  filter-name-faults,
+  test-name-faults,
+  clause-name-faults,
+  call-name-faults,
+  rule-name-faults,
   name-faults,
 }
-use Rattle.checking.specs.KindFaults.{member-kind, assignment-kinds, entity-kinds, clause-kinds, call-kinds, rule-kinds, kind-faults}
+use Rattle.checking.specs.KindFaults.{
+  member-kind,
+  assignment-kind-faults,
+  entity-kind-faults,
+  clause-kind-faults,
+  call-kind-faults,
+  rule-kind-faults,
+  kind-faults,
+}
 use Rattle.checking.specs.Verdict.{accepted, file-verdict}
 use Rattle.text.proofs.ListLaws.{none-some, both-empty, three-empty, four-empty, five-empty, flatMap-empty, flatMap-member, member-flatMap}
 use Rattle.checking.proofs.LookUpLaws.{same-bytes-refl, found-some, found-member, member-found}
@@ -79,10 +87,10 @@ use Rattle.checking.proofs.CheckedExpressions.{no-fault, kinds-fit-eq, 
 
 -- "No two members of one interface .. share a name": the first of a member's name is that member
 abbrev pub Own-names : Interface → Type 0
-Own-names i = (m : Member) → List·Memᴰ m (i .members) → (r : Found Member) × (member-named i (m .name .bytes) ≡ some r) × (r .item ≡ m)
+Own-names i = (m : Member) → List·Memᴰ m (i .members) → (r : Indexed Member) × (member-named i (m .name .bytes) ≡ some r) × (r .item ≡ m)
 
 pub record Known-assignment (i : Interface) (a : Assignment) : Type 0 where
-  pub found : Found Member
+  pub found : Indexed Member
   pub named : member-named i (a .name .bytes) ≡ some found
   pub of-sort : T (is-attribute (found .item .sort))
   pub kind : literal-kind (a .literal) ≡ found .item .kind
@@ -92,7 +100,7 @@ pub record Known-entity (f : File) (e : Entity) : Type 0 where
   pub named : interface-named f (e .interface .bytes) ≡ some interface
   pub assignment : (a : Assignment) → List·Memᴰ a (e .assignments) → Known-assignment interface a
   pub assigned : (m : Member) → List·Memᴰ m (interface .members) → T (is-attribute (m .sort))
-      → (r : Found Assignment) × (look-up (λ (a : Assignment). a .name) (m .name .bytes) (e .assignments) ≡ some r)
+      → (r : Indexed Assignment) × (look-up (λ (a : Assignment). a .name) (m .name .bytes) (e .assignments) ≡ some r)
 
 pub record Known-rule (f : File) (r : Rule) : Type 0 where
   pub variable : (v : Variable) → List·Memᴰ v (variables r) → (i : Interface) × (interface-named f (v .interface .bytes) ≡ some i)
@@ -122,7 +130,7 @@ absent-before n [] m h = go (same-bytes n (m .bytes)) h
 absent-before n (x ∷ before) m h =
     go (same-bytes n (x .bytes)) (look-up (λ (x : Name). x) n (before ++ m ∷ [])) (absent-before n before m) h
   where
-    go : (b : Bool) (o : Option (Found Name)) → (o ≡ none → (look-up (λ (x : Name). x) n before ≡ none) × (same-bytes n (m .bytes) ≡ false))
+    go : (b : Bool) (o : Option (Indexed Name)) → (o ≡ none → (look-up (λ (x : Name). x) n before ≡ none) × (same-bytes n (m .bytes) ≡ false))
         → here-or-later b x o ≡ none → (here-or-later b x (look-up (λ (x : Name). x) n before) ≡ none) × (same-bytes n (m .bytes) ≡ false)
     go true o k h = absurd (none-some (sym h))
     go false none k h = let (p, q) = k refl in (rw p, q)
@@ -131,7 +139,7 @@ absent-before n (x ∷ before) m h =
 module _ {A : Type 0} (name-of : A → Name) where
   found-itself : (before : List Name) (xs : List A) → repeated-faults before (map name-of xs) ≡ [] → {x : A} → List·Memᴰ x xs
       → (look-up (λ (m : Name). m) (name-of x .bytes) before ≡ none)
-      × ((r : Found A) × (look-up name-of (name-of x .bytes) xs ≡ some r) × (r .item ≡ x))
+      × ((r : Indexed A) × (look-up name-of (name-of x .bytes) xs ≡ some r) × (r .item ≡ x))
   unfolding repeated-faults
   found-itself before (y ∷ ys) h {x} (List·Memᴰ·head e) =
       let p : (fault-unless (not (is-found (look-up (λ (m : Name). m) (name-of y .bytes) before))) 15 (name-of y .at) ≡ [])
@@ -151,8 +159,8 @@ module _ {A : Type 0} (name-of : A → Name) where
       let (b, d) = absent-before (name-of x .bytes) before (name-of y) a in
       (b, (record { number = suc (r .number); item = r .item }, rw (d, l), i))
 
-own-names : (i : Interface) → interface-names i ≡ [] → Own-names i
-unfolding interface-names member-named
+own-names : (i : Interface) → interface-name-faults i ≡ [] → Own-names i
+unfolding interface-name-faults member-named
 own-names i h m x = found-itself (λ (m : Member). m .name) [] (i .members) h x .1
 
 interface-known : (f : File) (n : Name) → interface-faults f n ≡ [] → (i : Interface) × (interface-named f (n .bytes) ≡ some i)
@@ -161,15 +169,15 @@ interface-known f n h = found-some (interface-named f (n .bytes)) (no-fault (is-
 
 -- ---- entities
 
-assignment-known : (i : Interface) (a : Assignment) → member-faults is-attribute (some i) (a .name) ≡ [] → assignment-kinds (some i) a ≡ []
+assignment-known : (i : Interface) (a : Assignment) → member-faults is-attribute (some i) (a .name) ≡ [] → assignment-kind-faults (some i) a ≡ []
     → Known-assignment i a
-unfolding member-faults assignment-kinds
+unfolding member-faults assignment-kind-faults
 assignment-known i a n k = go (member-named i (a .name .bytes)) refl (no-fault (is-of-sort is-attribute (member-named i (a .name .bytes))) 16 (a .name .at) n)
   where
     fit : T (kinds-fit (member-kind (some i) (a .name)) (some (literal-kind (a .literal))))
     fit = no-fault (kinds-fit (member-kind (some i) (a .name)) (some (literal-kind (a .literal)))) 18 (a .equals-at) k
 
-    go : (o : Option (Found Member)) → member-named i (a .name .bytes) ≡ o → T (is-of-sort is-attribute o) → Known-assignment i a
+    go : (o : Option (Indexed Member)) → member-named i (a .name .bytes) ≡ o → T (is-of-sort is-attribute o) → Known-assignment i a
     go (some r) e t = record {
       found = r;
       named = e;
@@ -178,16 +186,16 @@ assignment-known i a n k = go (member-named i (a .name .bytes)) refl (no-fault (
     }
 
 attribute-assigned : (e : Entity) (m : Member) → attribute-faults e m ≡ [] → T (is-attribute (m .sort))
-    → (r : Found Assignment) × (look-up (λ (a : Assignment). a .name) (m .name .bytes) (e .assignments) ≡ some r)
+    → (r : Indexed Assignment) × (look-up (λ (a : Assignment). a .name) (m .name .bytes) (e .assignments) ≡ some r)
 unfolding attribute-faults
 attribute-assigned e m h t = go (is-attribute (m .sort)) (look-up (λ (a : Assignment). a .name) (m .name .bytes) (e .assignments)) t
     (no-fault (not (is-attribute (m .sort)) || is-found (look-up (λ (a : Assignment). a .name) (m .name .bytes) (e .assignments))) 17 (e .close-at) h)
   where
-    go : (b : Bool) (o : Option (Found Assignment)) → T b → T (not b || is-found o) → (r : Found Assignment) × (o ≡ some r)
+    go : (b : Bool) (o : Option (Indexed Assignment)) → T b → T (not b || is-found o) → (r : Indexed Assignment) × (o ≡ some r)
     go true o t q = found-some o q
 
-entity-known : (f : File) (e : Entity) → entity-names f e ≡ [] → entity-kinds f e ≡ [] → Known-entity f e
-unfolding entity-names entity-kinds
+entity-known : (f : File) (e : Entity) → entity-name-faults f e ≡ [] → entity-kind-faults f e ≡ [] → Known-entity f e
+unfolding entity-name-faults entity-kind-faults
 entity-known f e h g =
     let p : (interface-faults f (e .interface) ≡ []) × (again-faults (map (λ (a : Assignment). a .name) (e .assignments)) ≡ [])
     × (flatMap (λ (a : Assignment). member-faults is-attribute (interface-named f (e .interface .bytes)) (a .name)) (e .assignments) ≡ [])
@@ -196,60 +204,60 @@ entity-known f e h g =
   where
     go : (o : Option Interface) → interface-named f (e .interface .bytes) ≡ o → (i : Interface) × (interface-named f (e .interface .bytes) ≡ some i)
         → flatMap (λ (a : Assignment). member-faults is-attribute o (a .name)) (e .assignments) ≡ [] → unset-faults e o ≡ []
-        → flatMap (assignment-kinds o) (e .assignments) ≡ [] → Known-entity f e
+        → flatMap (assignment-kind-faults o) (e .assignments) ≡ [] → Known-entity f e
     go none q (i, r) n u k = absurd (none-some (sym q ∙ r))
     go (some i) q _ n u k = record {
       interface = i;
       named = q;
       assignment = λ a m.
           assignment-known i a (flatMap-empty (λ (a : Assignment). member-faults is-attribute (some i) (a .name)) (e .assignments) n m)
-          (flatMap-empty (assignment-kinds (some i)) (e .assignments) k m);
+          (flatMap-empty (assignment-kind-faults (some i)) (e .assignments) k m);
       assigned = λ m x. attribute-assigned e m (flatMap-empty (attribute-faults e) (i .members) u x);
     }
 
 -- ---- rules
 
-module _ (f : File) (entities : (e : Entity) → List·Memᴰ e (f .entities) → Known-entity f e) (r : Rule) (names : rule-names f r ≡ [])
-    (kinds : rule-kinds f r ≡ []) where
+module _ (f : File) (entities : (e : Entity) → List·Memᴰ e (f .entities) → Known-entity f e) (r : Rule) (names : rule-name-faults f r ≡ [])
+    (kinds : rule-kind-faults f r ≡ []) where
   abbrev scope : Scope
   scope = scope-of f r
 
-  names-parts : (again-faults (map (λ (v : Variable). v .name) (variables r)) ≡ []) × (flatMap (clause-names scope) (clauses (r .condition)) ≡ [])
-      × (flatMap (call-names scope) (r .calls) ≡ [])
-  unfolding rule-names
+  names-parts : (again-faults (map (λ (v : Variable). v .name) (variables r)) ≡ []) × (flatMap (clause-name-faults scope) (clauses (r .condition)) ≡ [])
+      × (flatMap (call-name-faults scope) (r .calls) ≡ [])
+  unfolding rule-name-faults
   names-parts = three-empty names
 
-  kinds-parts : (flatMap (clause-kinds scope) (clauses (r .condition)) ≡ []) × (flatMap (call-kinds scope) (r .calls) ≡ [])
-  unfolding rule-kinds
+  kinds-parts : (flatMap (clause-kind-faults scope) (clauses (r .condition)) ≡ []) × (flatMap (call-kind-faults scope) (r .calls) ≡ [])
+  unfolding rule-kind-faults
   kinds-parts = both-empty kinds
 
-  clause-target : (c : Clause) → List·Memᴰ c (clauses (r .condition)) → target-names scope (c .target) ≡ []
-  unfolding clause-names
+  clause-target : (c : Clause) → List·Memᴰ c (clauses (r .condition)) → target-name-faults scope (c .target) ≡ []
+  unfolding clause-name-faults
   clause-target c m =
-      let p : (member-faults is-event (interface-in scope (c .target .name .bytes)) (c .event) ≡ []) × (target-names scope (c .target) ≡ [])
-      × (filter-names scope (c .target) (c .filter) ≡ []) × (test-names scope (c .test) ≡ []) =
-      four-empty (flatMap-empty (clause-names scope) (clauses (r .condition)) (names-parts .1) m) in
+      let p : (member-faults is-event (interface-in scope (c .target .name .bytes)) (c .event) ≡ []) × (target-name-faults scope (c .target) ≡ [])
+      × (filter-name-faults scope (c .target) (c .filter) ≡ []) × (test-name-faults scope (c .test) ≡ []) =
+      four-empty (flatMap-empty (clause-name-faults scope) (clauses (r .condition)) (names-parts .1) m) in
       p .1
 
-  call-target : (c : Call) → List·Memᴰ c (r .calls) → target-names scope (c .target) ≡ []
-  unfolding call-names
+  call-target : (c : Call) → List·Memᴰ c (r .calls) → target-name-faults scope (c .target) ≡ []
+  unfolding call-name-faults
   call-target c m =
-      let p : (member-faults is-action (interface-in scope (c .target .name .bytes)) (c .action) ≡ []) × (expression-names scope (c .parameter) ≡ [])
-      × (target-names scope (c .target) ≡ []) × (filter-names scope (c .target) (c .filter) ≡ []) =
-      four-empty (flatMap-empty (call-names scope) (r .calls) (names-parts .2) m) in
+      let p : (member-faults is-action (interface-in scope (c .target .name .bytes)) (c .action) ≡ []) × (expression-name-faults scope (c .parameter) ≡ [])
+      × (target-name-faults scope (c .target) ≡ []) × (filter-name-faults scope (c .target) (c .filter) ≡ []) =
+      four-empty (flatMap-empty (call-name-faults scope) (r .calls) (names-parts .2) m) in
       p .2
 
-  target-empty : (t : Target) → List·Memᴰ t (targets r) → target-names scope t ≡ []
+  target-empty : (t : Target) → List·Memᴰ t (targets r) → target-name-faults scope t ≡ []
   unfolding targets
   target-empty t m = go (List·Memᴰ·append-cases (map (λ (c : Clause). c .target) (clauses (r .condition))) m)
     where
       go : List·Memᴰ t (map (λ (c : Clause). c .target) (clauses (r .condition))) ⊎ List·Memᴰ t (map (λ (c : Call). c .target) (r .calls))
-          → target-names scope t ≡ []
+          → target-name-faults scope t ≡ []
       go (inl n) = let (c, p, e) = Memᴰ·of-map (λ (c : Clause). c .target) (clauses (r .condition)) n in rw e at (clause-target c p)
       go (inr n) = let (c, p, e) = Memᴰ·of-map (λ (c : Call). c .target) (r .calls) n in rw e at (call-target c p)
 
   variable-known : (v : Variable) → List·Memᴰ v (variables r) → (i : Interface) × (interface-named f (v .interface .bytes) ≡ some i)
-  unfolding variables target-names scope-of
+  unfolding variables target-name-faults scope-of
   variable-known v m =
       let (t, n, d) = member-flatMap (λ (t : Target). declared-as (t .name) (t .declares)) (targets r) m in
       go (t .name) (t .declares) (target-empty t n) d
@@ -264,10 +272,10 @@ module _ (f : File) (entities : (e : Entity) → List·Memᴰ e (f .entities) �
 
   -- a target is an entity or a variable
   target-known : (t : Target) → List·Memᴰ t (targets r) → T (is-known scope (t .name .bytes))
-  unfolding is-known target-names scope-of variables variable-named
+  unfolding is-known target-name-faults scope-of variables variable-named
   target-known t m = go (t .declares) refl (target-empty t m)
     where
-      by-entity : (o : Option (Found Entity)) (v : Found Variable) → T (entity-or-variable o (some v))
+      by-entity : (o : Option (Indexed Entity)) (v : Indexed Variable) → T (entity-or-variable o (some v))
       by-entity none v = tt
       by-entity (some e) v = tt
 
@@ -284,7 +292,7 @@ module _ (f : File) (entities : (e : Entity) → List·Memᴰ e (f .entities) �
   unfolding is-known interface-in scope-of
   known-interface n h = go (entity-named f n) refl (variable-named (variables r) n) refl h
     where
-      go : (e : Option (Found Entity)) → entity-named f n ≡ e → (v : Option (Found Variable)) → variable-named (variables r) n ≡ v
+      go : (e : Option (Indexed Entity)) → entity-named f n ≡ e → (v : Option (Indexed Variable)) → variable-named (variables r) n ≡ v
           → T (entity-or-variable e v) → (i : Interface) × (interface-meant f e v ≡ some i)
       go none p (some v) q h = variable-known (v .item) (found-member (λ (v : Variable). v .name) n (variables r) q)
       go (some e) p v q h = let k = entities (e .item) (found-member (λ (e : Entity). e .name) n (f .entities) p) in (k .interface, k .named)
@@ -302,12 +310,12 @@ module _ (f : File) (entities : (e : Entity) → List·Memᴰ e (f .entities) �
     variable = variable-known;
     clause = λ c m.
         clause-known scope known-interface c (target-known (c .target) (clause-in-targets c m))
-        (flatMap-empty (clause-names scope) (clauses (r .condition)) (names-parts .1) m)
-        (flatMap-empty (clause-kinds scope) (clauses (r .condition)) (kinds-parts .0) m);
+        (flatMap-empty (clause-name-faults scope) (clauses (r .condition)) (names-parts .1) m)
+        (flatMap-empty (clause-kind-faults scope) (clauses (r .condition)) (kinds-parts .0) m);
     call = λ c m.
         call-known scope known-interface c (target-known (c .target) (call-in-targets c m))
-        (flatMap-empty (call-names scope) (r .calls) (names-parts .2) m)
-        (flatMap-empty (call-kinds scope) (r .calls) (kinds-parts .1) m);
+        (flatMap-empty (call-name-faults scope) (r .calls) (names-parts .2) m)
+        (flatMap-empty (call-kind-faults scope) (r .calls) (kinds-parts .1) m);
   }
 
 -- ---- the file
@@ -315,16 +323,16 @@ module _ (f : File) (entities : (e : Entity) → List·Memᴰ e (f .entities) �
 faultless-known : (f : File) → Faultless f → Known-file f
 unfolding name-faults kind-faults
 faultless-known f h =
-    let p : (again-faults (map (λ (i : Interface). i .name) (f .interfaces)) ≡ []) × (flatMap interface-names (f .interfaces) ≡ [])
-    × (again-faults (map (λ (e : Entity). e .name) (f .entities)) ≡ []) × (flatMap (entity-names f) (f .entities) ≡ [])
-    × (flatMap (rule-names f) (f .rules) ≡ []) = five-empty (h .names) in
-    let q : (flatMap (entity-kinds f) (f .entities) ≡ []) × (flatMap (rule-kinds f) (f .rules) ≡ []) = both-empty (h .kinds) in
+    let p : (again-faults (map (λ (i : Interface). i .name) (f .interfaces)) ≡ []) × (flatMap interface-name-faults (f .interfaces) ≡ [])
+    × (again-faults (map (λ (e : Entity). e .name) (f .entities)) ≡ []) × (flatMap (entity-name-faults f) (f .entities) ≡ [])
+    × (flatMap (rule-name-faults f) (f .rules) ≡ []) = five-empty (h .names) in
+    let q : (flatMap (entity-kind-faults f) (f .entities) ≡ []) × (flatMap (rule-kind-faults f) (f .rules) ≡ []) = both-empty (h .kinds) in
     let e : (e : Entity) → List·Memᴰ e (f .entities) → Known-entity f e =
-    λ e m. entity-known f e (flatMap-empty (entity-names f) (f .entities) (p .3) m) (flatMap-empty (entity-kinds f) (f .entities) (q .0) m) in
+    λ e m. entity-known f e (flatMap-empty (entity-name-faults f) (f .entities) (p .3) m) (flatMap-empty (entity-kind-faults f) (f .entities) (q .0) m) in
     record {
-      interface = λ i m. own-names i (flatMap-empty interface-names (f .interfaces) (p .1) m);
+      interface = λ i m. own-names i (flatMap-empty interface-name-faults (f .interfaces) (p .1) m);
       entity = e;
-      rule = λ r m. rule-known f e r (flatMap-empty (rule-names f) (f .rules) (p .4) m) (flatMap-empty (rule-kinds f) (f .rules) (q .1) m);
+      rule = λ r m. rule-known f e r (flatMap-empty (rule-name-faults f) (f .rules) (p .4) m) (flatMap-empty (rule-kind-faults f) (f .rules) (q .1) m);
     }
 
 pub accepted-known : (f : File) → file-verdict f ≡ accepted f → Known-file f

@@ -15,8 +15,8 @@ use Rattle.checking.specs.declared.conditions.Part.{Part}
 use Rattle.checking.specs.Faults.{Fault, fault-unless, earliest}
 use Rattle.checking.specs.FoundFaults.{found-as, merged}
 use Rattle.checking.specs.Scope.{Scope}
-use Rattle.checking.specs.NameFaults.{expression-names}
-use Rattle.checking.specs.KindFaults.{kind-of, expression-kinds, matched-kinds}
+use Rattle.checking.specs.NameFaults.{expression-name-faults}
+use Rattle.checking.specs.KindFaults.{kind-of, expression-kind-faults, matched-kind-faults}
 use Rattle.checking.specs.RuleParts.{
   kind-code,
   Kinds-fit,
@@ -53,7 +53,7 @@ found-nothing = refl
 -- ---- expressions
 
 pub literal-checked : {next kind : ℕ} → Literal-checked next kind (record { next = next; kind = kind; names = variants.Nothing; kinds = variants.Nothing })
-unfolding kind-of expression-names expression-kinds kind-code
+unfolding kind-of expression-name-faults expression-kind-faults kind-code
 literal-checked = record { next-is = refl; checked = λ s l e. record { kind = e; names = found-nothing; kinds = found-nothing } }
 
 pub closed-checked : {x : Kinded} {next : ℕ} → Closed-checked x next (record { next = next; kind = x .kind; names = x .names; kinds = x .kinds })
@@ -62,23 +62,23 @@ closed-checked = record { next-is = refl; checked = λ s a h. record { kind = h 
 module _ (offset : ℕ) {x : Kinded} where
   real-kinds : {fit : Bool} {here kinds : Option Fault} → Kinds-fit (x .kind) WHOLE fit → here ≡ earliest (fault-unless fit 18 offset)
       → kinds ≡ merged here (found-as (x .kinds)) → (s : Scope) (a : Expression) → Expression-checked s a x
-      → kinds ≡ earliest (expression-kinds s (to-real offset a))
-  unfolding expression-kinds kind-code
+      → kinds ≡ earliest (expression-kind-faults s (to-real offset a))
+  unfolding expression-kind-faults kind-code
   real-kinds f u m s a h =
-      found-both _ (expression-kinds s a) m (unless-same _ offset u (f .fits (kind-of s a) (some Wholes) (h .kind) refl ∙ real-fits (kind-of s a)))
+      found-both _ (expression-kind-faults s a) m (unless-same _ offset u (f .fits (kind-of s a) (some Wholes) (h .kind) refl ∙ real-fits (kind-of s a)))
       (h .kinds)
 
   module _ {next : ℕ} {fit : Bool} {here : Option Fault} {kinds : Found} (f : Kinds-fit (x .kind) WHOLE fit)
       (u : here ≡ earliest (fault-unless fit 18 offset)) (m : found-as kinds ≡ merged here (found-as (x .kinds))) where
     pub made-real : x .kind ≡ WHOLE → Real-checked offset x next (record { next = next; kind = REAL; names = x .names; kinds = kinds })
-    unfolding kind-of expression-names
+    unfolding kind-of expression-name-faults
     made-real e = record {
       next-is = refl;
       checked = λ s a h. record { kind = real-whole (kind-of s a) (sym (h .kind) ∙ e); names = h .names; kinds = real-kinds f u m s a h };
     }
 
     pub not-made-real : (x .kind ≡ WHOLE → ⊥) → Real-checked offset x next (record { next = next; kind = 0; names = x .names; kinds = kinds })
-    unfolding kind-of expression-names
+    unfolding kind-of expression-name-faults
     not-made-real n = record {
       next-is = refl;
       checked = λ s a h. record { kind = real-other (kind-of s a) (λ z. n (h .kind ∙ z)); names = h .names; kinds = real-kinds f u m s a h };
@@ -86,16 +86,16 @@ module _ (offset : ℕ) {x : Kinded} where
 
   pub not-negated : {here : Option Fault} {kinds : Found} → here ≡ earliest (fault-unless false 18 offset) → found-as kinds ≡ merged here (found-as (x .kinds))
       → x .kind ≡ BOOL → Negated-checked offset x (record { next = x .next; kind = 0; names = x .names; kinds = kinds })
-  unfolding kind-of expression-names expression-kinds
+  unfolding kind-of expression-name-faults expression-kind-faults
   not-negated u m e = record {
     next-is = refl;
     checked = λ s a h.
         let k = negated-bool (kind-of s a) (sym (h .kind) ∙ e) in
-        record { kind = k .0; names = h .names; kinds = found-both _ (expression-kinds s a) m (unless-same _ offset u (sym (k .1))) (h .kinds) };
+        record { kind = k .0; names = h .names; kinds = found-both _ (expression-kind-faults s a) m (unless-same _ offset u (sym (k .1))) (h .kinds) };
   }
 
   pub negated : (x .kind ≡ BOOL → ⊥) → Negated-checked offset x (record { next = x .next; kind = x .kind; names = x .names; kinds = x .kinds })
-  unfolding kind-of expression-names expression-kinds fault-unless
+  unfolding kind-of expression-name-faults expression-kind-faults fault-unless
   negated n = record {
     next-is = refl;
     checked = λ s a h.
@@ -108,18 +108,18 @@ module _ (offset : ℕ) {x : Kinded} where
       → found-as names ≡ merged (found-as (x .names)) (found-as (y .names))
       → inside ≡ merged (found-as (x .kinds)) (found-as (y .kinds)) → found-as kinds ≡ merged here inside
       → Applied-checked offset x y (record { next = y .next; kind = kind; names = names; kinds = kinds })
-  unfolding kind-of expression-names expression-kinds
+  unfolding kind-of expression-name-faults expression-kind-faults
   applied f u o n i m = record {
     next-is = refl;
     checked = λ s p a b g h.
         let e = f .fits (kind-of s a) (kind-of s b) (g .kind) (h .kind) in
         record {
           kind = o .is (kind-of s a) (kind-of s b) (g .kind) (h .kind);
-          names = found-both (expression-names s a) (expression-names s b) n (g .names) (h .names);
-          kinds = found-both _ (expression-kinds s a ++ expression-kinds s b) m (unless-same _ offset u e)
-              (found-both (expression-kinds s a) (expression-kinds s b) i (g .kinds) (h .kinds))
-              ∙ ap earliest (sym (append-assoc (fault-unless (operands-fit (kind-of s a) (kind-of s b)) 18 offset) (expression-kinds s a)
-              (expression-kinds s b)));
+          names = found-both (expression-name-faults s a) (expression-name-faults s b) n (g .names) (h .names);
+          kinds = found-both _ (expression-kind-faults s a ++ expression-kind-faults s b) m (unless-same _ offset u e)
+              (found-both (expression-kind-faults s a) (expression-kind-faults s b) i (g .kinds) (h .kinds))
+              ∙ ap earliest (sym (append-assoc (fault-unless (operands-fit (kind-of s a) (kind-of s b)) 18 offset) (expression-kind-faults s a)
+              (expression-kind-faults s b)));
         };
   }
 
@@ -131,13 +131,13 @@ nothing-found = record { next-is = refl; part = record { names-found = found-not
 pub matched : {kind offset : ℕ} {e : Kinded} {fit : Bool} {here : Option Fault} {kinds : Found} → Kinds-fit kind (e .kind) fit
     → here ≡ earliest (fault-unless fit 18 offset) → found-as kinds ≡ merged here (found-as (e .kinds))
     → Matched kind offset e (record { next = e .next; names = e .names; kinds = kinds })
-unfolding matched-kinds
+unfolding matched-kind-faults
 matched {offset = offset} f u m = record {
   next-is = refl;
   part = λ s k a p h.
       record {
         names-found = h .names;
-        kinds-found = found-both _ (expression-kinds s a) m (unless-same _ offset u (f .fits k (kind-of s a) p (h .kind))) (h .kinds);
+        kinds-found = found-both _ (expression-kind-faults s a) m (unless-same _ offset u (f .fits k (kind-of s a) p (h .kind))) (h .kinds);
       };
 }
 

@@ -8,7 +8,7 @@ use lib.ListN.{getElem?}
 use Rattle.text.specs.Syntax.{Member, Interface, Entity, Rule, File}
 use Rattle.text.proofs.ListLaws.{flatMap-empty, number-member}
 use Rattle.text.proofs.SpotLaws.{stands-below}
-use Rattle.checking.specs.CountFaults.{count-faults, interface-counts}
+use Rattle.checking.specs.CountFaults.{count-faults, interface-count-faults}
 use Rattle.checking.proofs.AcceptedLaws.{within, counted}
 
 module _ (f : File) (none : count-faults f ≡ []) where
@@ -16,11 +16,11 @@ module _ (f : File) (none : count-faults f ≡ []) where
   few-interfaces k e = omega (arith, stands-below (f .interfaces) k e, within 16 (λ (i : Interface). i .at) (f .interfaces) (counted f none .0))
 
   pub few-members : (k j : ℕ) (i : Interface) {m : Member} → getElem? (f .interfaces) k ≡ some i → getElem? (i .members) j ≡ some m → j < 12
-  unfolding interface-counts
+  unfolding interface-count-faults
   few-members k j i e g = omega (
     arith,
     stands-below (i .members) j g,
-    within 12 (λ (m : Member). m .at) (i .members) (flatMap-empty interface-counts (f .interfaces) (counted f none .1) (number-member (f .interfaces) k e)),
+    within 12 (λ (m : Member). m .at) (i .members) (flatMap-empty interface-count-faults (f .interfaces) (counted f none .1) (number-member (f .interfaces) k e)),
   )
 
   pub few-entities : (k : ℕ) {x : Entity} → getElem? (f .entities) k ≡ some x → k < 32

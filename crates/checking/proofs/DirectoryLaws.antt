@@ -13,7 +13,7 @@ use Rattle.text.specs.Tokens.{Token}
 use Rattle.text.specs.Syntax.{Name, Member, Interface, Entity}
 use Rattle.text.specs.Grammar.{name-of}
 use Rattle.text.proofs.ListLaws.{none-some}
-use Rattle.checking.specs.Scope.{Found, here-or-later, look-up}
+use Rattle.checking.specs.Scope.{Indexed, here-or-later, look-up}
 use Rattle.checking.specs.Directory.{
   name-in,
   Columns-of,
@@ -86,7 +86,7 @@ module _ (test : ℕ → Bool) (other k n : ℕ) where
 
 module _ {A : Type 0} (name-of : A → Name) (n : List ℕ) (test : ℕ → Bool) (other : ℕ) where
   -- the number of what is found, with those before it
-  unfoldable pub after : ℕ → Option (Found A) → ℕ
+  unfoldable pub after : ℕ → Option (Indexed A) → ℕ
   after k none = other
   after k (some f) = k + f .number
 
@@ -101,7 +101,7 @@ module _ {A : Type 0} (name-of : A → Name) (n : List ℕ) (test : ℕ → Bool
       next : (j : ℕ) → k + 1 + j ≡ k + suc j
       next j = omega arith
 
-      go : (b : Bool) → test k ≡ b → (o : Option (Found A)) → first-number test other (k + 1) (length xs) ≡ after (k + 1) o
+      go : (b : Bool) → test k ≡ b → (o : Option (Indexed A)) → first-number test other (k + 1) (length xs) ≡ after (k + 1) o
           → first-number test other k (suc (length xs)) ≡ after k (here-or-later b x o)
       go true e o r = rw (e, first-number) (sym (add-zero k))
       go false e none r = rw (e, first-number) r
@@ -115,7 +115,7 @@ module _ {A : Type 0} (name-of : A → Name) (n : List ℕ) (test : ℕ → Bool
       zero-plus : (j : ℕ) → 0 + j ≡ j
       zero-plus j = omega arith
 
-      same : (o : Option (Found A)) → after 0 o ≡ number-or other o
+      same : (o : Option (Indexed A)) → after 0 o ≡ number-or other o
       same none = refl
       same (some f) = zero-plus (f .number)
 

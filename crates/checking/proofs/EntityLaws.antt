@@ -14,9 +14,9 @@ use Rattle.checking.specs.declared.faults.Faulted.{Faulted}
 use Rattle.checking.specs.declared.entities.Assigned.{Assigned}
 use Rattle.checking.specs.Faults.{Fault, fault-unless, earliest}
 use Rattle.checking.specs.FoundFaults.{found-as, merged}
-use Rattle.checking.specs.Scope.{Found as Numbered, look-up, item-of, is-found, is-attribute, interface-named}
-use Rattle.checking.specs.NameFaults.{again-faults, interface-faults, member-faults, unset-faults, entity-names}
-use Rattle.checking.specs.KindFaults.{entity-kinds}
+use Rattle.checking.specs.Scope.{Indexed as Numbered, look-up, item-of, is-found, is-attribute, interface-named}
+use Rattle.checking.specs.NameFaults.{again-faults, interface-faults, member-faults, unset-faults, entity-name-faults}
+use Rattle.checking.specs.KindFaults.{entity-kind-faults}
 use Rattle.checking.specs.Directory.{Bench, number-or, interface-number}
 use Rattle.checking.specs.DeclarationWalk.{
   Repeated-rows,
@@ -72,16 +72,16 @@ module _ {text classes offsets lengths d : List ℕ} (e : ℕ) {p face : ℕ} (a
     face-named : getElem? (w .file .interfaces) face ≡ interface-named (w .file) (x .interface .bytes)
     face-named = ap (getElem? (w .file .interfaces)) face-number ∙ numbered-interface (w .file) (x .interface .bytes) (few .interfaces)
 
-    kinds-told : found-as (set .kinds) ≡ earliest (entity-kinds (w .file) x)
-    unfolding entity-kinds
+    kinds-told : found-as (set .kinds) ≡ earliest (entity-kind-faults (w .file) x)
+    unfolding entity-kind-faults
     kinds-told = rw face-named at (assigned .kinds body)
 
     module _ {offset : ℕ} {known two three names : Option Fault} (o : offset ≡ getD offsets (p + 3) 0)
         (k : known ≡ earliest (fault-unless (ltb face 16) 16 offset)) {unset : Found}
         (u : Unset-found text classes offsets lengths d face (p + 5) (set .end) unset) (f : two ≡ merged known (found-as (set .again)))
         (g : three ≡ merged two (found-as (set .members))) (h : names ≡ merged three (found-as unset)) where
-      names-told : names ≡ earliest (entity-names (w .file) x)
-      unfolding entity-names interface-faults
+      names-told : names ≡ earliest (entity-name-faults (w .file) x)
+      unfolding entity-name-faults interface-faults
       names-told =
           h
           ∙ ap₂ merged
@@ -127,13 +127,13 @@ entity-beyond {e = e} {r = r} h = record { names = λ w few x s. none-there w fe
 
 abbrev pub Names-left : List ℕ → List ℕ → List ℕ → List ℕ → List ℕ → Option Fault → ℕ → Type 0
 Names-left text classes offsets lengths d =
-    Items-left {W = Within text classes offsets lengths d} (λ w. w .bench .file .entities) (λ w. entity-names (w .bench .file))
-    (λ w. again-faults (map (λ e. e .name) (w .bench .file .entities)) ++ flatMap (entity-names (w .bench .file)) (w .bench .file .entities))
+    Items-left {W = Within text classes offsets lengths d} (λ w. w .bench .file .entities) (λ w. entity-name-faults (w .bench .file))
+    (λ w. again-faults (map (λ e. e .name) (w .bench .file .entities)) ++ flatMap (entity-name-faults (w .bench .file)) (w .bench .file .entities))
 
 abbrev pub Kinds-left : List ℕ → List ℕ → List ℕ → List ℕ → List ℕ → Option Fault → ℕ → Type 0
 Kinds-left text classes offsets lengths d =
-    Items-left {W = Within text classes offsets lengths d} (λ w. w .bench .file .entities) (λ w. entity-kinds (w .bench .file))
-    (λ w. flatMap (entity-kinds (w .bench .file)) (w .bench .file .entities))
+    Items-left {W = Within text classes offsets lengths d} (λ w. w .bench .file .entities) (λ w. entity-kind-faults (w .bench .file))
+    (λ w. flatMap (entity-kind-faults (w .bench .file)) (w .bench .file .entities))
 
 -- what is found in the first k entities
 pub record Walked (text classes offsets lengths d : List ℕ) (names kinds : Found) (k : ℕ) : Type 0 where
@@ -146,11 +146,11 @@ module _ {text classes offsets lengths d : List ℕ} {count : ℕ} (c : count �
   walked-none h e = record {
     names-left = record {
       left = λ w.
-          left-second (again-faults (map (λ e. e .name) (w .bench .file .entities))) (flatMap (entity-names (w .bench .file)) (w .bench .file .entities))
+          left-second (again-faults (map (λ e. e .name) (w .bench .file .entities))) (flatMap (entity-name-faults (w .bench .file)) (w .bench .file .entities))
           (repeated-items (w .bench) (λ (x : Entity). x .name) (w .bench .file .entities) 227 h (w .bench .directory .entity-name)
           (c ∙ w .bench .directory .entities) (w .few .entities));
     };
-    kinds-left = record { left = λ w. left-all (flatMap (entity-kinds (w .bench .file)) (w .bench .file .entities)) e };
+    kinds-left = record { left = λ w. left-all (flatMap (entity-kind-faults (w .bench .file)) (w .bench .file .entities)) e };
   }
 
   module _ {names kinds : Found} {k : ℕ} (p : Walked text classes offsets lengths d names kinds k) where
@@ -159,19 +159,19 @@ module _ {text classes offsets lengths d : List ℕ} {count : ℕ} (c : count �
         → Walked text classes offsets lengths d names′ kinds′ (k + 1)
     walked-next m h f g = record {
       names-left =
-          items-next (λ w. w .bench .file .entities) (λ w. entity-names (w .bench .file)) _ (p .names-left)
+          items-next (λ w. w .bench .file .entities) (λ w. entity-name-faults (w .bench .file)) _ (p .names-left)
           (λ w. let z = w .bench .directory .entities in omega arith) (λ w. h .names (w .bench) (w .few)) f;
       kinds-left =
-          items-next (λ w. w .bench .file .entities) (λ w. entity-kinds (w .bench .file)) _ (p .kinds-left)
+          items-next (λ w. w .bench .file .entities) (λ w. entity-kind-faults (w .bench .file)) _ (p .kinds-left)
           (λ w. let z = w .bench .directory .entities in omega arith) (λ w. h .kinds (w .bench) (w .few)) g;
     }
 
     pub walked-all : (count ≤ 32 → count ≤ k) → Entities-found text classes offsets lengths d (record { names = names; kinds = kinds })
     walked-all h = record {
       names = λ w few.
-          items-end (λ w. w .bench .file .entities) (λ w. entity-names (w .bench .file)) _ (p .names-left) all-passed (record { bench = w; few = few });
+          items-end (λ w. w .bench .file .entities) (λ w. entity-name-faults (w .bench .file)) _ (p .names-left) all-passed (record { bench = w; few = few });
       kinds = λ w few.
-          items-end (λ w. w .bench .file .entities) (λ w. entity-kinds (w .bench .file)) _ (p .kinds-left) all-passed (record { bench = w; few = few });
+          items-end (λ w. w .bench .file .entities) (λ w. entity-kind-faults (w .bench .file)) _ (p .kinds-left) all-passed (record { bench = w; few = few });
     }
       where
         all-passed : (w : Within text classes offsets lengths d) → length (w .bench .file .entities) ≤ k

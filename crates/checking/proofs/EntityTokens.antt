@@ -10,7 +10,7 @@ use lib.ListN.{getD, getElem?, drop}
 use borrow.Author.Tests.{eq-eqb}
 use Rattle.text.specs.Tokens.{Token, NAME, WHOLE-NUMBER, REAL-NUMBER, ENTITY, TRUE, FALSE, BRACE-OPEN, BRACE-CLOSE, COLON, EQUALS, MINUS}
 use Rattle.text.specs.Syntax.{Literal, truth, whole-number, real-number, literal-kind, Assignment, Entity}
-use Rattle.text.specs.Readers.{read, Reader, give, expect, pick, next-is, if-next, and-then, many}
+use Rattle.text.specs.Readers.{read, Parser, give, expect, pick, next-is, if-next, and-then, many}
 use Rattle.text.specs.Grammar.{name-of, number-reader, literal-reader, assignment-after, entity-after}
 use Rattle.text.proofs.TreeLaws.{read-tree}
 use Rattle.text.proofs.SpotLaws.{read-count, Starts, expect-starts, and-then-parts}
@@ -20,7 +20,7 @@ use Rattle.checking.specs.DeclarationWalk.{literal-class, literal-end, B
 use Rattle.checking.proofs.SequenceLaws.{many-sequence}
 
 -- what is read by a choice is read by one of the two
-pub by-next : {A X : Type 0} (c : ℕ) (r s : Reader A) (us : List Token) {a : A} {n : ℕ} → if-next c r s us ≡ read a n → (r us ≡ read a n → X)
+pub by-next : {A X : Type 0} (c : ℕ) (r s : Parser A) (us : List Token) {a : A} {n : ℕ} → if-next c r s us ≡ read a n → (r us ≡ read a n → X)
     → (s us ≡ read a n → X) → X
 unfolding if-next pick
 by-next {A} {X} c r s us {a} {n} e f g = go (next-is c us) e
@@ -89,7 +89,7 @@ module _ {text classes offsets lengths : List ℕ} {ts : List Token} (columns : 
       (λ h. signed (expect-starts ts p MINUS (λ t. number-reader true) l n h)) λ h.
       plain-literal (number-stands false p h)
     where
-      signed-or-number : Reader Literal
+      signed-or-number : Parser Literal
       signed-or-number = if-next MINUS (expect MINUS λ t. number-reader true) (number-reader false)
 
       signed : (s : Starts ts p MINUS (λ t. number-reader true) l) × (suc (s .used) ≡ n) → Literal-of classes p l n
@@ -112,7 +112,7 @@ module _ {text classes offsets lengths : List ℕ} {ts : List Token} (columns : 
       make : Token → Literal → Assignment
       make e l = record { name = name-of (b .token); equals-at = e .at; literal = l }
 
-      tail : Token → Reader Assignment
+      tail : Token → Parser Assignment
       tail e = and-then literal-reader λ l. give (make e l)
 
       by-literal : (e : Token) (n : ℕ) → getElem? ts (q + 1) ≡ some e → suc n ≡ b .used
@@ -151,19 +151,19 @@ entity-stands {ts} {p} {x} b = by-name (expect-starts ts (p + 1) NAME after-name
     make : Token → Token → List Assignment → Token → Entity
     make n i set c = record { at = b .token .at; name = name-of n; interface = name-of i; assignments = set; close-at = c .at }
 
-    close : Token → Token → List Assignment → Reader Entity
+    close : Token → Token → List Assignment → Parser Entity
     close n i set = expect BRACE-CLOSE λ c. give (make n i set c)
 
-    assignments : Token → Token → Token → Reader Entity
+    assignments : Token → Token → Token → Parser Entity
     assignments n i o = and-then (many NAME assignment-after) λ set. close n i set
 
-    after-interface : Token → Token → Reader Entity
+    after-interface : Token → Token → Parser Entity
     after-interface n i = expect BRACE-OPEN (assignments n i)
 
-    after-colon : Token → Token → Reader Entity
+    after-colon : Token → Token → Parser Entity
     after-colon n t = expect NAME (after-interface n)
 
-    after-name : Token → Reader Entity
+    after-name : Token → Parser Entity
     after-name n = expect COLON (after-colon n)
 
     by-close : (n i : Token) (set : List Assignment) (q : ℕ) → getElem? ts (suc (suc (p + 1))) ≡ some i → Sequence ts NAME assignment-after (p + 5) q set

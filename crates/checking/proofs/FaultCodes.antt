@@ -31,48 +31,48 @@ use Rattle.text.specs.Syntax.{
   Rule,
   File,
 }
-use Rattle.text.specs.Parse.{Parsing, grammatical, ungrammatical-at, parse}
+use Rattle.text.specs.Parse.{Parse-verdict, grammatical, ungrammatical-at, parse}
 use Rattle.values.specs.declared.Kind.{Kind}
 use Rattle.checking.specs.Faults.{Fault, fault, fault-unless, earlier, earliest}
 use Rattle.checking.specs.Scope.{clauses, Scope, scope-of, variables, interface-named, interface-in, is-attribute, is-action, is-event, is-member}
-use Rattle.checking.specs.CountFaults.{beyond, interface-counts, rule-counts, count-faults}
+use Rattle.checking.specs.CountFaults.{beyond, interface-count-faults, rule-count-faults, count-faults}
 use Rattle.checking.specs.NameFaults.{
   repeated-faults,
   again-faults,
   interface-faults,
   member-faults,
-  interface-names,
+  interface-name-faults,
   attribute-faults,
   unset-faults,
-  entity-names,
-  name-faults-at,
-  expression-names,
+  entity-name-faults,
+  unknown-name-faults,
+  expression-name-faults,
   variable-faults,
   declaration-faults,
-  target-names,
-  filter-names,
-  test-names,
-  clause-names,
-  call-names,
-  rule-names,
+  target-name-faults,
+  filter-name-faults,
+  test-name-faults,
+  clause-name-faults,
+  call-name-faults,
+  rule-name-faults,
   name-faults,
 }
 use Rattle.checking.specs.KindFaults.{
-  expression-kinds,
-  matched-kinds,
-  assignment-kinds,
-  entity-kinds,
-  filter-kinds,
-  test-kinds,
-  clause-kinds,
-  call-kinds,
-  rule-kinds,
+  expression-kind-faults,
+  matched-kind-faults,
+  assignment-kind-faults,
+  entity-kind-faults,
+  filter-kind-faults,
+  test-kind-faults,
+  clause-kind-faults,
+  call-kind-faults,
+  rule-kind-faults,
   kind-faults,
 }
 use Rattle.checking.specs.Verdict.{
   Verdict,
   accepted,
-  refused,
+  refused-at,
   refused-by,
   file-verdict,
   parsing-verdict,
@@ -89,7 +89,7 @@ module _ (P : ℕ → Type 0) where
   -- of a verdict: an acceptance has no code
   abbrev pub Refused-by-code : Verdict → Type 0
   Refused-by-code (accepted f) = Unit {0}
-  Refused-by-code (refused code at) = P code
+  Refused-by-code (refused-at code at) = P code
 
   coded-append : {xs ys : List Fault} → Coded xs → Coded ys → Coded (xs ++ ys)
   coded-append coded-none q = q
@@ -143,7 +143,7 @@ module _ (P : ℕ → Type 0) where
         go (x ∷ xs) = coded-more fourteen (go xs)
 
     count-codes : (f : File) → Coded (count-faults f)
-    unfolding count-faults interface-counts rule-counts
+    unfolding count-faults interface-count-faults rule-count-faults
     count-codes f = search (coded-append, coded-each, coded-beyond) depth 20
 
   -- ---- 15, 16, 17
@@ -168,12 +168,12 @@ module _ (P : ℕ → Type 0) where
     unfolding interface-faults
     interface-codes f n = search (coded-unless, sixteen)
 
-    entity-codes : (f : File) (e : Entity) → Coded (entity-names f e)
-    unfolding entity-names again-faults
+    entity-codes : (f : File) (e : Entity) → Coded (entity-name-faults f e)
+    unfolding entity-name-faults again-faults
     entity-codes f e = search (coded-append, coded-each, interface-codes, repeated-codes, member-codes, unset-codes) depth 20
 
-    expression-codes : (s : Scope) (a : Expression) → Coded (expression-names s a)
-    unfolding expression-names name-faults-at
+    expression-codes : (s : Scope) (a : Expression) → Coded (expression-name-faults s a)
+    unfolding expression-name-faults unknown-name-faults
     expression-codes s (literal l) = coded-none
     expression-codes s (member n m) = search (coded-append, coded-unless, sixteen, member-codes)
     expression-codes s (to-real at a) = expression-codes s a
@@ -181,41 +181,41 @@ module _ (P : ℕ → Type 0) where
     expression-codes s (apply o at a b) = coded-append (expression-codes s a) (expression-codes s b)
 
     declaration-codes : (s : Scope) (n : Name) (o : Option Name) → Coded (declaration-faults s n o)
-    unfolding declaration-faults name-faults-at variable-faults
+    unfolding declaration-faults unknown-name-faults variable-faults
     declaration-codes s n none = search (coded-unless, sixteen)
     declaration-codes s n (some i) = search (coded-append, coded-unless, fifteen, interface-codes)
 
-    filter-codes : (s : Scope) (t : Target) (o : Option Filter) → Coded (filter-names s t o)
-    unfolding filter-names
+    filter-codes : (s : Scope) (t : Target) (o : Option Filter) → Coded (filter-name-faults s t o)
+    unfolding filter-name-faults
     filter-codes s t none = coded-none
     filter-codes s t (some g) = coded-append (member-codes is-attribute (interface-in s (t .name .bytes)) (g .attribute)) (expression-codes s (g .expression))
 
-    test-codes : (s : Scope) (t : Test) → Coded (test-names s t)
-    unfolding test-names
+    test-codes : (s : Scope) (t : Test) → Coded (test-name-faults s t)
+    unfolding test-name-faults
     test-codes s changed = coded-none
     test-codes s (equals at a) = expression-codes s a
 
-    clause-codes : (s : Scope) (c : Clause) → Coded (clause-names s c)
-    unfolding clause-names target-names
+    clause-codes : (s : Scope) (c : Clause) → Coded (clause-name-faults s c)
+    unfolding clause-name-faults target-name-faults
     clause-codes s c = search (coded-append, member-codes, declaration-codes, filter-codes, test-codes) depth 20
 
-    call-codes : (s : Scope) (c : Call) → Coded (call-names s c)
-    unfolding call-names target-names
+    call-codes : (s : Scope) (c : Call) → Coded (call-name-faults s c)
+    unfolding call-name-faults target-name-faults
     call-codes s c = search (coded-append, member-codes, expression-codes, declaration-codes, filter-codes) depth 20
 
-    rule-codes : (f : File) (r : Rule) → Coded (rule-names f r)
-    unfolding rule-names again-faults
+    rule-codes : (f : File) (r : Rule) → Coded (rule-name-faults f r)
+    unfolding rule-name-faults again-faults
     rule-codes f r = search (coded-append, coded-each, repeated-codes, clause-codes, call-codes) depth 20
 
     name-codes : (f : File) → Coded (name-faults f)
-    unfolding name-faults interface-names again-faults
+    unfolding name-faults interface-name-faults again-faults
     name-codes f = search (coded-append, coded-each, repeated-codes, entity-codes, rule-codes) depth 20
 
   -- ---- 18
 
   module _ (eighteen : P 18) where
-    expression-kind-codes : (s : Scope) (a : Expression) → Coded (expression-kinds s a)
-    unfolding expression-kinds
+    expression-kind-codes : (s : Scope) (a : Expression) → Coded (expression-kind-faults s a)
+    unfolding expression-kind-faults
     expression-kind-codes s (literal l) = coded-none
     expression-kind-codes s (member n m) = coded-none
     expression-kind-codes s (to-real at a) = let inside = expression-kind-codes s a in search (coded-append, coded-unless, eighteen, inside)
@@ -225,33 +225,33 @@ module _ (P : ℕ → Type 0) where
         let right = expression-kind-codes s b in
         search (coded-append, coded-unless, eighteen, left, right)
 
-    matched-codes : (s : Scope) (k : Option Kind) (at : ℕ) (a : Expression) → Coded (matched-kinds s k at a)
-    unfolding matched-kinds
+    matched-codes : (s : Scope) (k : Option Kind) (at : ℕ) (a : Expression) → Coded (matched-kind-faults s k at a)
+    unfolding matched-kind-faults
     matched-codes s k at a = search (coded-append, coded-unless, eighteen, expression-kind-codes)
 
-    assignment-codes : (o : Option Interface) (a : Assignment) → Coded (assignment-kinds o a)
-    unfolding assignment-kinds
+    assignment-codes : (o : Option Interface) (a : Assignment) → Coded (assignment-kind-faults o a)
+    unfolding assignment-kind-faults
     assignment-codes o a = search (coded-unless, eighteen)
 
-    filter-kind-codes : (s : Scope) (t : Target) (o : Option Filter) → Coded (filter-kinds s t o)
-    unfolding filter-kinds
+    filter-kind-codes : (s : Scope) (t : Target) (o : Option Filter) → Coded (filter-kind-faults s t o)
+    unfolding filter-kind-faults
     filter-kind-codes s t none = coded-none
     filter-kind-codes s t (some g) = search (matched-codes)
 
-    test-kind-codes : (s : Scope) (k : Option Kind) (t : Test) → Coded (test-kinds s k t)
-    unfolding test-kinds
+    test-kind-codes : (s : Scope) (k : Option Kind) (t : Test) → Coded (test-kind-faults s k t)
+    unfolding test-kind-faults
     test-kind-codes s k changed = coded-none
     test-kind-codes s k (equals at a) = matched-codes s k at a
 
     kind-codes : (f : File) → Coded (kind-faults f)
-    unfolding kind-faults entity-kinds rule-kinds clause-kinds call-kinds
+    unfolding kind-faults entity-kind-faults rule-kind-faults clause-kind-faults call-kind-faults
     kind-codes f = search (coded-append, coded-each, assignment-codes, matched-codes, filter-kind-codes, test-kind-codes) depth 20
 
   pub verdict-code : P 11 → P 12 → P 13 → P 14 → P 15 → P 16 → P 17 → P 18 → (text : List ℕ) → Refused-by-code (verdict text)
   unfolding verdict lexing-verdict parsing-verdict file-verdict
   verdict-code p11 p12 p13 p14 p15 p16 p17 p18 text = by-length (leb (length text) MOST-BYTES)
     where
-      by-file : (p : Parsing) → Refused-by-code (parsing-verdict p)
+      by-file : (p : Parse-verdict) → Refused-by-code (parsing-verdict p)
       by-file (grammatical f) =
           earliest-code (count-faults f) _ (count-codes p14 f)
           (earliest-code (name-faults f) _ (name-codes p15 p16 p17 f)
@@ -263,6 +263,6 @@ module _ (P : ℕ → Type 0) where
       by-tokens (no-token-at at) = p12
 
       by-length : (b : Bool)
-          → Refused-by-code (elim b [ true ↦ lexing-verdict (length text) (tokens-of text) | false ↦ refused 11 MOST-BYTES ])
+          → Refused-by-code (elim b [ true ↦ lexing-verdict (length text) (tokens-of text) | false ↦ refused-at 11 MOST-BYTES ])
       by-length true = by-tokens (tokens-of text)
       by-length false = p11

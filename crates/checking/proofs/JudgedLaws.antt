@@ -13,7 +13,7 @@ use Rattle.checking.specs.declared.faults.Found.{Found}
 use Rattle.checking.specs.declared.faults.Faulted.{Faulted}
 use Rattle.checking.specs.Faults.{Fault, earliest}
 use Rattle.checking.specs.FoundFaults.{found-as}
-use Rattle.checking.specs.CountFaults.{interface-counts, count-faults}
+use Rattle.checking.specs.CountFaults.{interface-count-faults, count-faults}
 use Rattle.checking.specs.NameFaults.{name-faults}
 use Rattle.checking.specs.KindFaults.{kind-faults}
 use Rattle.checking.specs.Verdict.{Verdict, accepted, refused-by, file-verdict}
@@ -31,11 +31,11 @@ use Rattle.checking.proofs.DirectoryParts.{columns-classes, columns-off
 
 module _ (f : File) (h : count-faults f ≡ []) where
   pub counted-few : Few f
-  unfolding interface-counts
+  unfolding interface-count-faults
   counted-few = record {
     interfaces = within 16 (λ (i : Interface). i .at) (f .interfaces) (counted f h .0);
     members = λ k i e.
-        within 12 (λ (m : Member). m .at) (i .members) (flatMap-empty interface-counts (f .interfaces) (counted f h .1) (number-member (f .interfaces) k e));
+        within 12 (λ (m : Member). m .at) (i .members) (flatMap-empty interface-count-faults (f .interfaces) (counted f h .1) (number-member (f .interfaces) k e));
     entities = within 32 (λ (e : Entity). e .at) (f .entities) (counted f h .2);
   }
 

@@ -19,7 +19,7 @@ use Rattle.checking.specs.declared.faults.Found.{Found as Fault-found}
 use Rattle.checking.specs.Faults.{Fault, fault-unless, earliest}
 use Rattle.checking.specs.FoundFaults.{found-as, merged}
 use Rattle.checking.specs.Scope.{
-  Found,
+  Indexed,
   here-or-later,
   look-up,
   item-of,
@@ -83,17 +83,17 @@ module _ {A : Type 0} (name : A → Name) (n : List ℕ) (xs : List A) (most : �
   unfolding number-or
   number-none h = go (look-up name n xs) refl h
     where
-      go : (o : Option (Found A)) → look-up name n xs ≡ o → most ≤ number-or most o → look-up name n xs ≡ none
+      go : (o : Option (Indexed A)) → look-up name n xs ≡ o → most ≤ number-or most o → look-up name n xs ≡ none
       go none e h = e
       go (some f) e h = let b = number-below xs (f .number) (found-at name n xs e) in absurd (omega arith)
 
   pub number-some : number-or most (look-up name n xs) < most
-      → (f : Found A) × (look-up name n xs ≡ some f) × (f .number ≡ number-or most (look-up name n xs))
+      → (f : Indexed A) × (look-up name n xs ≡ some f) × (f .number ≡ number-or most (look-up name n xs))
   unfolding number-or
   number-some h = go (look-up name n xs) refl h
     where
-      go : (o : Option (Found A)) → look-up name n xs ≡ o → number-or most o < most
-          → (f : Found A) × (look-up name n xs ≡ some f) × (f .number ≡ number-or most o)
+      go : (o : Option (Indexed A)) → look-up name n xs ≡ o → number-or most o < most
+          → (f : Indexed A) × (look-up name n xs ≡ some f) × (f .number ≡ number-or most o)
       go none e h = absurd (omega arith)
       go (some f) e h = (f, e, refl)
 
@@ -102,7 +102,7 @@ module _ {A : Type 0} (name : A → Name) (n : List ℕ) (xs : List A) (most : �
   unfolding number-or item-of
   number-item = go (look-up name n xs) refl
     where
-      go : (o : Option (Found A)) → look-up name n xs ≡ o → getElem? xs (number-or most o) ≡ item-of o
+      go : (o : Option (Indexed A)) → look-up name n xs ≡ o → getElem? xs (number-or most o) ≡ item-of o
       go none e = number-beyond xs most few
       go (some f) e = found-at name n xs e
 
@@ -111,7 +111,7 @@ module _ {A : Type 0} (name : A → Name) (n : List ℕ) (xs : List A) (most : �
   unfolding number-or is-found
   number-is-found = go (look-up name n xs) refl
     where
-      go : (o : Option (Found A)) → look-up name n xs ≡ o → ltb (number-or most o) most ≡ is-found o
+      go : (o : Option (Indexed A)) → look-up name n xs ≡ o → ltb (number-or most o) most ≡ is-found o
       go none e = le-ltb most most (omega arith)
       go (some f) e =
           let b = number-below xs (f .number) (found-at name n xs e) in
@@ -122,7 +122,7 @@ module _ {A : Type 0} (name : A → Name) (n : List ℕ) (xs : List A) (most : �
   unfolding number-or is-found
   number-not-found = go (look-up name n xs) refl
     where
-      go : (o : Option (Found A)) → look-up name n xs ≡ o → leb most (number-or most o) ≡ not (is-found o)
+      go : (o : Option (Indexed A)) → look-up name n xs ≡ o → leb most (number-or most o) ≡ not (is-found o)
       go none e = le-leb most most (omega arith)
       go (some f) e =
           let b = number-below xs (f .number) (found-at name n xs e) in
@@ -165,12 +165,12 @@ module _ {text classes offsets lengths d : List ℕ} where
 
 -- the first declaration of a name, as a number and as a variable
 module _ (text offsets lengths : List ℕ) (size bound i : ℕ) where
-  look : List ℕ → Option (Found Variable)
+  look : List ℕ → Option (Indexed Variable)
   look ns = variable-named (map (variable-row text offsets lengths) ns) (name-in text offsets lengths i)
 
-  data Alike (o : Option (Found Variable)) (r : ℕ) : Type 0 where
+  data Alike (o : Option (Indexed Variable)) (r : ℕ) : Type 0 where
     missing : o ≡ none → r ≡ size → Alike o r
-    present : (f : Found Variable) → o ≡ some f → f .item ≡ variable-row text offsets lengths r → r < bound → Alike o r
+    present : (f : Indexed Variable) → o ≡ some f → f .item ≡ variable-row text offsets lengths r → r < bound → Alike o r
 
   alike : {ns : List ℕ} → Between 0 bound ns → Alike (look ns) (first-alike text offsets lengths size i ns)
   unfolding look variable-named look-up first-alike here-or-later
@@ -189,7 +189,7 @@ face-named : (f : File) (n : List ℕ) → length (f .interfaces) ≤ 16 → get
 unfolding interface-number interface-named
 face-named f n few = number-item (λ (i : Interface). i .name) n (f .interfaces) 16 few
 
-module _ (s : Scope) (n : List ℕ) {o : Option (Found Entity)} {v : Option (Found Variable)} (p : entity-named (s .file) n ≡ o)
+module _ (s : Scope) (n : List ℕ) {o : Option (Indexed Entity)} {v : Option (Indexed Variable)} (p : entity-named (s .file) n ≡ o)
     (q : variable-named (s .variables) n ≡ v) where
   known-by : is-known s n ≡ entity-or-variable o v
   unfolding is-known
@@ -206,7 +206,7 @@ module _ {text classes offsets lengths d : List ℕ} {start : ℕ} (i : ℕ) {e 
     unfolding entity-number entity-named
     entity-number-is = g .is classes (c .bench) (c .few .entities)
 
-    pub entity-here : e < 32 → (f : Found Entity) × (entity-named (c .bench .file) (name-in text offsets lengths i) ≡ some f) × (f .number ≡ e)
+    pub entity-here : e < 32 → (f : Indexed Entity) × (entity-named (c .bench .file) (name-in text offsets lengths i) ≡ some f) × (f .number ≡ e)
     unfolding entity-named
     entity-here h =
         let (f, p, q) = number-some (λ (x : Entity). x .name) (name-in text offsets lengths i) (c .bench .file .entities) 32 (c .few .entities)
@@ -223,12 +223,12 @@ module _ {text classes offsets lengths d : List ℕ} {start : ℕ} (i : ℕ) {e 
   entity-meant h {face} q = record { known = λ c. known c (entity-here c h); face = λ c. meant c (entity-here c h) }
     where
       known : (c : Rule-world text classes offsets lengths d start)
-          → (f : Found Entity) × (entity-named (c .bench .file) (name-in text offsets lengths i) ≡ some f) × (f .number ≡ e)
+          → (f : Indexed Entity) × (entity-named (c .bench .file) (name-in text offsets lengths i) ≡ some f) × (f .number ≡ e)
           → true ≡ is-known (world-scope c) (name-in text offsets lengths i)
       known c (f, p, k) = sym (known-by (world-scope c) (name-in text offsets lengths i) p refl)
 
       meant : (c : Rule-world text classes offsets lengths d start)
-          → (f : Found Entity) × (entity-named (c .bench .file) (name-in text offsets lengths i) ≡ some f) × (f .number ≡ e)
+          → (f : Indexed Entity) × (entity-named (c .bench .file) (name-in text offsets lengths i) ≡ some f) × (f .number ≡ e)
           → getElem? (c .bench .file .interfaces) face ≡ interface-in (world-scope c) (name-in text offsets lengths i)
       meant c (f, p, k) =
           let here = ap (getElem? (c .bench .file .entities)) (sym k) ∙ entity-found (c .bench .file) (name-in text offsets lengths i) p in
@@ -358,7 +358,7 @@ module _ {text classes offsets lengths d : List ℕ} {want : ℕ} (face i : ℕ)
       none-there w few e = let k = g .is classes w (few .members face) ∙ ap (λ o. member-number o (name-in text offsets lengths i)) e in omega arith
 
       found-in : (w : Bench text classes offsets lengths d) → Few (w .file) → (j : Interface) → getElem? (w .file .interfaces) face ≡ some j
-          → (f : Found Member) × (member-named j (name-in text offsets lengths i) ≡ some f) × (getElem? (j .members) m ≡ some (f .item))
+          → (f : Indexed Member) × (member-named j (name-in text offsets lengths i) ≡ some f) × (getElem? (j .members) m ≡ some (f .item))
       found-in w few j e =
           let k = g .is classes w (few .members face) ∙ ap (λ o. member-number o (name-in text offsets lengths i)) e in
           let (f, p, r) = number-some (λ (v : Member). v .name) (name-in text offsets lengths i) (j .members) 12 (few .members face j e) (rw k at h) in
@@ -369,7 +369,7 @@ module _ {text classes offsets lengths d : List ℕ} {want : ℕ} (face i : ℕ)
       kind-is w few none e = absurd (none-there w few e)
       kind-is w few (some j) e = on (found-in w few j e)
         where
-          on : (f : Found Member) × (member-named j (name-in text offsets lengths i) ≡ some f) × (getElem? (j .members) m ≡ some (f .item))
+          on : (f : Indexed Member) × (member-named j (name-in text offsets lengths i) ≡ some f) × (getElem? (j .members) m ≡ some (f .item))
               → kind ≡ kind-code (kind-if-found (member-named j (name-in text offsets lengths i)))
           on (f, p, r) = rw p (z .is text offsets lengths w j (f .item) e r)
 
@@ -378,7 +378,7 @@ module _ {text classes offsets lengths d : List ℕ} {want : ℕ} (face i : ℕ)
       faults w few none e = absurd (none-there w few e)
       faults w few (some j) e = on (found-in w few j e)
         where
-          on : (f : Found Member) × (member-named j (name-in text offsets lengths i) ≡ some f) × (getElem? (j .members) m ≡ some (f .item))
+          on : (f : Indexed Member) × (member-named j (name-in text offsets lengths i) ≡ some f) × (getElem? (j .members) m ≡ some (f .item))
               → earliest (fault-unless fits 16 (getD offsets i 0))
               ≡ earliest (fault-unless (is-of-sort (sort-wanted want) (member-named j (name-in text offsets lengths i))) 16 (getD offsets i 0))
           on (f, p, r) = rw p (ap (λ b. earliest (fault-unless b 16 (getD offsets i 0)))
@@ -390,7 +390,7 @@ entity-free : (f : File) (n : List ℕ) → length (f .entities) ≤ 32 → leb 
 unfolding entity-number entity-named
 entity-free f n few = number-not-found (λ (e : Entity). e .name) n (f .entities) 32 few
 
-item-found : {A : Type 0} (o : Option (Found A)) → is-found o ≡ is-found (item-of o)
+item-found : {A : Type 0} (o : Option (Indexed A)) → is-found o ≡ is-found (item-of o)
 unfolding is-found item-of
 item-found none = refl
 item-found (some f) = refl

@@ -9,18 +9,18 @@ use Rattle.text.specs.declared.reading.Syntax.the-variants.{File, TooLong, NoTo
 use Rattle.text.specs.TokenTable.{Token-columns}
 use Rattle.text.specs.Syntaxes.{Reads-text}
 use Rattle.text.proofs.SyntaxLaws.{said}
-use Rattle.checking.specs.Verdict.{Verdict, refused, file-verdict, parsing-verdict, lexing-verdict, MOST-BYTES, verdict}
+use Rattle.checking.specs.Verdict.{Verdict, refused-at, file-verdict, parsing-verdict, lexing-verdict, MOST-BYTES, verdict}
 
 module _ {text : List ℕ} {t u : Token-columns} {r : Syntax} (l : Reads-text text t u r) where
-  pub long-verdict : r ≡ TooLong → verdict text ≡ refused 11 32768
+  pub long-verdict : r ≡ TooLong → verdict text ≡ refused-at 11 32768
   unfolding verdict
   long-verdict e = rw (verdict, lt-leb (length text) MOST-BYTES (said l e))
 
-  pub bad-verdict : {p : ℕ} → r ≡ NoTokenAt p → verdict text ≡ refused 12 p
+  pub bad-verdict : {p : ℕ} → r ≡ NoTokenAt p → verdict text ≡ refused-at 12 p
   unfolding verdict lexing-verdict
   bad-verdict e = let h = said l e in rw (verdict, le-leb (length text) MOST-BYTES (h .allowed), h .lexed)
 
-  pub unfit-verdict : {p : ℕ} → r ≡ UnfitAt p → verdict text ≡ refused 13 p
+  pub unfit-verdict : {p : ℕ} → r ≡ UnfitAt p → verdict text ≡ refused-at 13 p
   unfolding verdict lexing-verdict parsing-verdict
   unfit-verdict e = let h = said l e in rw (verdict, le-leb (length text) MOST-BYTES (h .allowed), h .lexed, h .parses)
 

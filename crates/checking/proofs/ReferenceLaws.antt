@@ -15,7 +15,7 @@ use Rattle.text.specs.Syntax.{Entity}
 use Rattle.text.specs.Walks.{Steps}
 use Rattle.checking.specs.declared.meanings.Meaning.{Meaning}
 use Rattle.checking.specs.ClassSearch.{First-of}
-use Rattle.checking.specs.Scope.{Found, here-or-later, look-up, entity-named, Variable, variables, variable-named, Scope, scope-of}
+use Rattle.checking.specs.Scope.{Indexed, here-or-later, look-up, entity-named, Variable, variables, variable-named, Scope, scope-of}
 use Rattle.checking.specs.Directory.{name-in, entity-number, member-number}
 use Rattle.checking.specs.DirectoryReads.{Number-of, few-members}
 use Rattle.checking.specs.RuleParts.{Rule-world, world-scope, Meant}
@@ -36,7 +36,7 @@ module _ (text offsets lengths : List ℕ) (i : ℕ) where
       go true l = h
       go false l = l
 
-  unfoldable by-number : ℕ → Option (Found Variable) → ℕ
+  unfoldable by-number : ℕ → Option (Indexed Variable) → ℕ
   by-number k none = NO-REFERENCE
   by-number k (some v) = k + v .number
 
@@ -49,7 +49,7 @@ module _ (text offsets lengths : List ℕ) (i : ℕ) where
       go (same-bytes (name-in text offsets lengths i) (name-in text offsets lengths n))
       (variable-named (map (variable-row text offsets lengths) ns) (name-in text offsets lengths i)) (alike-number (k + 1) ns)
     where
-      go : (b : Bool) (o : Option (Found Variable)) → reference-alike text offsets lengths i (k + 1) ns ≡ by-number (k + 1) o
+      go : (b : Bool) (o : Option (Indexed Variable)) → reference-alike text offsets lengths i (k + 1) ns ≡ by-number (k + 1) o
           → alike-or b k (reference-alike text offsets lengths i (k + 1) ns) ≡ by-number k (here-or-later b (variable-row text offsets lengths n) o)
       go true o e = omega arith
       go false none e = e
@@ -121,7 +121,7 @@ module _ {text classes offsets lengths : List ℕ} {start i : ℕ} where
 
 -- ---- what a name refers to
 
-module _ (s : Scope) (n : List ℕ) {o : Option (Found Entity)} {v : Option (Found Variable)} (p : entity-named (s .file) n ≡ o)
+module _ (s : Scope) (n : List ℕ) {o : Option (Indexed Entity)} {v : Option (Indexed Variable)} (p : entity-named (s .file) n ≡ o)
     (q : variable-named (s .variables) n ≡ v) where
   referred-by : reference s n ≡ reference-by o v
   unfolding reference
@@ -134,7 +134,7 @@ module _ {text classes offsets lengths d : List ℕ} {start : ℕ} (i : ℕ) {e 
   entity-referred h = record { within = omega arith; is = λ c l. go c (entity-here i g c h) }
     where
       go : (c : Rule-world text classes offsets lengths d start)
-          → (f : Found Entity) × (entity-named (c .bench .file) (name-in text offsets lengths i) ≡ some f) × (f .number ≡ e)
+          → (f : Indexed Entity) × (entity-named (c .bench .file) (name-in text offsets lengths i) ≡ some f) × (f .number ≡ e)
           → e ≡ reference (world-scope c) (name-in text offsets lengths i)
       go c (f, p, k) = sym k ∙ sym (referred-by (world-scope c) (name-in text offsets lengths i) p refl)
 
@@ -150,7 +150,7 @@ module _ {text classes offsets lengths d : List ℕ} {start : ℕ} (i : ℕ) {e 
           ∙ ap (λ vs. by-number text offsets lengths i 32 (variable-named vs (name-in text offsets lengths i))) (world-variables c)
           ∙ sym (alike-number text offsets lengths i 32 (names-from classes start))
         where
-          by-32 : (o : Option (Found Variable)) → reference-by none o ≡ by-number text offsets lengths i 32 o
+          by-32 : (o : Option (Indexed Variable)) → reference-by none o ≡ by-number text offsets lengths i 32 o
           by-32 none = refl
           by-32 (some f) = refl
 

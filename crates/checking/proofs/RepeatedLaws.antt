@@ -16,7 +16,7 @@ use Rattle.text.proofs.SpotLaws.{stands-drop}
 use Rattle.checking.specs.declared.faults.Found.{Found}
 use Rattle.checking.specs.Faults.{Fault, fault-unless, earliest}
 use Rattle.checking.specs.FoundFaults.{found-as, merged}
-use Rattle.checking.specs.Scope.{Found as Numbered, look-up, is-found}
+use Rattle.checking.specs.Scope.{Indexed as Numbered, look-up, is-found}
 use Rattle.checking.specs.NameFaults.{repeated-faults, again-faults}
 use Rattle.checking.specs.Directory.{Named, Bench, number-or}
 use Rattle.checking.specs.DirectoryReads.{First-named}

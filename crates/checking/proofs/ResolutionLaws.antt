@@ -6,7 +6,7 @@ use mathlib.Core.List.{List}
 use mathlib.Core.Option.{Option, none, some}
 use lib.ListN.{length}
 use Rattle.text.specs.Syntax.{Entity}
-use Rattle.checking.specs.Scope.{Found, entity-named, Variable, variables, variable-named, scope-of}
+use Rattle.checking.specs.Scope.{Indexed, entity-named, Variable, variables, variable-named, scope-of}
 use Rattle.checking.specs.Directory.{name-in}
 use Rattle.checking.specs.RuleParts.{Rule-world, world-scope}
 use Rattle.checking.specs.Resolution.{reference-by, reference, Resolves}
@@ -19,7 +19,7 @@ module _ {text classes offsets lengths d : List ℕ} {start : ℕ} (c : Rule-wor
   unfolding reference reference-by scope-of variable-named
   reference-fits few n = go (entity-named (c .bench .file) n) refl (variable-named (variables (c .rule)) n) refl
     where
-      go : (o : Option (Found Entity)) → entity-named (c .bench .file) n ≡ o → (v : Option (Found Variable)) → variable-named (variables (c .rule)) n ≡ v
+      go : (o : Option (Indexed Entity)) → entity-named (c .bench .file) n ≡ o → (v : Option (Indexed Variable)) → variable-named (variables (c .rule)) n ≡ v
           → reference-by (entity-named (c .bench .file) n) (variable-named (variables (c .rule)) n) < 256
       go (some e) p v q =
           let b = number-below (c .bench .file .entities) (e .number) (entity-found (c .bench .file) n p) in

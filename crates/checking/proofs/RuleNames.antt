@@ -18,7 +18,7 @@ use Rattle.checking.specs.declared.faults.Found.{Found}
 use Rattle.checking.specs.declared.faults.Found.the-variants as variants
 use Rattle.checking.specs.Faults.{fault-unless, earliest}
 use Rattle.checking.specs.FoundFaults.{found-as, merged}
-use Rattle.checking.specs.Scope.{Found as Numbered, here-or-later, look-up, is-found}
+use Rattle.checking.specs.Scope.{Indexed as Numbered, here-or-later, look-up, is-found}
 use Rattle.checking.specs.NameFaults.{repeated-faults, again-faults}
 use Rattle.checking.specs.Directory.{name-in}
 use Rattle.checking.specs.RuleParts.{name-row, name-before, declared-names, first-alike, Declaration, Repeated-at, Repeated}

@@ -35,8 +35,8 @@ use Rattle.text.specs.Syntax.{Name, Expression, Target, Clause, Condition, both
 use Rattle.text.specs.Readers.{
   Parse,
   read,
-  refused,
-  Reader,
+  unfit-after,
+  Parser,
   shift,
   give,
   halt,
@@ -99,13 +99,13 @@ module _ {A : Type 0} where
   same-count : {a b : A} {m n : ℕ} → read a m ≡ read b n → m ≡ n
   same-count h = cc
 
-  not-read : {a : A} {m n : ℕ} → refused m ≡ read a n → ⊥
+  not-read : {a : A} {m n : ℕ} → unfit-after m ≡ read a n → ⊥
   not-read h = let z : _≡_ {A = ℕ} 0 1 = cc in omega arith
 
   shifted-read : (k : ℕ) (p : Parse A) {a : A} {n : ℕ} → shift k p ≡ read a n → (m : ℕ) × (p ≡ read a m) × (n ≡ k + m)
   unfolding shift
   shifted-read k (read b m) h = (m, ap (λ x. read x m) (same-tree h), sym (same-count h))
-  shifted-read k (refused m) h = absurd (not-read h)
+  shifted-read k (unfit-after m) h = absurd (not-read h)
 
 flatMap-map : {A B C : Type 0} (f : B → List C) (g : A → B) (xs : List A) → flatMap f (map g xs) ≡ flatMap (λ x. f (g x)) xs
 unfolding flatMap
@@ -114,14 +114,14 @@ flatMap-map f g (x ∷ xs) = ap (λ l. f (g x) ++ l) (flatMap-map f g xs)
 
 module _ {classes : List ℕ} (w : Rows classes) where
   -- the token after number q, and what was read from there on
-  record Token-read {A : Type 0} (q c : ℕ) (k : Token → Reader A) (a : A) (n : ℕ) : Type 0 where
+  record Token-read {A : Type 0} (q c : ℕ) (k : Token → Parser A) (a : A) (n : ℕ) : Type 0 where
     inside : q + 1 < length classes
     class : getD classes (q + 1) 0 ≡ c
     used : ℕ
     reads : k (nth-token (w .tokens) (q + 1)) (drop (q + 1 + 1) (w .tokens)) ≡ read a used
     count : n ≡ 1 + used
 
-  expect-read : {A : Type 0} (q c : ℕ) (k : Token → Reader A) {a : A} {n : ℕ} → expect c k (drop (q + 1) (w .tokens)) ≡ read a n → Token-read q c k a n
+  expect-read : {A : Type 0} (q c : ℕ) (k : Token → Parser A) {a : A} {n : ℕ} → expect c k (drop (q + 1) (w .tokens)) ≡ read a n → Token-read q c k a n
   unfolding expect expected
   expect-read {A} q c k {a} {n} e = go (ltb (q + 1) (length classes)) refl
     where
@@ -141,7 +141,7 @@ module _ {classes : List ℕ} (w : Rows classes) where
       go false t = absurd (not-read (rw (rows-end w (q + 1) (ltb-false (q + 1) (length classes) t)) at e))
 
   -- what was read first after number q, and what then
-  record Two-read {A B : Type 0} (q : ℕ) (r : Reader B) (k : B → Reader A) (a : A) (n : ℕ) : Type 0 where
+  record Two-read {A B : Type 0} (q : ℕ) (r : Parser B) (k : B → Parser A) (a : A) (n : ℕ) : Type 0 where
     first : B
     used : ℕ
     reads : r (drop (q + 1) (w .tokens)) ≡ read first used
@@ -149,7 +149,7 @@ module _ {classes : List ℕ} (w : Rows classes) where
     reads-then : k first (drop (q + used + 1) (w .tokens)) ≡ read a used-then
     count : n ≡ used + used-then
 
-  then-read : {A B : Type 0} (q : ℕ) (r : Reader B) (k : B → Reader A) {a : A} {n : ℕ} → and-then r k (drop (q + 1) (w .tokens)) ≡ read a n → Two-read q r k a n
+  then-read : {A B : Type 0} (q : ℕ) (r : Parser B) (k : B → Parser A) {a : A} {n : ℕ} → and-then r k (drop (q + 1) (w .tokens)) ≡ read a n → Two-read q r k a n
   unfolding and-then continued
   then-read {A} {B} q r k {a} {n} e = go (r (drop (q + 1) (w .tokens))) refl e
     where
@@ -160,7 +160,7 @@ module _ {classes : List ℕ} (w : Rows classes) where
           record { first = b; used = m; reads = t; used-then = j; reads-then = rw (drop-drop m (q + 1) (w .tokens), l) at p; count = i }
 
       go : (p : Parse B) → r (drop (q + 1) (w .tokens)) ≡ p → continued p (drop (q + 1) (w .tokens)) k ≡ read a n → Two-read q r k a n
-      go (refused m) t e = absurd (not-read e)
+      go (unfit-after m) t e = absurd (not-read e)
       go (read b m) t e = on b m t (shifted-read m (k b (drop m (drop (q + 1) (w .tokens)))) e)
 
   -- the variable whose name is token number n
@@ -172,7 +172,7 @@ module _ {classes : List ℕ} (w : Rows classes) where
   declared-after q = map variable-at (names-from classes q)
 
   -- a reader reads on after token number q: with those before it, the variables of its tree are those declared in it
-  record Declares {A : Type 0} (rest : ℕ → List Variable) (before : List Variable) (q : ℕ) (r : Reader A) (vars : A → List Variable) : Type 0 where
+  record Declares {A : Type 0} (rest : ℕ → List Variable) (before : List Variable) (q : ℕ) (r : Parser A) (vars : A → List Variable) : Type 0 where
     declares : (a : A) (n : ℕ) → r (drop (q + 1) (w .tokens)) ≡ read a n → before ++ declared-after q ≡ vars a ++ rest (q + n)
 
   module _ {A : Type 0} {rest : ℕ → List Variable} {before : List Variable} {q : ℕ} {vars : A → List Variable} where
@@ -181,7 +181,7 @@ module _ {classes : List ℕ} (w : Rows classes) where
     halt-declares = record { declares = λ a n e. absurd (not-read e) }
 
     -- a token, if one is read
-    token-declares : (c : ℕ) (k : Token → Reader A)
+    token-declares : (c : ℕ) (k : Token → Parser A)
         → (q + 1 < length classes → getD classes (q + 1) 0 ≡ c → (a : A) (m : ℕ) → k (nth-token (w .tokens) (q + 1)) (drop (q + 1 + 1) (w .tokens)) ≡ read a m
         → before ++ declared-after q ≡ vars a ++ rest (q + 1 + m))
         → Declares rest before q (expect c k) vars
@@ -191,18 +191,18 @@ module _ {classes : List ℕ} (w : Rows classes) where
         go a n t = let j : q + n ≡ q + 1 + t .used = omega arith in rw j (f (t .inside) (t .class) a (t .used) (t .reads))
 
     -- one that is neither `end` nor `:`
-    expect-known : {c : ℕ} {k : Token → Reader A} → eqb c END ≡ false → eqb c COLON ≡ false
+    expect-known : {c : ℕ} {k : Token → Parser A} → eqb c END ≡ false → eqb c COLON ≡ false
         → ((t : Token) → t .class ≡ c → t ≡ nth-token (w .tokens) (q + 1) → Declares rest before (q + 1) (k t) vars) → Declares rest before q (expect c k) vars
     unfolding declared-after
     expect-known {c} {k} x y h = token-declares c k λ i e a m p.
         rw (names-other classes q (sym e) (eqb-false c END x) (eqb-false c COLON y))
         (h (nth-token (w .tokens) (q + 1)) (row-class w (q + 1) i ∙ e) refl .declares a m p)
 
-    expect-declares : {c : ℕ} {k : Token → Reader A} → eqb c END ≡ false → eqb c COLON ≡ false
+    expect-declares : {c : ℕ} {k : Token → Parser A} → eqb c END ≡ false → eqb c COLON ≡ false
         → ((t : Token) → t .class ≡ c → Declares rest before (q + 1) (k t) vars) → Declares rest before q (expect c k) vars
     expect-declares x y h = expect-known x y λ t e d. h t e
 
-    if-next-declares : (c : ℕ) {r s : Reader A} → Declares rest before q r vars → Declares rest before q s vars → Declares rest before q (if-next c r s) vars
+    if-next-declares : (c : ℕ) {r s : Parser A} → Declares rest before q r vars → Declares rest before q s vars → Declares rest before q (if-next c r s) vars
     unfolding if-next pick
     if-next-declares c {r} {s} f g = record { declares = λ a n. go (next-is c (drop (q + 1) (w .tokens))) a n }
       where
@@ -210,7 +210,7 @@ module _ {classes : List ℕ} (w : Rows classes) where
         go true a n e = f .declares a n e
         go false a n e = g .declares a n e
 
-    then-declares : {B : Type 0} {r : Reader B} {k : B → Reader A} {first : B → List Variable} → Declares declared-after before q r first
+    then-declares : {B : Type 0} {r : Parser B} {k : B → Parser A} {first : B → List Variable} → Declares declared-after before q r first
         → ((b : B) (m : ℕ) → Declares rest (first b) (q + m) (k b) vars) → Declares rest before q (and-then r k) vars
     then-declares {B} {r} {k} {first} f g = record { declares = λ a n e. go a n (then-read q r k e) }
       where
@@ -229,7 +229,7 @@ module _ {classes : List ℕ} (w : Rows classes) where
   }
 
   -- a loop, whose steps begin with tokens that are neither `end` nor `:`
-  module _ {A : Type 0} (test : ℕ → Bool) (step : A → Token → Reader A) (vars : A → List Variable)
+  module _ {A : Type 0} (test : ℕ → Bool) (step : A → Token → Parser A) (vars : A → List Variable)
       (plain : (c : ℕ) → test c ≡ true → (eqb c END ≡ false) × (eqb c COLON ≡ false))
       (turn : (a : A) (q : ℕ) (t : Token) → Declares declared-after (vars a) q (step a t) vars) where
     loop-once : (q : ℕ) (a : A) → (q + 1 < length classes → (m : ℕ) (b : A) → Declares declared-after (vars b) (q + 1 + m) (loop test step b 0) vars)
@@ -276,7 +276,7 @@ module _ {classes : List ℕ} (w : Rows classes) where
     loop-declares {q} a h = rw h (loop-from (length classes) q (omega arith) a)
 
   -- items with operators between them
-  chain-declares : {A : Type 0} {before : List Variable} {q : ℕ} (test : ℕ → Bool) (join : Token → A → A → A) {item : Reader A} (vars : A → List Variable)
+  chain-declares : {A : Type 0} {before : List Variable} {q : ℕ} (test : ℕ → Bool) (join : Token → A → A → A) {item : Parser A} (vars : A → List Variable)
       → ((c : ℕ) → test c ≡ true → (eqb c END ≡ false) × (eqb c COLON ≡ false)) → ((t : Token) (a b : A) → vars a ++ vars b ≡ vars (join t a b))
       → ((before : List Variable) (q : ℕ) → Declares declared-after before q item (λ a. before ++ vars a))
       → Declares declared-after before q (chain test join item) (λ a. before ++ vars a)
@@ -288,7 +288,7 @@ module _ {classes : List ℕ} (w : Rows classes) where
       (append-assoc before (vars a) (vars c) ∙ ap (λ l. before ++ l) (j t a c)))
       b refl
 
-  many-declares : {A : Type 0} {before : List Variable} {q : ℕ} (c : ℕ) (item : Token → Reader A) (vars : A → List Variable) → eqb c END ≡ false
+  many-declares : {A : Type 0} {before : List Variable} {q : ℕ} (c : ℕ) (item : Token → Parser A) (vars : A → List Variable) → eqb c END ≡ false
       → eqb c COLON ≡ false
       → ((t : Token) (before : List Variable) (q : ℕ) → Declares declared-after before q (item t) (λ a. before ++ vars a))
       → Declares declared-after before q (many c item) (λ xs. before ++ flatMap vars xs)
@@ -306,14 +306,14 @@ module _ {classes : List ℕ} (w : Rows classes) where
 
   -- ---- what declares nothing
 
-  declares-as : {A : Type 0} {rest : ℕ → List Variable} {before : List Variable} {q : ℕ} {r : Reader A} {vars : A → List Variable} (vars′ : A → List Variable)
+  declares-as : {A : Type 0} {rest : ℕ → List Variable} {before : List Variable} {q : ℕ} {r : Parser A} {vars : A → List Variable} (vars′ : A → List Variable)
       → ((a : A) → vars a ≡ vars′ a) → Declares rest before q r vars → Declares rest before q r vars′
   declares-as vars′ e h = record { declares = λ a n p. rw (← e a) (h .declares a n p) }
 
-  abbrev Plain : {A : Type 0} → Reader A → Type 0
+  abbrev Plain : {A : Type 0} → Parser A → Type 0
   Plain {A} r = (before : List Variable) (q : ℕ) → Declares {A = A} declared-after before q r (λ a. before)
 
-  chain-plain : {A : Type 0} (test : ℕ → Bool) (join : Token → A → A → A) {item : Reader A}
+  chain-plain : {A : Type 0} (test : ℕ → Bool) (join : Token → A → A → A) {item : Parser A}
       → ((c : ℕ) → test c ≡ true → (eqb c END ≡ false) × (eqb c COLON ≡ false)) → Plain item → Plain (chain test join item)
   chain-plain test join plain f before q =
       declares-as _ (λ a. append-nil before)
@@ -328,12 +328,12 @@ module _ {classes : List ℕ} (w : Rows classes) where
       go false e true g h = ap f (eqb-true c b g) ∙ q
       go false e false g h = absurd (false≢true h)
 
-  term-plain : (r : Reader Expression) → Plain r → Plain (term-of r)
+  term-plain : (r : Parser Expression) → Plain r → Plain (term-of r)
   unfolding term-of is-factor-operator
   term-plain r f = chain-plain is-factor-operator apply-at
       (λ c h. (two (λ d. eqb d END) TIMES DIVIDE refl refl c h, two (λ d. eqb d COLON) TIMES DIVIDE refl refl c h)) f
 
-  expression-of-plain : (r : Reader Expression) → Plain r → Plain (expression-of r)
+  expression-of-plain : (r : Parser Expression) → Plain r → Plain (expression-of r)
   unfolding expression-of is-term-operator
   expression-of-plain r f = chain-plain is-term-operator apply-at
       (λ c h. (two (λ d. eqb d END) PLUS MINUS refl refl c h, two (λ d. eqb d COLON) PLUS MINUS refl refl c h)) (term-plain r f)
@@ -343,7 +343,7 @@ module _ {classes : List ℕ} (w : Rows classes) where
   number-plain negative before q =
       if-next-declares WHOLE-NUMBER (expect-declares refl refl λ t e. give-declares _ refl) (expect-declares refl refl λ t e. give-declares _ refl)
 
-  simple-plain : (r : Reader Expression) → Plain r → Plain (simple-or r)
+  simple-plain : (r : Parser Expression) → Plain r → Plain (simple-or r)
   unfolding simple-or member-reader
   simple-plain r f before q =
       if-next-declares NAME
@@ -354,7 +354,7 @@ module _ {classes : List ℕ} (w : Rows classes) where
       (if-next-declares REAL-NUMBER (then-declares (number-plain false before q) λ l m. give-declares _ refl)
       (f before q)))))
 
-  opener-plain : (r : Reader Expression) → Plain r → Plain (opener-reader r)
+  opener-plain : (r : Parser Expression) → Plain r → Plain (opener-reader r)
   unfolding opener-reader
   opener-plain r f before q =
       if-next-declares REAL
@@ -411,7 +411,7 @@ module _ {classes : List ℕ} (w : Rows classes) where
   call-variables : Call → List Variable
   call-variables c = target-variables (c .target)
 
-  abbrev Adds : {A : Type 0} → Reader A → (A → List Variable) → Type 0
+  abbrev Adds : {A : Type 0} → Parser A → (A → List Variable) → Type 0
   Adds {A} r vars = (before : List Variable) (q : ℕ) → Declares {A = A} declared-after before q r (λ a. before ++ vars a)
 
   -- `:` and an interface's name, after a variable's name
@@ -452,7 +452,7 @@ module _ {classes : List ℕ} (w : Rows classes) where
       sym (ap (flatMap target-variables) (map-append (λ (d : Clause). d .target) (clauses a) (clauses b))
       ∙ flatMap-append target-variables (map (λ d. d .target) (clauses a)) (map (λ d. d .target) (clauses b)))
 
-  condition-of-adds : (r : Reader Condition) → Adds r condition-variables → Adds (condition-of r) condition-variables
+  condition-of-adds : (r : Parser Condition) → Adds r condition-variables → Adds (condition-of r) condition-variables
   unfolding condition-of conjunction-of is-and is-or both-at either-at condition-variables clauses
   condition-of-adds r f before q =
       chain-declares is-or either-at condition-variables (λ c e. (ap (λ d. eqb d END) (eqb-true c OR e), ap (λ d. eqb d COLON) (eqb-true c OR e)))
@@ -504,23 +504,23 @@ module _ {classes : List ℕ} (w : Rows classes) where
       end-adds _ (append-assoc (condition-variables c) (call-variables first) (flatMap call-variables others))
 
   -- an `end` comes after token number q, if the reader reads on from there
-  record Ends {A : Type 0} (q : ℕ) (r : Reader A) : Type 0 where
+  record Ends {A : Type 0} (q : ℕ) (r : Parser A) : Type 0 where
     ends : (a : A) (n : ℕ) → r (drop (q + 1) (w .tokens)) ≡ read a n → (e : ℕ) × (q < e) × (getD classes e 0 ≡ END)
 
   later : {q : ℕ} (m : ℕ) → (e : ℕ) × (q + m < e) × (getD classes e 0 ≡ END) → (e : ℕ) × (q < e) × (getD classes e 0 ≡ END)
   later m (e, h, c) = (e, omega arith, c)
 
   module _ {A : Type 0} {q : ℕ} where
-    end-ends : (k : Token → Reader A) → Ends q (expect END k)
+    end-ends : (k : Token → Parser A) → Ends q (expect END k)
     end-ends k = record { ends = λ a n e. (q + 1, omega arith, expect-read q END k e .class) }
 
-    expect-ends : (c : ℕ) {k : Token → Reader A} → ((t : Token) → Ends (q + 1) (k t)) → Ends q (expect c k)
+    expect-ends : (c : ℕ) {k : Token → Parser A} → ((t : Token) → Ends (q + 1) (k t)) → Ends q (expect c k)
     expect-ends c {k} f = record { ends = λ a n e. go a n (expect-read q c k e) }
       where
         go : (a : A) (n : ℕ) → Token-read q c k a n → (e : ℕ) × (q < e) × (getD classes e 0 ≡ END)
         go a n t = later 1 (f (nth-token (w .tokens) (q + 1)) .ends a (t .used) (t .reads))
 
-    then-ends : {B : Type 0} (r : Reader B) {k : B → Reader A} → ((b : B) (m : ℕ) → Ends (q + m) (k b)) → Ends q (and-then r k)
+    then-ends : {B : Type 0} (r : Parser B) {k : B → Parser A} → ((b : B) (m : ℕ) → Ends (q + m) (k b)) → Ends q (and-then r k)
     then-ends r {k} f = record { ends = λ a n e. go a n (then-read q r k e) }
       where
         go : (a : A) (n : ℕ) → Two-read q r k a n → (e : ℕ) × (q < e) × (getD classes e 0 ≡ END)

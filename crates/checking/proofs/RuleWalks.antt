@@ -45,29 +45,29 @@ use Rattle.checking.specs.FoundFaults.{found-as, merged}
 use Rattle.checking.specs.Scope.{clauses, variables, scope-of, interface-in, is-attribute, is-action, is-event, is-member}
 use Rattle.checking.specs.NameFaults.{
   member-faults,
-  name-faults-at,
-  expression-names,
+  unknown-name-faults,
+  expression-name-faults,
   variable-faults,
   declaration-faults,
-  target-names,
-  filter-names,
-  test-names,
-  clause-names,
-  call-names,
+  target-name-faults,
+  filter-name-faults,
+  test-name-faults,
+  clause-name-faults,
+  call-name-faults,
   again-faults,
-  rule-names,
+  rule-name-faults,
 }
 use Rattle.checking.specs.KindFaults.{
   member-kind,
   kind-in,
   kind-of,
-  expression-kinds,
-  matched-kinds,
-  filter-kinds,
-  test-kinds,
-  clause-kinds,
-  call-kinds,
-  rule-kinds,
+  expression-kind-faults,
+  matched-kind-faults,
+  filter-kind-faults,
+  test-kind-faults,
+  clause-kind-faults,
+  call-kind-faults,
+  rule-kind-faults,
 }
 use Rattle.checking.specs.Directory.{name-in, Begins, Bench}
 use Rattle.checking.specs.RuleWalk.{Rule-faults}
@@ -153,8 +153,8 @@ module _ {text classes offsets lengths d : List ℕ} where
     -- a name's fault
     unknown-name : {i : ℕ} {owner : Meaning} → Meant text classes offsets lengths d start i owner → {at : ℕ} {a : Option Fault} → at ≡ getD offsets i 0
         → a ≡ earliest (fault-unless (owner .known) 16 at) → (c : Rule-world text classes offsets lengths d start)
-        → a ≡ earliest (name-faults-at (world-scope c) (name-row text offsets lengths i))
-    unfolding name-faults-at
+        → a ≡ earliest (unknown-name-faults (world-scope c) (name-row text offsets lengths i))
+    unfolding unknown-name-faults
     unknown-name m e u c = u ∙ rw (e, m .known c)
 
     pub member-checked : (at i : ℕ) {owner : Meaning} {found : Cell} {next offset : ℕ} {a : Option Fault} {names : Found}
@@ -163,10 +163,10 @@ module _ {text classes offsets lengths d : List ℕ} where
         → (c : Rule-world text classes offsets lengths d start) → at < length classes → i < length classes
         → Expression-checked (world-scope c) (member (name-of (nth-token (c .bench .tokens) at)) (name-of (nth-token (c .bench .tokens) i)))
         (record { next = next; kind = found .kind; names = names; kinds = variants.Nothing })
-    unfolding kind-of kind-in expression-names expression-kinds
+    unfolding kind-of kind-in expression-name-faults expression-kind-faults
     member-checked at i {owner} {found} m g e u n c h k = rw (name-stands (c .bench) at h, name-stands (c .bench) i k) (record {
       kind = g .kind (c .bench) (c .few) ∙ rw (m .face c);
-      names = found-both (name-faults-at (world-scope c) (name-row text offsets lengths at))
+      names = found-both (unknown-name-faults (world-scope c) (name-row text offsets lengths at))
           (member-faults is-member (interface-in (world-scope c) (name-in text offsets lengths at)) (name-row text offsets lengths i)) n (unknown-name m e u c)
           (g .names (c .bench) (c .few) ∙ rw (m .face c, wanted-member));
       kinds = found-nothing;
@@ -195,7 +195,7 @@ module _ {text classes offsets lengths d : List ℕ} where
           → (c : Rule-world text classes offsets lengths d start) → at < length classes
           → Place-checked text classes offsets lengths d start c (record { name = name-of (nth-token (c .bench .tokens) at); declares = none })
           (record { next = next; face = owner .face; names = names })
-      unfolding target-names declaration-faults
+      unfolding target-name-faults declaration-faults
       bare-checked e u c h = rw (name-stands (c .bench) at h) (record { face-is = m .face c; names-found = unknown-name m e u c })
 
       pub declaring-checked : (i : ℕ) {next : ℕ} {names : Found} → Declared text offsets lengths d at i names
@@ -203,7 +203,7 @@ module _ {text classes offsets lengths d : List ℕ} where
           → Place-checked text classes offsets lengths d start c
           (record { name = name-of (nth-token (c .bench .tokens) at); declares = some (name-of (nth-token (c .bench .tokens) i)) })
           (record { next = next; face = owner .face; names = names })
-      unfolding target-names declaration-faults variable-faults scope-of
+      unfolding target-name-faults declaration-faults variable-faults scope-of
       declaring-checked i g c h k =
           rw (name-stands (c .bench) at h, name-stands (c .bench) i k) (record { face-is = m .face c; names-found = g .faults classes (c .bench) (c .few) })
 
@@ -211,7 +211,7 @@ module _ {text classes offsets lengths d : List ℕ} where
 
     pub no-filter-checked : (face : ℕ) {next : ℕ} {r : Part} → Nothing-found next r → (c : Rule-world text classes offsets lengths d start)
         → Filter-checked text classes offsets lengths d start face c none r
-    unfolding filter-names filter-kinds
+    unfolding filter-name-faults filter-kind-faults
     no-filter-checked face h c = record { part = λ t e. h .part }
 
     pub filter-checked : (i j : ℕ) {face : ℕ} {found : Cell} {e : Kinded} {offset : ℕ} {p r : Part}
@@ -220,11 +220,11 @@ module _ {text classes offsets lengths d : List ℕ} where
         → i < length classes → j < length classes → (a : Expression) → Expression-checked (world-scope c) a e
         → Filter-checked text classes offsets lengths d start face c
         (some (record { attribute = name-of (nth-token (c .bench .tokens) i); equals-at = nth-token (c .bench .tokens) j .at; expression = a })) r
-    unfolding filter-names filter-kinds kind-in
+    unfolding filter-name-faults filter-kind-faults kind-in
     filter-checked i j {face} g o m f c h k a x = rw (name-stands (c .bench) i h, offset-stands (c .bench) j k, ← o) (record {
       part = λ t e. f .part (member-faults is-attribute (interface-in (world-scope c) (t .name .bytes)) (name-row text offsets lengths i))
-          (expression-names (world-scope c) a)
-          (matched-kinds (world-scope c) (member-kind (interface-in (world-scope c) (t .name .bytes)) (name-row text offsets lengths i)) _ a)
+          (expression-name-faults (world-scope c) a)
+          (matched-kind-faults (world-scope c) (member-kind (interface-in (world-scope c) (t .name .bytes)) (name-row text offsets lengths i)) _ a)
           (g .names (c .bench) (c .few) ∙ rw (e, wanted-attribute))
           (m .part (world-scope c) (member-kind (interface-in (world-scope c) (t .name .bytes)) (name-row text offsets lengths i)) a
           (g .kind (c .bench) (c .few) ∙ rw e) x);
@@ -232,13 +232,13 @@ module _ {text classes offsets lengths d : List ℕ} where
 
     pub changed-checked : (kind : ℕ) {next : ℕ} {r : Part} → Nothing-found next r → (c : Rule-world text classes offsets lengths d start)
         → Test-checked text classes offsets lengths d start kind c changed r
-    unfolding test-names test-kinds
+    unfolding test-name-faults test-kind-faults
     changed-checked kind h c = record { part = λ k e. h .part }
 
     pub equals-checked : (at : ℕ) {kind offset : ℕ} {e : Kinded} {r : Part} → offset ≡ getD offsets at 0 → Matched kind offset e r
         → (c : Rule-world text classes offsets lengths d start) → at < length classes → (a : Expression) → Expression-checked (world-scope c) a e
         → Test-checked text classes offsets lengths d start kind c (equals (nth-token (c .bench .tokens) at .at) a) r
-    unfolding test-names test-kinds
+    unfolding test-name-faults test-kind-faults
     equals-checked at o m c h a x = rw (offset-stands (c .bench) at h, ← o) (record { part = λ k q. m .part (world-scope c) k a q x })
 
     -- ---- conditions
@@ -249,18 +249,18 @@ module _ {text classes offsets lengths d : List ℕ} where
         → Filter-checked text classes offsets lengths d start (target .face) c y f → Test-checked text classes offsets lengths d start (found .kind) c z t
         → condition-yields text classes offsets lengths d start c
         (clause (record { at = at; event = name-of (nth-token (c .bench .tokens) i); target = x; filter = y; test = z })) r
-    unfolding clauses flatMap clause-names clause-kinds kind-in
+    unfolding clauses flatMap clause-name-faults clause-kind-faults kind-in
     clause-checked at i {target} g j m n c h x y z u v w =
         let s = world-scope c in
         let o = interface-in s (x .name .bytes) in
         let e = name-row text offsets lengths i in
         let k = g .kind (c .bench) (c .few) ∙ ap (λ o. kind-code (member-kind o e)) (u .face-is) in
         let mf = member-faults is-event o e in
-        let tn = target-names s x in
-        let fn = filter-names s x y in
-        let xn = test-names s z in
-        let fk = filter-kinds s x y in
-        let xk = test-kinds s (member-kind o e) z in
+        let tn = target-name-faults s x in
+        let fn = filter-name-faults s x y in
+        let xn = test-name-faults s z in
+        let fk = filter-kind-faults s x y in
+        let xk = test-kind-faults s (member-kind o e) z in
         rw (name-stands (c .bench) i h)
         (part-same (sym (append-nil _ ∙ append-assoc (mf ++ tn) fn xn ∙ append-assoc mf tn (fn ++ xn))) (sym (append-nil (fk ++ xk)))
         (n .part mf (tn ++ (fn ++ xn)) (fk ++ xk) (g .names (c .bench) (c .few) ∙ rw (u .face-is, wanted-event))
@@ -274,10 +274,10 @@ module _ {text classes offsets lengths d : List ℕ} where
     module _ {p q r : Part} (j : Joined p q r) (c : Rule-world text classes offsets lengths d start) where
       joined-checked : (a b : Condition) → condition-yields text classes offsets lengths d start c a p
           → condition-yields text classes offsets lengths d start c b q
-          → Part-of (flatMap (clause-names (world-scope c)) (clauses a ++ clauses b)) (flatMap (clause-kinds (world-scope c)) (clauses a ++ clauses b)) r
+          → Part-of (flatMap (clause-name-faults (world-scope c)) (clauses a ++ clauses b)) (flatMap (clause-kind-faults (world-scope c)) (clauses a ++ clauses b)) r
       joined-checked a b g h =
-          part-same (sym (flatMap-append (clause-names (world-scope c)) (clauses a) (clauses b)))
-          (sym (flatMap-append (clause-kinds (world-scope c)) (clauses a) (clauses b)))
+          part-same (sym (flatMap-append (clause-name-faults (world-scope c)) (clauses a) (clauses b)))
+          (sym (flatMap-append (clause-kind-faults (world-scope c)) (clauses a) (clauses b)))
           (j .part _ _ _ _ g h)
 
       pub both-checked : (t : Token) (a b : Condition) → condition-yields text classes offsets lengths d start c a p
@@ -296,8 +296,8 @@ module _ {text classes offsets lengths d : List ℕ} where
           → call-yields text classes offsets lengths d start c x q → calls-yields text classes offsets lengths d start c (xs ++ x ∷ []) r
       unfolding flatMap
       further-checked xs x g h =
-          part-same (sym (flatMap-append (call-names (world-scope c)) xs (x ∷ []) ∙ ap (λ l. flatMap (call-names (world-scope c)) xs ++ l) (append-nil _)))
-          (sym (flatMap-append (call-kinds (world-scope c)) xs (x ∷ []) ∙ ap (λ l. flatMap (call-kinds (world-scope c)) xs ++ l) (append-nil _)))
+          part-same (sym (flatMap-append (call-name-faults (world-scope c)) xs (x ∷ []) ∙ ap (λ l. flatMap (call-name-faults (world-scope c)) xs ++ l) (append-nil _)))
+          (sym (flatMap-append (call-kind-faults (world-scope c)) xs (x ∷ []) ∙ ap (λ l. flatMap (call-kind-faults (world-scope c)) xs ++ l) (append-nil _)))
           (j .part _ _ _ _ g h)
 
     pub no-call-checked : {next : ℕ} {r : Part} → Nothing-found next r → (c : Rule-world text classes offsets lengths d start)
@@ -318,18 +318,18 @@ module _ {text classes offsets lengths d : List ℕ} where
           target = x;
           filter = y;
         }) r
-    unfolding call-names call-kinds kind-in
+    unfolding call-name-faults call-kind-faults kind-in
     call-checked at i j g b m n k l c h h′ a x y u v w =
         let s = world-scope c in
         let o = interface-in s (x .name .bytes) in
         let e = name-row text offsets lengths i in
         let z = g .kind (c .bench) (c .few) ∙ ap (λ o. kind-code (member-kind o e)) (v .face-is) in
         let mf = member-faults is-action o e in
-        let en = expression-names s a in
-        let tn = target-names s x in
-        let fn = filter-names s x y in
-        let fk = filter-kinds s x y in
-        let ek = matched-kinds s (member-kind o e) _ a in
+        let en = expression-name-faults s a in
+        let tn = target-name-faults s x in
+        let fn = filter-name-faults s x y in
+        let fk = filter-kind-faults s x y in
+        let ek = matched-kind-faults s (member-kind o e) _ a in
         rw (name-stands (c .bench) i h, offset-stands (c .bench) j h′, ← b)
         (part-same (sym (append-assoc (mf ++ en) tn fn ∙ append-assoc mf en (tn ++ fn))) refl
         (l .part mf (en ++ (tn ++ fn)) (ek ++ fk) (g .names (c .bench) (c .few) ∙ rw (v .face-is, wanted-action))
@@ -340,8 +340,8 @@ module _ {text classes offsets lengths d : List ℕ} where
 module _ {text classes offsets lengths d : List ℕ} {at : ℕ} where
   rule-yields : Rule-world text classes offsets lengths d at → Rule → Part → Type 0
   rule-yields c x r =
-      Part-of (flatMap (clause-names (world-scope c)) (clauses (x .condition)) ++ flatMap (call-names (world-scope c)) (x .calls))
-      (flatMap (clause-kinds (world-scope c)) (clauses (x .condition)) ++ flatMap (call-kinds (world-scope c)) (x .calls)) r
+      Part-of (flatMap (clause-name-faults (world-scope c)) (clauses (x .condition)) ++ flatMap (call-name-faults (world-scope c)) (x .calls))
+      (flatMap (clause-kind-faults (world-scope c)) (clauses (x .condition)) ++ flatMap (call-kind-faults (world-scope c)) (x .calls)) r
 
   module _ {i m : ℕ} {x y z p q : Part} (s : Steps (length classes) at i) (f : Condition-walk text classes offsets lengths d at (condition-reader OPENERS) i x)
       (t : Steps (length classes) (x .next) m) (g : Call-walk text classes offsets lengths d at call-reader m y)
@@ -351,8 +351,8 @@ module _ {text classes offsets lengths d : List ℕ} {at : ℕ} where
     rule-walked start = rule-walk start f t g h (next-steps (z .next)) λ c a b bs u v w. k .part _ _ _ _ u (j .part _ _ _ _ v w)
 
     rule-part : (w : Bench text classes offsets lengths d) → Few (w .file) → (r : Rule) → Begins (w .tokens) at WHEN rule-after r
-        → Part-of (flatMap (clause-names (scope-of (w .file) r)) (clauses (r .condition)) ++ flatMap (call-names (scope-of (w .file) r)) (r .calls))
-        (flatMap (clause-kinds (scope-of (w .file) r)) (clauses (r .condition)) ++ flatMap (call-kinds (scope-of (w .file) r)) (r .calls)) q
+        → Part-of (flatMap (clause-name-faults (scope-of (w .file) r)) (clauses (r .condition)) ++ flatMap (call-name-faults (scope-of (w .file) r)) (r .calls))
+        (flatMap (clause-kind-faults (scope-of (w .file) r)) (clauses (r .condition)) ++ flatMap (call-kind-faults (scope-of (w .file) r)) (r .calls)) q
     unfolding rule-yields
     rule-part w few r b =
         let c : Rule-world text classes offsets lengths d at = record { bench = w; few = few; rule = r; begins = b; high = z .next + 1 } in
@@ -362,15 +362,15 @@ module _ {text classes offsets lengths d : List ℕ} {at : ℕ} where
 
     pub rule-found : {again names : Found} → Repeated text classes offsets lengths at again → found-as names ≡ merged (found-as again) (found-as (q .names))
         → Rule-faults text classes offsets lengths d at (record { names = names; kinds = q .kinds })
-    unfolding rule-names rule-kinds
+    unfolding rule-name-faults rule-kind-faults
     rule-found {again} {names} e n = record { names = names-are; kinds = λ w few r b. rule-part w few r b .kinds-found }
       where
         names-are : (w : Bench text classes offsets lengths d) → Few (w .file) → (r : Rule) → Begins (w .tokens) at WHEN rule-after r
-            → found-as names ≡ earliest (rule-names (w .file) r)
+            → found-as names ≡ earliest (rule-name-faults (w .file) r)
         names-are w few r b =
             let c : Rule-world text classes offsets lengths d at = record { bench = w; few = few; rule = r; begins = b; high = 0 } in
             let again-faults-of = again-faults (map (λ v. v .name) (variables r)) in
-            let cn = flatMap (clause-names (scope-of (w .file) r)) (clauses (r .condition)) in
-            let an = flatMap (call-names (scope-of (w .file) r)) (r .calls) in
+            let cn = flatMap (clause-name-faults (scope-of (w .file) r)) (clauses (r .condition)) in
+            let an = flatMap (call-name-faults (scope-of (w .file) r)) (r .calls) in
             found-both again-faults-of (cn ++ an) n (repeated-found e c) (rule-part w few r b .names-found)
             ∙ ap earliest (sym (append-assoc again-faults-of cn an))

@@ -11,8 +11,8 @@ use Rattle.checking.specs.declared.faults.Found.{Found}
 use Rattle.checking.specs.declared.faults.Faulted.{Faulted}
 use Rattle.checking.specs.Faults.{Fault, earliest}
 use Rattle.checking.specs.FoundFaults.{found-as, merged}
-use Rattle.checking.specs.NameFaults.{again-faults, interface-names, entity-names, rule-names, name-faults}
-use Rattle.checking.specs.KindFaults.{entity-kinds, rule-kinds, kind-faults}
+use Rattle.checking.specs.NameFaults.{again-faults, interface-name-faults, entity-name-faults, rule-name-faults, name-faults}
+use Rattle.checking.specs.KindFaults.{entity-kind-faults, rule-kind-faults, kind-faults}
 use Rattle.checking.specs.Directory.{Bench}
 use Rattle.checking.specs.DeclarationWalk.{Interfaces-found, Entities-found}
 use Rattle.checking.specs.RuleWalk.{Rule-faults}
@@ -35,14 +35,14 @@ Left-of faults text classes offsets lengths d =
 
 -- what is found in the first k rules
 pub record Ruled (text classes offsets lengths d : List ℕ) (names kinds : Found) (k : ℕ) : Type 0 where
-  pub names-left : Left-of rule-names text classes offsets lengths d (found-as names) k
-  pub kinds-left : Left-of rule-kinds text classes offsets lengths d (found-as kinds) k
+  pub names-left : Left-of rule-name-faults text classes offsets lengths d (found-as names) k
+  pub kinds-left : Left-of rule-kind-faults text classes offsets lengths d (found-as kinds) k
 
 module _ {text classes offsets lengths d : List ℕ} {names kinds : Found} where
   pub ruled-none : found-as names ≡ none → found-as kinds ≡ none → Ruled text classes offsets lengths d names kinds 0
   ruled-none e f = record {
-    names-left = record { left = λ w. left-all (flatMap (rule-names (w .bench .file)) (w .bench .file .rules)) e };
-    kinds-left = record { left = λ w. left-all (flatMap (rule-kinds (w .bench .file)) (w .bench .file .rules)) f };
+    names-left = record { left = λ w. left-all (flatMap (rule-name-faults (w .bench .file)) (w .bench .file .rules)) e };
+    kinds-left = record { left = λ w. left-all (flatMap (rule-kind-faults (w .bench .file)) (w .bench .file .rules)) f };
   }
 
   module _ {count k : ℕ} (c : count ≡ getD d 2 0) (p : Ruled text classes offsets lengths d names kinds k) where
@@ -51,20 +51,20 @@ module _ {text classes offsets lengths d : List ℕ} {names kinds : Found} where
         → found-as kinds′ ≡ merged (found-as kinds) (found-as (one .kinds)) → Ruled text classes offsets lengths d names′ kinds′ (k + 1)
     ruled-next m a h f g = record {
       names-left =
-          items-next (λ w. w .bench .file .rules) (λ w. rule-names (w .bench .file)) _ (p .names-left)
+          items-next (λ w. w .bench .file .rules) (λ w. rule-name-faults (w .bench .file)) _ (p .names-left)
           (λ w. let z = w .bench .directory .rules in omega arith) (λ w x s. h .names (w .bench) (w .few) x (rw a (w .bench .directory .rule k x s))) f;
       kinds-left =
-          items-next (λ w. w .bench .file .rules) (λ w. rule-kinds (w .bench .file)) _ (p .kinds-left)
+          items-next (λ w. w .bench .file .rules) (λ w. rule-kind-faults (w .bench .file)) _ (p .kinds-left)
           (λ w. let z = w .bench .directory .rules in omega arith) (λ w x s. h .kinds (w .bench) (w .few) x (rw a (w .bench .directory .rule k x s))) g;
     }
 
     pub ruled-all : (count ≤ 64 → count ≤ k) → Rules-found text classes offsets lengths d (record { names = names; kinds = kinds })
     ruled-all h = record {
       names = λ w few m.
-          items-end (λ w. w .bench .file .rules) (λ w. rule-names (w .bench .file)) _ (p .names-left) all-passed
+          items-end (λ w. w .bench .file .rules) (λ w. rule-name-faults (w .bench .file)) _ (p .names-left) all-passed
           (record { bench = w; few = few; few-rules = m });
       kinds = λ w few m.
-          items-end (λ w. w .bench .file .rules) (λ w. rule-kinds (w .bench .file)) _ (p .kinds-left) all-passed
+          items-end (λ w. w .bench .file .rules) (λ w. rule-kind-faults (w .bench .file)) _ (p .kinds-left) all-passed
           (record { bench = w; few = few; few-rules = m });
     }
       where
@@ -80,16 +80,16 @@ module _ {text classes offsets lengths d : List ℕ} {interfaces : Found} {entit
     again-interfaces = again-faults (map (λ i. i .name) (w .file .interfaces))
 
     abbrev members : List Fault
-    members = flatMap interface-names (w .file .interfaces)
+    members = flatMap interface-name-faults (w .file .interfaces)
 
     abbrev again-entities : List Fault
     again-entities = again-faults (map (λ e. e .name) (w .file .entities))
 
     abbrev in-entities : List Fault
-    in-entities = flatMap (entity-names (w .file)) (w .file .entities)
+    in-entities = flatMap (entity-name-faults (w .file)) (w .file .entities)
 
     abbrev in-rules : List Fault
-    in-rules = flatMap (rule-names (w .file)) (w .file .rules)
+    in-rules = flatMap (rule-name-faults (w .file)) (w .file .rules)
 
     names-whole : {declared names : Option Fault} → declared ≡ merged (found-as interfaces) (found-as (entities .names))
         → names ≡ merged declared (found-as (rules .names)) → names ≡ earliest (name-faults (w .file))
@@ -106,7 +106,7 @@ module _ {text classes offsets lengths d : List ℕ} {interfaces : Found} {entit
     kinds-whole f =
         f
         ∙ ap₂ merged (e .kinds w few) (r .kinds w few most)
-        ∙ sym (earliest-append (flatMap (entity-kinds (w .file)) (w .file .entities)) (flatMap (rule-kinds (w .file)) (w .file .rules)))
+        ∙ sym (earliest-append (flatMap (entity-kind-faults (w .file)) (w .file .entities)) (flatMap (rule-kind-faults (w .file)) (w .file .rules)))
 
   pub file-told : {declared : Option Fault} {names kinds : Found} → declared ≡ merged (found-as interfaces) (found-as (entities .names))
       → found-as names ≡ merged declared (found-as (rules .names)) → found-as kinds ≡ merged (found-as (entities .kinds)) (found-as (rules .kinds))

@@ -10,13 +10,13 @@ use lib.Dec.{eqb}
 use lib.ListN.{drop}
 use borrow.Author.Tests.{eqb-true}
 use Rattle.text.specs.Tokens.{Token}
-use Rattle.text.specs.Readers.{Parse, read, refused, Reader, shift, give, stepped, turned, loop, added, many}
+use Rattle.text.specs.Readers.{Parse, read, unfit-after, Parser, shift, give, stepped, turned, loop, added, many}
 use Rattle.text.proofs.TreeLaws.{read-tree, refused-read}
 use Rattle.text.proofs.SpotLaws.{read-count, drop-stands, and-then-parts}
 use Rattle.checking.specs.Directory.{Begins}
 use Rattle.checking.specs.Sequences.{Sequence, over, one}
 
-module _ {A : Type 0} {ts : List Token} {c : ℕ} {item : Token → Reader A} where
+module _ {A : Type 0} {ts : List Token} {c : ℕ} {item : Token → Parser A} where
   pub sequence-order : {p q : ℕ} {xs : List A} → Sequence ts c item p q xs → p ≤ q
   sequence-order over = omega arith
   sequence-order {p} {q} (one b s) = let h : p + 1 + b .used ≤ q = sequence-order s in omega arith
@@ -39,7 +39,7 @@ module _ {A : Type 0} {ts : List Token} {c : ℕ} {item : Token → Reader A} wh
   sequence-from {xs = xs} e f s = subst₂ (λ (m n : ℕ). Sequence ts c item m n xs) e f s
 
 -- the first item, and those after it
-pub record First {A : Type 0} (ts : List Token) (c : ℕ) (item : Token → Reader A) (p q : ℕ) (xs : List A) : Type 0 where
+pub record First {A : Type 0} (ts : List Token) (c : ℕ) (item : Token → Parser A) (p q : ℕ) (xs : List A) : Type 0 where
   pub head : A
   pub tail : List A
   pub joins : head ∷ tail ≡ xs
@@ -47,7 +47,7 @@ pub record First {A : Type 0} (ts : List Token) (c : ℕ) (item : Token → Read
   pub within : p + 1 + begins .used ≤ q
   pub rest : Sequence ts c item (p + 1 + begins .used) q tail
 
-pub sequence-first : {A : Type 0} {ts : List Token} {c : ℕ} {item : Token → Reader A} {p q : ℕ} {xs : List A} → Sequence ts c item p q xs → p < q
+pub sequence-first : {A : Type 0} {ts : List Token} {c : ℕ} {item : Token → Parser A} {p q : ℕ} {xs : List A} → Sequence ts c item p q xs → p < q
     → First ts c item p q xs
 sequence-first over h = absurd (omega arith)
 sequence-first (one {x = x} {xs = xs} b s) h = record { head = x; tail = xs; joins = refl; begins = b; within = sequence-order s; rest = s }
@@ -55,9 +55,9 @@ sequence-first (one {x = x} {xs = xs} b s) h = record { head = x; tail = xs; joi
 shift-reads : {A : Type 0} (n : ℕ) (p : Parse A) {a : A} {m : ℕ} → shift n p ≡ read a m → (k : ℕ) × (p ≡ read a k) × (n + k ≡ m)
 unfolding shift
 shift-reads n (read b k) h = (k, ap (λ x. read x k) (read-tree h), read-count h)
-shift-reads n (refused k) h = absurd (refused-read h)
+shift-reads n (unfit-after k) h = absurd (refused-read h)
 
-module _ {A : Type 0} (ts : List Token) (c : ℕ) (item : Token → Reader A) where
+module _ {A : Type 0} (ts : List Token) (c : ℕ) (item : Token → Parser A) where
   -- the items that a loop adds to those before
   record Added (before all : List A) (p q : ℕ) : Type 0 where
     items : List A
@@ -95,7 +95,7 @@ module _ {A : Type 0} (ts : List Token) (c : ℕ) (item : Token → Reader A) wh
 
       turn : t .class ≡ c → (q : Parse (List A)) → added item before t us ≡ q → stepped q (λ b m. loop (λ d. eqb d c) (added item) b m us) ≡ read all n
           → Rest → Added before all (p + 0) (p + n)
-      turn w (refused m) s e k = absurd (refused-read e)
+      turn w (unfit-after m) s e k = absurd (refused-read e)
       turn w (read both m) s e k =
           let (j, r, i) = shift-reads 1 (loop (λ d. eqb d c) (added item) both m us) e in
           let (stands, rest) = drop-stands ts p d in

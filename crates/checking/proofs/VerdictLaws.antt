@@ -10,7 +10,7 @@ use lib.ListN.{length}
 use borrow.Author.Tests.{leb-true}
 use Rattle.text.specs.Tokens.{Lexing, tokens, no-token-at, tokens-of}
 use Rattle.text.specs.Syntax.{File}
-use Rattle.text.specs.Parse.{Parsing, grammatical, ungrammatical-at, parse}
+use Rattle.text.specs.Parse.{Parse-verdict, grammatical, ungrammatical-at, parse}
 use Rattle.checking.specs.Faults.{Fault, earliest}
 use Rattle.checking.specs.CountFaults.{count-faults}
 use Rattle.checking.specs.NameFaults.{name-faults}
@@ -18,7 +18,7 @@ use Rattle.checking.specs.KindFaults.{kind-faults}
 use Rattle.checking.specs.Verdict.{
   Verdict,
   accepted,
-  refused,
+  refused-at,
   refused-by,
   file-verdict,
   parsing-verdict,
@@ -43,7 +43,7 @@ file-accepted g {f} h =
     let e : g ≡ f = accepted-is (earliest (count-faults g)) (earliest (name-faults g)) (earliest (kind-faults g)) g h in
     subst (λ x. file-verdict x ≡ accepted f) e h
 
-parsing-accepted : (p : Parsing) {f : File} → parsing-verdict p ≡ accepted f → file-verdict f ≡ accepted f
+parsing-accepted : (p : Parse-verdict) {f : File} → parsing-verdict p ≡ accepted f → file-verdict f ≡ accepted f
 unfolding parsing-verdict
 parsing-accepted (grammatical g) h = file-accepted g h
 parsing-accepted (ungrammatical-at p) h = let z : _≡_ {A = ℕ} 0 1 = cc in absurd (omega arith)
@@ -61,7 +61,7 @@ within-limit text {f} h = go (leb (length text) MOST-BYTES) refl
   where
     go : (b : Bool) → leb (length text) MOST-BYTES ≡ b → (leb (length text) MOST-BYTES ≡ true) × (lexing-verdict (length text) (tokens-of text) ≡ accepted f)
     go true e = (e, rw (e, verdict) at h)
-    go false e = let g : refused 11 MOST-BYTES ≡ accepted f = rw (e, verdict) at h in let z : _≡_ {A = ℕ} 0 1 = cc in absurd (omega arith)
+    go false e = let g : refused-at 11 MOST-BYTES ≡ accepted f = rw (e, verdict) at h in let z : _≡_ {A = ℕ} 0 1 = cc in absurd (omega arith)
 
 pub accepted-length : (text : List ℕ) {f : File} → verdict text ≡ accepted f → length text ≤ MOST-BYTES
 accepted-length text h = leb-true (length text) MOST-BYTES (within-limit text h .0)
@@ -79,4 +79,4 @@ file-is-accepted text {f} h = go (verdict text) h
   where
     go : (v : Verdict) → file-of v ≡ some f → v ≡ accepted f
     go (accepted g) e = cc
-    go (refused code at) e = let z : _≡_ {A = ℕ} 0 1 = cc in absurd (omega arith)
+    go (refused-at code at) e = let z : _≡_ {A = ℕ} 0 1 = cc in absurd (omega arith)

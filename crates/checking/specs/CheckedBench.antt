@@ -14,7 +14,7 @@ use Rattle.text.specs.Grammar.{file-reader}
 use Rattle.checking.specs.declared.check.Checked.{Checked}
 use Rattle.checking.specs.declared.check.Checked.the-variants.{Accepted, Refused, NoRoom}
 use Rattle.checking.specs.CountFaults.{MOST-RULES}
-use Rattle.checking.specs.Verdict.{accepted, refused, MOST-BYTES, verdict, verdict-answer}
+use Rattle.checking.specs.Verdict.{accepted, refused-at, MOST-BYTES, verdict, verdict-answer}
 use Rattle.checking.specs.Directory.{DIRECTORY, Bench}
 use Rattle.checking.specs.DirectoryReads.{Few}
 
@@ -50,7 +50,7 @@ pub record Accepts (text : List ℕ) (u : Token-columns) (d : List ℕ) (n : ℕ
 
 abbrev pub Says : List ℕ → Token-columns → List ℕ → Checked → Type 0
 Says text u d (Accepted n) = Accepts text u d n
-Says text u d (Refused code at) = verdict text ≡ refused code at
+Says text u d (Refused code at) = verdict text ≡ refused-at code at
 Says text u d NoRoom = Unit {0}
 
 -- room for a row for each byte of the text, unless it is refused for its length, and for the directory

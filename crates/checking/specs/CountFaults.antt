@@ -31,23 +31,23 @@ MOST-CALLS = 8
 unfoldable pub beyond : ℕ → List ℕ → List Fault
 beyond most offsets = map (fault 14) (drop most offsets)
 
-unfoldable pub interface-counts : Interface → List Fault
+unfoldable pub interface-count-faults : Interface → List Fault
 unfolding beyond
-interface-counts i = beyond MOST-MEMBERS (map (λ m. m .at) (i .members))
+interface-count-faults i = beyond MOST-MEMBERS (map (λ m. m .at) (i .members))
 
 -- "(variables by declaration)"
-unfoldable pub rule-counts : Rule → List Fault
+unfoldable pub rule-count-faults : Rule → List Fault
 unfolding beyond variables clauses
-rule-counts r =
+rule-count-faults r =
     beyond MOST-VARIABLES (map (λ v. v .name .at) (variables r))
     ++ beyond MOST-CLAUSES (map (λ c. c .at) (clauses (r .condition)))
     ++ beyond MOST-CALLS (map (λ c. c .at) (r .calls))
 
 unfoldable pub count-faults : File → List Fault
-unfolding beyond flatMap interface-counts rule-counts
+unfolding beyond flatMap interface-count-faults rule-count-faults
 count-faults f =
     beyond MOST-INTERFACES (map (λ i. i .at) (f .interfaces))
-    ++ flatMap interface-counts (f .interfaces)
+    ++ flatMap interface-count-faults (f .interfaces)
     ++ beyond MOST-ENTITIES (map (λ e. e .at) (f .entities))
     ++ beyond MOST-RULES (map (λ r. r .at) (f .rules))
-    ++ flatMap rule-counts (f .rules)
+    ++ flatMap rule-count-faults (f .rules)

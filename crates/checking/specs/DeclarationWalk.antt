@@ -16,8 +16,8 @@ use Rattle.checking.specs.declared.entities.Assigned.{Assigned}
 use Rattle.checking.specs.Faults.{earliest}
 use Rattle.checking.specs.FoundFaults.{found-as}
 use Rattle.checking.specs.Scope.{look-up, is-found, is-attribute}
-use Rattle.checking.specs.NameFaults.{again-faults, member-faults, interface-names, unset-faults, entity-names}
-use Rattle.checking.specs.KindFaults.{assignment-kinds, entity-kinds}
+use Rattle.checking.specs.NameFaults.{again-faults, member-faults, interface-name-faults, unset-faults, entity-name-faults}
+use Rattle.checking.specs.KindFaults.{assignment-kind-faults, entity-kind-faults}
 use Rattle.checking.specs.Directory.{
   name-in,
   Columns-of,
@@ -52,7 +52,7 @@ pub record Repeated-rows (text offsets lengths d : List ℕ) (base count most : 
 
 pub record Interfaces-found (text offsets lengths d : List ℕ) (r : Found) : Type 0 where
   pub is : (classes : List ℕ) (w : Bench text classes offsets lengths d) → Few (w .file)
-      → found-as r ≡ earliest (again-faults (map (λ i. i .name) (w .file .interfaces)) ++ flatMap interface-names (w .file .interfaces))
+      → found-as r ≡ earliest (again-faults (map (λ i. i .name) (w .file .interfaces)) ++ flatMap interface-name-faults (w .file .interfaces))
 
 -- ---- entities and their interfaces
 
@@ -102,7 +102,7 @@ pub record Kind-found (classes offsets d : List ℕ) (face m equals last : ℕ) 
   pub is : (text lengths : List ℕ) (w : Bench text classes offsets lengths d) → Few (w .file) → (a : Assignment)
       → m ≡ member-number (getElem? (w .file .interfaces) face) (a .name .bytes) → getD offsets equals 0 ≡ a .equals-at
       → literal-class (getD classes last 0) ≡ kind-class (literal-kind (a .literal))
-      → found-as r ≡ earliest (assignment-kinds (getElem? (w .file .interfaces) face) a)
+      → found-as r ≡ earliest (assignment-kind-faults (getElem? (w .file .interfaces) face) a)
 
 -- the assignments of an entity and its `}`, from token number `from` on
 pub record Body-of (ts : List Token) (from : ℕ) (x : Entity) : Type 0 where
@@ -128,7 +128,7 @@ pub record Assignments-found (text classes offsets lengths d : List ℕ) (face f
       → found-as (r .members)
       ≡ earliest (flatMap (λ a. member-faults is-attribute (getElem? (b .bench .file .interfaces) face) (a .name)) (b .entity .assignments))
   pub kinds : (b : Body text classes offsets lengths d from)
-      → found-as (r .kinds) ≡ earliest (flatMap (assignment-kinds (getElem? (b .bench .file .interfaces) face)) (b .entity .assignments))
+      → found-as (r .kinds) ≡ earliest (flatMap (assignment-kind-faults (getElem? (b .bench .file .interfaces) face)) (b .entity .assignments))
 
 -- the attributes of interface number `face` that the assignments leave out
 pub record Unset-found (text classes offsets lengths d : List ℕ) (face from to : ℕ) (r : Found) : Type 0 where
@@ -140,13 +140,13 @@ pub record Unset-found (text classes offsets lengths d : List ℕ) (face from to
 -- entity number e
 pub record Entity-found (text classes offsets lengths d : List ℕ) (e : ℕ) (r : Faulted) : Type 0 where
   pub names : (w : Bench text classes offsets lengths d) → Few (w .file) → (x : Entity) → getElem? (w .file .entities) e ≡ some x
-      → found-as (r .names) ≡ earliest (entity-names (w .file) x)
+      → found-as (r .names) ≡ earliest (entity-name-faults (w .file) x)
   pub kinds : (w : Bench text classes offsets lengths d) → Few (w .file) → (x : Entity) → getElem? (w .file .entities) e ≡ some x
-      → found-as (r .kinds) ≡ earliest (entity-kinds (w .file) x)
+      → found-as (r .kinds) ≡ earliest (entity-kind-faults (w .file) x)
 
 pub record Entities-found (text classes offsets lengths d : List ℕ) (r : Faulted) : Type 0 where
   pub names : (w : Bench text classes offsets lengths d) → Few (w .file)
       → found-as (r .names)
-      ≡ earliest (again-faults (map (λ e. e .name) (w .file .entities)) ++ flatMap (entity-names (w .file)) (w .file .entities))
+      ≡ earliest (again-faults (map (λ e. e .name) (w .file .entities)) ++ flatMap (entity-name-faults (w .file)) (w .file .entities))
   pub kinds : (w : Bench text classes offsets lengths d) → Few (w .file)
-      → found-as (r .kinds) ≡ earliest (flatMap (entity-kinds (w .file)) (w .file .entities))
+      → found-as (r .kinds) ≡ earliest (flatMap (entity-kind-faults (w .file)) (w .file .entities))

@@ -8,9 +8,9 @@ use Rattle.values.specs.declared.Kind.{Kind}
 use Rattle.values.specs.declared.Kind.the-variants.{Wholes, Bools, Reals}
 use Rattle.text.specs.Tokens.{Token, ATTRIBUTE, EVENT, ACTION, WHOLE, BOOL, REAL, INTERFACE, ENTITY, WHEN}
 use Rattle.text.specs.Syntax.{Name, Sort, attribute, event, action, Member, Interface, Entity, Rule, File}
-use Rattle.text.specs.Readers.{read, Reader}
+use Rattle.text.specs.Readers.{read, Parser}
 use Rattle.text.specs.Grammar.{name-of, interface-after, entity-after, rule-after}
-use Rattle.checking.specs.Scope.{Found, look-up}
+use Rattle.checking.specs.Scope.{Indexed, look-up}
 use Rattle.checking.specs.CountFaults.{MOST-INTERFACES, MOST-MEMBERS, MOST-ENTITIES, MOST-RULES}
 
 -- the bytes of row i's token
@@ -31,7 +31,7 @@ pub record Named (ts : List Token) (i : ℕ) (n : Name) : Type 0 where
   pub is : name-of token ≡ n
 
 -- token number p has class c, and the reader reads the tree from the tokens after it
-pub record Begins {A : Type 0} (ts : List Token) (p c : ℕ) (after : Token → Reader A) (a : A) : Type 0 where
+pub record Begins {A : Type 0} (ts : List Token) (p c : ℕ) (after : Token → Parser A) (a : A) : Type 0 where
   pub token : Token
   pub stands : getElem? ts p ≡ some token
   pub class : token .class ≡ c
@@ -49,7 +49,7 @@ kind-class Bools = BOOL
 kind-class Reals = REAL
 
 -- the first item of that name by its number, or a number for none
-unfoldable pub number-or : {A : Type 0} → ℕ → Option (Found A) → ℕ
+unfoldable pub number-or : {A : Type 0} → ℕ → Option (Indexed A) → ℕ
 number-or other none = other
 number-or other (some f) = f .number
 

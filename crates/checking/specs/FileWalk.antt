@@ -13,17 +13,17 @@ use Rattle.checking.specs.declared.faults.Faulted.{Faulted}
 use Rattle.checking.specs.Faults.{Fault, earliest}
 use Rattle.checking.specs.FoundFaults.{found-as}
 use Rattle.checking.specs.CountFaults.{MOST-RULES}
-use Rattle.checking.specs.NameFaults.{rule-names, name-faults}
-use Rattle.checking.specs.KindFaults.{rule-kinds, kind-faults}
+use Rattle.checking.specs.NameFaults.{rule-name-faults, name-faults}
+use Rattle.checking.specs.KindFaults.{rule-kind-faults, kind-faults}
 use Rattle.checking.specs.Verdict.{accepted, refused-by, file-verdict}
 use Rattle.checking.specs.Directory.{Columns-of, DIRECTORY, Directory-of, Bench}
 use Rattle.checking.specs.DirectoryReads.{Few}
 
 pub record Rules-found (text classes offsets lengths d : List ℕ) (r : Faulted) : Type 0 where
   pub names : (w : Bench text classes offsets lengths d) → Few (w .file) → length (w .file .rules) ≤ MOST-RULES
-      → found-as (r .names) ≡ earliest (flatMap (rule-names (w .file)) (w .file .rules))
+      → found-as (r .names) ≡ earliest (flatMap (rule-name-faults (w .file)) (w .file .rules))
   pub kinds : (w : Bench text classes offsets lengths d) → Few (w .file) → length (w .file .rules) ≤ MOST-RULES
-      → found-as (r .kinds) ≡ earliest (flatMap (rule-kinds (w .file)) (w .file .rules))
+      → found-as (r .kinds) ≡ earliest (flatMap (rule-kind-faults (w .file)) (w .file .rules))
 
 pub record File-found (text classes offsets lengths d : List ℕ) (r : Faulted) : Type 0 where
   pub names : (w : Bench text classes offsets lengths d) → Few (w .file) → length (w .file .rules) ≤ MOST-RULES

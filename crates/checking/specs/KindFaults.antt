@@ -28,9 +28,9 @@ use Rattle.text.specs.Syntax.{
   File,
 }
 use Rattle.checking.specs.Faults.{Fault, fault-unless}
-use Rattle.checking.specs.Scope.{Found, interface-named, member-named, clauses, Scope, scope-of, interface-in}
+use Rattle.checking.specs.Scope.{Indexed, interface-named, member-named, clauses, Scope, scope-of, interface-in}
 
-unfoldable pub kind-if-found : Option (Found Member) → Option Kind
+unfoldable pub kind-if-found : Option (Indexed Member) → Option Kind
 kind-if-found none = none
 kind-if-found (some m) = some (m .item .kind)
 
@@ -53,52 +53,52 @@ kind-of s (negate at a) = bind (kind-of s a) number-kind
 kind-of s (apply o at a b) = bind (kind-of s a) λ j. bind (kind-of s b) λ k. operated-kind j k
 
 -- 18, place: "first .. operator, `real` .. of unfitting kinds"
-unfoldable pub expression-kinds : Scope → Expression → List Fault
+unfoldable pub expression-kind-faults : Scope → Expression → List Fault
 unfolding fault-unless operand-fits real-kind number-kind operands-fit kind-of
-expression-kinds s (literal l) = []
-expression-kinds s (member n m) = []
-expression-kinds s (to-real at a) = fault-unless (operand-fits real-kind (kind-of s a)) 18 at ++ expression-kinds s a
-expression-kinds s (negate at a) = fault-unless (operand-fits number-kind (kind-of s a)) 18 at ++ expression-kinds s a
-expression-kinds s (apply o at a b) =
-    fault-unless (operands-fit (kind-of s a) (kind-of s b)) 18 at ++ expression-kinds s a ++ expression-kinds s b
+expression-kind-faults s (literal l) = []
+expression-kind-faults s (member n m) = []
+expression-kind-faults s (to-real at a) = fault-unless (operand-fits real-kind (kind-of s a)) 18 at ++ expression-kind-faults s a
+expression-kind-faults s (negate at a) = fault-unless (operand-fits number-kind (kind-of s a)) 18 at ++ expression-kind-faults s a
+expression-kind-faults s (apply o at a b) =
+    fault-unless (operands-fit (kind-of s a) (kind-of s b)) 18 at ++ expression-kind-faults s a ++ expression-kind-faults s b
 
 -- "Both sides of `=` have one kind; so have a parameter and its action": a cell's kind, the offset of `=` or `(`, an expression
-unfoldable pub matched-kinds : Scope → Option Kind → ℕ → Expression → List Fault
-unfolding fault-unless kinds-fit kind-of expression-kinds
-matched-kinds s k at a = fault-unless (kinds-fit k (kind-of s a)) 18 at ++ expression-kinds s a
+unfoldable pub matched-kind-faults : Scope → Option Kind → ℕ → Expression → List Fault
+unfolding fault-unless kinds-fit kind-of expression-kind-faults
+matched-kind-faults s k at a = fault-unless (kinds-fit k (kind-of s a)) 18 at ++ expression-kind-faults s a
 
-unfoldable pub assignment-kinds : Option Interface → Assignment → List Fault
+unfoldable pub assignment-kind-faults : Option Interface → Assignment → List Fault
 unfolding fault-unless kinds-fit member-kind literal-kind
-assignment-kinds i a = fault-unless (kinds-fit (member-kind i (a .name)) (some (literal-kind (a .literal)))) 18 (a .equals-at)
+assignment-kind-faults i a = fault-unless (kinds-fit (member-kind i (a .name)) (some (literal-kind (a .literal)))) 18 (a .equals-at)
 
-unfoldable pub entity-kinds : File → Entity → List Fault
-unfolding flatMap assignment-kinds interface-named
-entity-kinds f e = flatMap (assignment-kinds (interface-named f (e .interface .bytes))) (e .assignments)
+unfoldable pub entity-kind-faults : File → Entity → List Fault
+unfolding flatMap assignment-kind-faults interface-named
+entity-kind-faults f e = flatMap (assignment-kind-faults (interface-named f (e .interface .bytes))) (e .assignments)
 
-unfoldable pub filter-kinds : Scope → Target → Option Filter → List Fault
-unfolding matched-kinds kind-in
-filter-kinds s t none = []
-filter-kinds s t (some g) = matched-kinds s (kind-in s (t .name) (g .attribute)) (g .equals-at) (g .expression)
+unfoldable pub filter-kind-faults : Scope → Target → Option Filter → List Fault
+unfolding matched-kind-faults kind-in
+filter-kind-faults s t none = []
+filter-kind-faults s t (some g) = matched-kind-faults s (kind-in s (t .name) (g .attribute)) (g .equals-at) (g .expression)
 
-unfoldable pub test-kinds : Scope → Option Kind → Test → List Fault
-unfolding matched-kinds
-test-kinds s k changed = []
-test-kinds s k (equals at a) = matched-kinds s k at a
+unfoldable pub test-kind-faults : Scope → Option Kind → Test → List Fault
+unfolding matched-kind-faults
+test-kind-faults s k changed = []
+test-kind-faults s k (equals at a) = matched-kind-faults s k at a
 
-unfoldable pub clause-kinds : Scope → Clause → List Fault
-unfolding filter-kinds test-kinds kind-in
-clause-kinds s c = filter-kinds s (c .target) (c .filter) ++ test-kinds s (kind-in s (c .target .name) (c .event)) (c .test)
+unfoldable pub clause-kind-faults : Scope → Clause → List Fault
+unfolding filter-kind-faults test-kind-faults kind-in
+clause-kind-faults s c = filter-kind-faults s (c .target) (c .filter) ++ test-kind-faults s (kind-in s (c .target .name) (c .event)) (c .test)
 
-unfoldable pub call-kinds : Scope → Call → List Fault
-unfolding matched-kinds filter-kinds kind-in
-call-kinds s c =
-    matched-kinds s (kind-in s (c .target .name) (c .action)) (c .open-at) (c .parameter)
-    ++ filter-kinds s (c .target) (c .filter)
+unfoldable pub call-kind-faults : Scope → Call → List Fault
+unfolding matched-kind-faults filter-kind-faults kind-in
+call-kind-faults s c =
+    matched-kind-faults s (kind-in s (c .target .name) (c .action)) (c .open-at) (c .parameter)
+    ++ filter-kind-faults s (c .target) (c .filter)
 
-unfoldable pub rule-kinds : File → Rule → List Fault
-unfolding flatMap clause-kinds call-kinds clauses scope-of
-rule-kinds f r = flatMap (clause-kinds (scope-of f r)) (clauses (r .condition)) ++ flatMap (call-kinds (scope-of f r)) (r .calls)
+unfoldable pub rule-kind-faults : File → Rule → List Fault
+unfolding flatMap clause-kind-faults call-kind-faults clauses scope-of
+rule-kind-faults f r = flatMap (clause-kind-faults (scope-of f r)) (clauses (r .condition)) ++ flatMap (call-kind-faults (scope-of f r)) (r .calls)
 
 unfoldable pub kind-faults : File → List Fault
-unfolding flatMap entity-kinds rule-kinds
-kind-faults f = flatMap (entity-kinds f) (f .entities) ++ flatMap (rule-kinds f) (f .rules)
+unfolding flatMap entity-kind-faults rule-kind-faults
+kind-faults f = flatMap (entity-kind-faults f) (f .entities) ++ flatMap (rule-kind-faults f) (f .rules)

@@ -27,7 +27,7 @@ use Rattle.text.specs.Syntax.{
 }
 use Rattle.checking.specs.Faults.{Fault, fault-unless}
 use Rattle.checking.specs.Scope.{
-  Found,
+  Indexed,
   look-up,
   is-found,
   interface-named,
@@ -61,7 +61,7 @@ unfoldable pub interface-faults : File → Name → List Fault
 unfolding fault-unless is-found interface-named
 interface-faults f n = fault-unless (is-found (interface-named f (n .bytes))) 16 (n .at)
 
-unfoldable pub is-of-sort : (Sort → Bool) → Option (Found Member) → Bool
+unfoldable pub is-of-sort : (Sort → Bool) → Option (Indexed Member) → Bool
 is-of-sort sort none = false
 is-of-sort sort (some m) = sort (m .item .sort)
 
@@ -72,9 +72,9 @@ member-faults sort none n = []
 member-faults sort (some i) n = fault-unless (is-of-sort sort (member-named i (n .bytes))) 16 (n .at)
 
 -- "no two members of one interface (of any sort) .. share a name"
-unfoldable pub interface-names : Interface → List Fault
+unfoldable pub interface-name-faults : Interface → List Fault
 unfolding again-faults
-interface-names i = again-faults (map (λ m. m .name) (i .members))
+interface-name-faults i = again-faults (map (λ m. m .name) (i .members))
 
 -- 17, place of `}`: "attribute not set"
 unfoldable pub attribute-faults : Entity → Member → List Fault
@@ -88,26 +88,26 @@ unset-faults e none = []
 unset-faults e (some i) = flatMap (attribute-faults e) (i .members)
 
 -- "An entity sets each attribute of its interface just once"
-unfoldable pub entity-names : File → Entity → List Fault
+unfoldable pub entity-name-faults : File → Entity → List Fault
 unfolding interface-faults again-faults flatMap member-faults is-attribute interface-named unset-faults
-entity-names f e =
+entity-name-faults f e =
     interface-faults f (e .interface)
     ++ again-faults (map (λ a. a .name) (e .assignments))
     ++ flatMap (λ a. member-faults is-attribute (interface-named f (e .interface .bytes)) (a .name)) (e .assignments)
     ++ unset-faults e (interface-named f (e .interface .bytes))
 
 -- 16: "name .. unknown": neither an entity nor a variable of the rule
-unfoldable pub name-faults-at : Scope → Name → List Fault
+unfoldable pub unknown-name-faults : Scope → Name → List Fault
 unfolding fault-unless is-known
-name-faults-at s n = fault-unless (is-known s (n .bytes)) 16 (n .at)
+unknown-name-faults s n = fault-unless (is-known s (n .bytes)) 16 (n .at)
 
-unfoldable pub expression-names : Scope → Expression → List Fault
-unfolding name-faults-at member-faults is-member interface-in
-expression-names s (literal l) = []
-expression-names s (member n m) = name-faults-at s n ++ member-faults is-member (interface-in s (n .bytes)) m
-expression-names s (to-real at a) = expression-names s a
-expression-names s (negate at a) = expression-names s a
-expression-names s (apply o at a b) = expression-names s a ++ expression-names s b
+unfoldable pub expression-name-faults : Scope → Expression → List Fault
+unfolding unknown-name-faults member-faults is-member interface-in
+expression-name-faults s (literal l) = []
+expression-name-faults s (member n m) = unknown-name-faults s n ++ member-faults is-member (interface-in s (n .bytes)) m
+expression-name-faults s (to-real at a) = expression-name-faults s a
+expression-name-faults s (negate at a) = expression-name-faults s a
+expression-name-faults s (apply o at a b) = expression-name-faults s a ++ expression-name-faults s b
 
 -- "no variable bears an entity's name"
 unfoldable pub variable-faults : Scope → Name → Name → List Fault
@@ -115,54 +115,54 @@ unfolding fault-unless is-found entity-named interface-faults
 variable-faults s n i = fault-unless (not (is-found (entity-named (s .file) (n .bytes)))) 15 (n .at) ++ interface-faults (s .file) i
 
 unfoldable pub declaration-faults : Scope → Name → Option Name → List Fault
-unfolding name-faults-at variable-faults
-declaration-faults s n none = name-faults-at s n
+unfolding unknown-name-faults variable-faults
+declaration-faults s n none = unknown-name-faults s n
 declaration-faults s n (some i) = variable-faults s n i
 
-unfoldable pub target-names : Scope → Target → List Fault
+unfoldable pub target-name-faults : Scope → Target → List Fault
 unfolding declaration-faults
-target-names s t = declaration-faults s (t .name) (t .declares)
+target-name-faults s t = declaration-faults s (t .name) (t .declares)
 
-unfoldable pub filter-names : Scope → Target → Option Filter → List Fault
-unfolding member-faults is-attribute interface-in expression-names
-filter-names s t none = []
-filter-names s t (some g) = member-faults is-attribute (interface-in s (t .name .bytes)) (g .attribute) ++ expression-names s (g .expression)
+unfoldable pub filter-name-faults : Scope → Target → Option Filter → List Fault
+unfolding member-faults is-attribute interface-in expression-name-faults
+filter-name-faults s t none = []
+filter-name-faults s t (some g) = member-faults is-attribute (interface-in s (t .name .bytes)) (g .attribute) ++ expression-name-faults s (g .expression)
 
-unfoldable pub test-names : Scope → Test → List Fault
-unfolding expression-names
-test-names s changed = []
-test-names s (equals at a) = expression-names s a
+unfoldable pub test-name-faults : Scope → Test → List Fault
+unfolding expression-name-faults
+test-name-faults s changed = []
+test-name-faults s (equals at a) = expression-name-faults s a
 
-unfoldable pub clause-names : Scope → Clause → List Fault
-unfolding member-faults is-event interface-in target-names filter-names test-names
-clause-names s c =
+unfoldable pub clause-name-faults : Scope → Clause → List Fault
+unfolding member-faults is-event interface-in target-name-faults filter-name-faults test-name-faults
+clause-name-faults s c =
     member-faults is-event (interface-in s (c .target .name .bytes)) (c .event)
-    ++ target-names s (c .target)
-    ++ filter-names s (c .target) (c .filter)
-    ++ test-names s (c .test)
+    ++ target-name-faults s (c .target)
+    ++ filter-name-faults s (c .target) (c .filter)
+    ++ test-name-faults s (c .test)
 
-unfoldable pub call-names : Scope → Call → List Fault
-unfolding member-faults is-action interface-in expression-names target-names filter-names
-call-names s c =
+unfoldable pub call-name-faults : Scope → Call → List Fault
+unfolding member-faults is-action interface-in expression-name-faults target-name-faults filter-name-faults
+call-name-faults s c =
     member-faults is-action (interface-in s (c .target .name .bytes)) (c .action)
-    ++ expression-names s (c .parameter)
-    ++ target-names s (c .target)
-    ++ filter-names s (c .target) (c .filter)
+    ++ expression-name-faults s (c .parameter)
+    ++ target-name-faults s (c .target)
+    ++ filter-name-faults s (c .target) (c .filter)
 
 -- "no two variables of a rule share a name"
-unfoldable pub rule-names : File → Rule → List Fault
-unfolding again-faults variables flatMap clause-names scope-of clauses call-names
-rule-names f r =
+unfoldable pub rule-name-faults : File → Rule → List Fault
+unfolding again-faults variables flatMap clause-name-faults scope-of clauses call-name-faults
+rule-name-faults f r =
     again-faults (map (λ v. v .name) (variables r))
-    ++ flatMap (clause-names (scope-of f r)) (clauses (r .condition))
-    ++ flatMap (call-names (scope-of f r)) (r .calls)
+    ++ flatMap (clause-name-faults (scope-of f r)) (clauses (r .condition))
+    ++ flatMap (call-name-faults (scope-of f r)) (r .calls)
 
 -- "15 to 17 are one pass"; "No two interfaces, no two entities .. share a name"
 unfoldable pub name-faults : File → List Fault
-unfolding again-faults flatMap interface-names entity-names rule-names
+unfolding again-faults flatMap interface-name-faults entity-name-faults rule-name-faults
 name-faults f =
     again-faults (map (λ i. i .name) (f .interfaces))
-    ++ flatMap interface-names (f .interfaces)
+    ++ flatMap interface-name-faults (f .interfaces)
     ++ again-faults (map (λ e. e .name) (f .entities))
-    ++ flatMap (entity-names f) (f .entities)
-    ++ flatMap (rule-names f) (f .rules)
+    ++ flatMap (entity-name-faults f) (f .entities)
+    ++ flatMap (rule-name-faults f) (f .rules)

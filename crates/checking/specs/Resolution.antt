@@ -8,7 +8,7 @@ use mathlib.Core.Logic.{_⊎_}
 use lib.ListN.{length, getD, getElem?}
 use Rattle.text.specs.Tokens.{NAME, EVENT, ACTION, FROM, WITH, ON, COLON, DOT, WHEN}
 use Rattle.text.specs.Syntax.{Entity}
-use Rattle.checking.specs.Scope.{Found, entity-named, Variable, variables, variable-named, Scope, interface-in}
+use Rattle.checking.specs.Scope.{Indexed, entity-named, Variable, variables, variable-named, Scope, interface-in}
 use Rattle.checking.specs.CountFaults.{MOST-ENTITIES, MOST-RULES, MOST-VARIABLES}
 use Rattle.checking.specs.Directory.{name-in, interface-number, member-number, RULE-COUNT-ROW, rule-row}
 use Rattle.checking.specs.RuleParts.{Rule-world, world-scope}
@@ -22,7 +22,7 @@ abbrev pub FIRST-VARIABLE : ℕ
 FIRST-VARIABLE = MOST-ENTITIES
 
 -- an entity by its number, or a variable; in a rule an entity comes before a variable
-unfoldable pub reference-by : Option (Found Entity) → Option (Found Variable) → ℕ
+unfoldable pub reference-by : Option (Indexed Entity) → Option (Indexed Variable) → ℕ
 reference-by none none = NO-REFERENCE
 reference-by none (some v) = FIRST-VARIABLE + v .number
 reference-by (some e) v = e .number

@@ -28,7 +28,7 @@ use Rattle.text.specs.Syntax.{
   Rule,
 }
 use Rattle.values.specs.declared.Operator.{Operator}
-use Rattle.text.specs.Readers.{Reader}
+use Rattle.text.specs.Readers.{Parser}
 use Rattle.text.specs.Grammar.{rule-after}
 use Rattle.text.specs.Walks.{Rows, Walks}
 use Rattle.checking.specs.DirectoryReads.{Few}
@@ -45,22 +45,22 @@ use Rattle.checking.specs.NameFaults.{
   again-faults,
   interface-faults,
   member-faults,
-  expression-names,
-  target-names,
-  filter-names,
-  test-names,
-  clause-names,
-  call-names,
+  expression-name-faults,
+  target-name-faults,
+  filter-name-faults,
+  test-name-faults,
+  clause-name-faults,
+  call-name-faults,
 }
 use Rattle.checking.specs.KindFaults.{
   member-kind,
   kind-of,
-  expression-kinds,
-  matched-kinds,
-  filter-kinds,
-  test-kinds,
-  clause-kinds,
-  call-kinds,
+  expression-kind-faults,
+  matched-kind-faults,
+  filter-kind-faults,
+  test-kind-faults,
+  clause-kind-faults,
+  call-kind-faults,
 }
 use Rattle.checking.specs.Directory.{name-in, Begins, sort-class, kind-class, Bench}
 
@@ -167,8 +167,8 @@ pub record Operated-kind (j k r : ℕ) : Type 0 where
 -- what the check of an expression gives
 pub record Expression-checked (s : Scope) (a : Expression) (r : Kinded) : Type 0 where
   pub kind : r .kind ≡ kind-code (kind-of s a)
-  pub names : found-as (r .names) ≡ earliest (expression-names s a)
-  pub kinds : found-as (r .kinds) ≡ earliest (expression-kinds s a)
+  pub names : found-as (r .names) ≡ earliest (expression-name-faults s a)
+  pub kinds : found-as (r .kinds) ≡ earliest (expression-kind-faults s a)
 
 pub record Literal-checked (next kind : ℕ) (r : Kinded) : Type 0 where
   pub next-is : r .next ≡ next
@@ -195,7 +195,7 @@ module _ (text classes offsets lengths d : List ℕ) (start : ℕ) where
   abbrev pub expression-yields : Rule-world text classes offsets lengths d start → Expression → Kinded → Type 0
   expression-yields c a r = Expression-checked (world-scope c) a r
 
-  abbrev pub Expression-walk : Reader Expression → ℕ → Kinded → Type 0
+  abbrev pub Expression-walk : Parser Expression → ℕ → Kinded → Type 0
   Expression-walk r at v = Walks world-rows expression-yields r at v (v .next)
 
 -- ---- conditions and calls
@@ -212,7 +212,7 @@ pub record Nothing-found (next : ℕ) (r : Part) : Type 0 where
 pub record Matched (kind offset : ℕ) (e : Kinded) (r : Part) : Type 0 where
   pub next-is : r .next ≡ e .next
   pub part : (s : Scope) (k : Option Kind) (a : Expression) → kind ≡ kind-code k → Expression-checked s a e
-      → Part-of (expression-names s a) (matched-kinds s k offset a) r
+      → Part-of (expression-name-faults s a) (matched-kind-faults s k offset a) r
 
 pub record After (first : Found) (p r : Part) : Type 0 where
   pub next-is : r .next ≡ p .next
@@ -235,39 +235,39 @@ module _ (text classes offsets lengths d : List ℕ) (start : ℕ) where
 
   pub record Place-checked (c : Rule-world text classes offsets lengths d start) (t : Target) (r : Place) : Type 0 where
     pub face-is : Face-of c (r .face) t
-    pub names-found : found-as (r .names) ≡ earliest (target-names (world-scope c) t)
+    pub names-found : found-as (r .names) ≡ earliest (target-name-faults (world-scope c) t)
 
-  abbrev pub Place-walk : Reader Target → ℕ → Place → Type 0
+  abbrev pub Place-walk : Parser Target → ℕ → Place → Type 0
   Place-walk r at v = Walks world-rows Place-checked r at v (v .next)
 
   -- where the filter's target has interface number `face`
   pub record Filter-checked (face : ℕ) (c : Rule-world text classes offsets lengths d start) (f : Option Filter) (r : Part) : Type 0 where
-    pub part : (t : Target) → Face-of c face t → Part-of (filter-names (world-scope c) t f) (filter-kinds (world-scope c) t f) r
+    pub part : (t : Target) → Face-of c face t → Part-of (filter-name-faults (world-scope c) t f) (filter-kind-faults (world-scope c) t f) r
 
-  abbrev pub Filter-walk : ℕ → Reader (Option Filter) → ℕ → Part → Type 0
+  abbrev pub Filter-walk : ℕ → Parser (Option Filter) → ℕ → Part → Type 0
   Filter-walk face r at v = Walks world-rows (Filter-checked face) r at v (v .next)
 
   -- where the test's event has this kind
   pub record Test-checked (kind : ℕ) (c : Rule-world text classes offsets lengths d start) (e : Test) (r : Part) : Type 0 where
-    pub part : (k : Option Kind) → kind ≡ kind-code k → Part-of (test-names (world-scope c) e) (test-kinds (world-scope c) k e) r
+    pub part : (k : Option Kind) → kind ≡ kind-code k → Part-of (test-name-faults (world-scope c) e) (test-kind-faults (world-scope c) k e) r
 
-  abbrev pub Test-walk : ℕ → Reader Test → ℕ → Part → Type 0
+  abbrev pub Test-walk : ℕ → Parser Test → ℕ → Part → Type 0
   Test-walk kind r at v = Walks world-rows (Test-checked kind) r at v (v .next)
 
   abbrev pub condition-yields : Rule-world text classes offsets lengths d start → Condition → Part → Type 0
-  condition-yields c a r = Part-of (flatMap (clause-names (world-scope c)) (clauses a)) (flatMap (clause-kinds (world-scope c)) (clauses a)) r
+  condition-yields c a r = Part-of (flatMap (clause-name-faults (world-scope c)) (clauses a)) (flatMap (clause-kind-faults (world-scope c)) (clauses a)) r
 
-  abbrev pub Condition-walk : Reader Condition → ℕ → Part → Type 0
+  abbrev pub Condition-walk : Parser Condition → ℕ → Part → Type 0
   Condition-walk r at v = Walks world-rows condition-yields r at v (v .next)
 
   abbrev pub call-yields : Rule-world text classes offsets lengths d start → Call → Part → Type 0
-  call-yields c a r = Part-of (call-names (world-scope c) a) (call-kinds (world-scope c) a) r
+  call-yields c a r = Part-of (call-name-faults (world-scope c) a) (call-kind-faults (world-scope c) a) r
 
-  abbrev pub Call-walk : Reader Call → ℕ → Part → Type 0
+  abbrev pub Call-walk : Parser Call → ℕ → Part → Type 0
   Call-walk r at v = Walks world-rows call-yields r at v (v .next)
 
   abbrev pub calls-yields : Rule-world text classes offsets lengths d start → List Call → Part → Type 0
-  calls-yields c xs r = Part-of (flatMap (call-names (world-scope c)) xs) (flatMap (call-kinds (world-scope c)) xs) r
+  calls-yields c xs r = Part-of (flatMap (call-name-faults (world-scope c)) xs) (flatMap (call-kind-faults (world-scope c)) xs) r
 
-  abbrev pub Calls-walk : Reader (List Call) → ℕ → Part → Type 0
+  abbrev pub Calls-walk : Parser (List Call) → ℕ → Part → Type 0
   Calls-walk r at v = Walks world-rows calls-yields r at v (v .next)

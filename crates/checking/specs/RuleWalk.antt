@@ -9,14 +9,14 @@ use Rattle.text.specs.Grammar.{rule-after}
 use Rattle.checking.specs.declared.faults.Faulted.{Faulted}
 use Rattle.checking.specs.Faults.{earliest}
 use Rattle.checking.specs.FoundFaults.{found-as}
-use Rattle.checking.specs.NameFaults.{rule-names}
-use Rattle.checking.specs.KindFaults.{rule-kinds}
+use Rattle.checking.specs.NameFaults.{rule-name-faults}
+use Rattle.checking.specs.KindFaults.{rule-kind-faults}
 use Rattle.checking.specs.Directory.{Begins, Bench}
 use Rattle.checking.specs.DirectoryReads.{Few}
 
 -- of the rule that begins with token number `at`
 pub record Rule-faults (text classes offsets lengths d : List ℕ) (at : ℕ) (r : Faulted) : Type 0 where
   pub names : (w : Bench text classes offsets lengths d) → Few (w .file) → (x : Rule) → Begins (w .tokens) at WHEN rule-after x
-      → found-as (r .names) ≡ earliest (rule-names (w .file) x)
+      → found-as (r .names) ≡ earliest (rule-name-faults (w .file) x)
   pub kinds : (w : Bench text classes offsets lengths d) → Few (w .file) → (x : Rule) → Begins (w .tokens) at WHEN rule-after x
-      → found-as (r .kinds) ≡ earliest (rule-kinds (w .file) x)
+      → found-as (r .kinds) ≡ earliest (rule-kind-faults (w .file) x)

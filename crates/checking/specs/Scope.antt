@@ -26,23 +26,23 @@ use Rattle.text.specs.Syntax.{
 }
 
 -- an item of a list, and its number in the list
-pub record Found (A : Type 0) : Type 0 where
+pub record Indexed (A : Type 0) : Type 0 where
   pub number : ℕ
   pub item : A
 
 module _ {A : Type 0} where
-  unfoldable pub here-or-later : Bool → A → Option (Found A) → Option (Found A)
+  unfoldable pub here-or-later : Bool → A → Option (Indexed A) → Option (Indexed A)
   here-or-later true x later = some (record { number = 0; item = x })
   here-or-later false x none = none
   here-or-later false x (some f) = some (record { number = suc (f .number); item = f .item })
 
   -- "a name means its first declaration": the first item of that name
-  unfoldable pub look-up : (A → Name) → List ℕ → List A → Option (Found A)
+  unfoldable pub look-up : (A → Name) → List ℕ → List A → Option (Indexed A)
   unfolding here-or-later same-bytes
   look-up name-of n [] = none
   look-up name-of n (x ∷ xs) = here-or-later (same-bytes n (name-of x .bytes)) x (look-up name-of n xs)
 
-  unfoldable pub item-of : Option (Found A) → Option A
+  unfoldable pub item-of : Option (Indexed A) → Option A
   item-of none = none
   item-of (some f) = some (f .item)
 
@@ -54,11 +54,11 @@ unfoldable pub interface-named : File → List ℕ → Option Interface
 unfolding look-up item-of
 interface-named f n = item-of (look-up (λ i. i .name) n (f .interfaces))
 
-unfoldable pub entity-named : File → List ℕ → Option (Found Entity)
+unfoldable pub entity-named : File → List ℕ → Option (Indexed Entity)
 unfolding look-up
 entity-named f n = look-up (λ e. e .name) n (f .entities)
 
-unfoldable pub member-named : Interface → List ℕ → Option (Found Member)
+unfoldable pub member-named : Interface → List ℕ → Option (Indexed Member)
 unfolding look-up
 member-named i n = look-up (λ m. m .name) n (i .members)
 
@@ -106,7 +106,7 @@ unfoldable pub variables : Rule → List Variable
 unfolding flatMap declared-as targets
 variables r = flatMap (λ t. declared-as (t .name) (t .declares)) (targets r)
 
-unfoldable pub variable-named : List Variable → List ℕ → Option (Found Variable)
+unfoldable pub variable-named : List Variable → List ℕ → Option (Indexed Variable)
 unfolding look-up
 variable-named vs n = look-up (λ v. v .name) n vs
 
@@ -119,7 +119,7 @@ unfoldable pub scope-of : File → Rule → Scope
 unfolding variables
 scope-of f r = record { file = f; variables = variables r }
 
-unfoldable pub entity-or-variable : Option (Found Entity) → Option (Found Variable) → Bool
+unfoldable pub entity-or-variable : Option (Indexed Entity) → Option (Indexed Variable) → Bool
 entity-or-variable none none = false
 entity-or-variable none (some v) = true
 entity-or-variable (some e) v = true
@@ -129,7 +129,7 @@ unfoldable pub is-known : Scope → List ℕ → Bool
 unfolding entity-or-variable entity-named variable-named
 is-known s n = entity-or-variable (entity-named (s .file) n) (variable-named (s .variables) n)
 
-unfoldable pub interface-meant : File → Option (Found Entity) → Option (Found Variable) → Option Interface
+unfoldable pub interface-meant : File → Option (Indexed Entity) → Option (Indexed Variable) → Option Interface
 unfolding interface-named
 interface-meant f none none = none
 interface-meant f none (some v) = interface-named f (v .item .interface .bytes)

@@ -7,7 +7,7 @@ use lib.Dec.{leb}
 use lib.ListN.{length, getElem?}
 use Rattle.text.specs.Tokens.{Token, Lexing, tokens, no-token-at, tokens-of}
 use Rattle.text.specs.Syntax.{Entity, File}
-use Rattle.text.specs.Parse.{Parsing, grammatical, ungrammatical-at, parse}
+use Rattle.text.specs.Parse.{Parse-verdict, grammatical, ungrammatical-at, parse}
 use Rattle.text.specs.Answers.{refusal-answer}
 use Rattle.checking.specs.Faults.{Fault, earliest}
 use Rattle.checking.specs.CountFaults.{count-faults}
@@ -16,11 +16,11 @@ use Rattle.checking.specs.KindFaults.{kind-faults}
 
 pub data Verdict : Type 0 where
   accepted : File → Verdict
-  refused : ℕ → ℕ → Verdict
+  refused-at : ℕ → ℕ → Verdict
 
 unfoldable pub refused-by : Option Fault → Verdict → Verdict
 refused-by none otherwise = otherwise
-refused-by (some f) otherwise = refused (f .code) (f .at)
+refused-by (some f) otherwise = refused-at (f .code) (f .at)
 
 -- 14, then 15 to 17, then 18
 unfoldable pub file-verdict : File → Verdict
@@ -32,16 +32,16 @@ file-verdict f =
     (accepted f)))
 
 -- before these, 13
-unfoldable pub parsing-verdict : Parsing → Verdict
+unfoldable pub parsing-verdict : Parse-verdict → Verdict
 unfolding file-verdict
 parsing-verdict (grammatical f) = file-verdict f
-parsing-verdict (ungrammatical-at p) = refused 13 p
+parsing-verdict (ungrammatical-at p) = refused-at 13 p
 
 -- before that, 12
 unfoldable pub lexing-verdict : ℕ → Lexing → Verdict
 unfolding parsing-verdict parse
 lexing-verdict end (tokens ts) = parsing-verdict (parse end ts)
-lexing-verdict end (no-token-at p) = refused 12 p
+lexing-verdict end (no-token-at p) = refused-at 12 p
 
 -- "At most 32,768 bytes"
 abbrev pub MOST-BYTES : ℕ
@@ -52,17 +52,17 @@ unfoldable pub verdict : List ℕ → Verdict
 unfolding lexing-verdict tokens-of
 verdict text = elim (leb (length text) MOST-BYTES) [
   | true ↦ lexing-verdict (length text) (tokens-of text)
-  | false ↦ refused 11 MOST-BYTES
+  | false ↦ refused-at 11 MOST-BYTES
 ]
 
 -- a refusal's code and offset; "Acceptance returns 0"
 unfoldable pub verdict-answer : Verdict → ℕ
 verdict-answer (accepted f) = 0
-verdict-answer (refused code at) = refusal-answer code at
+verdict-answer (refused-at code at) = refusal-answer code at
 
 unfoldable pub file-of : Verdict → Option File
 file-of (accepted f) = some f
-file-of (refused code at) = none
+file-of (refused-at code at) = none
 
 -- the file of an accepted text
 unfoldable pub accepted-file : List ℕ → Option File

@@ -11,7 +11,7 @@ use lib.Dec.{T}
 use lib.ListN.{getElem?}
 use Rattle.values.specs.Bytes.{same-bytes}
 use Rattle.text.specs.Syntax.{Name}
-use Rattle.checking.specs.Scope.{Found, here-or-later, look-up}
+use Rattle.checking.specs.Scope.{Indexed, here-or-later, look-up}
 use Rattle.cycles.specs.Spots.{numbered}
 use Rattle.cycles.specs.ClosedSet.{Among, here, there}
 
@@ -67,20 +67,20 @@ module _ {A : Type 0} where
       go (k, e, h) = rw (e, zero-add k) h
 
   -- what a look-up finds stands in the list at its number
-  pub look-up-at : (name-of : A → Name) (n : List ℕ) (xs : List A) {r : Found A} → look-up name-of n xs ≡ some r → getElem? xs (r .number) ≡ some (r .item)
+  pub look-up-at : (name-of : A → Name) (n : List ℕ) (xs : List A) {r : Indexed A} → look-up name-of n xs ≡ some r → getElem? xs (r .number) ≡ some (r .item)
   unfolding look-up
   look-up-at name-of n [] {r} h = absurd (Option·none-ne-some r h)
   look-up-at name-of n (x ∷ xs) {r} h = go (same-bytes n (name-of x .bytes)) (look-up name-of n xs) (λ q e. look-up-at name-of n xs e) h
     where
-      go : (b : Bool) (o : Option (Found A)) → ((q : Found A) → o ≡ some q → getElem? xs (q .number) ≡ some (q .item)) → here-or-later b x o ≡ some r
+      go : (b : Bool) (o : Option (Indexed A)) → ((q : Indexed A) → o ≡ some q → getElem? xs (q .number) ≡ some (q .item)) → here-or-later b x o ≡ some r
           → getElem? (x ∷ xs) (r .number) ≡ some (r .item)
       go true o later e =
-          let i : _≡_ {A = Found A} (record { number = 0; item = x }) r = cc in
-          subst (λ (q : Found A). getElem? (x ∷ xs) (q .number) ≡ some (q .item)) i refl
+          let i : _≡_ {A = Indexed A} (record { number = 0; item = x }) r = cc in
+          subst (λ (q : Indexed A). getElem? (x ∷ xs) (q .number) ≡ some (q .item)) i refl
       go false none later e = absurd (Option·none-ne-some r e)
       go false (some q) later e =
-          let i : _≡_ {A = Found A} (record { number = suc (q .number); item = q .item }) r = cc in
-          subst (λ (p : Found A). getElem? (x ∷ xs) (p .number) ≡ some (p .item)) i (later q refl)
+          let i : _≡_ {A = Indexed A} (record { number = suc (q .number); item = q .item }) r = cc in
+          subst (λ (p : Indexed A). getElem? (x ∷ xs) (p .number) ≡ some (p .item)) i (later q refl)
 
   pub at-among : (xs : List A) (k : ℕ) {x : A} → getElem? xs k ≡ some x → Among x xs
   at-among [] k {x} h = absurd (Option·none-ne-some x h)

@@ -9,7 +9,7 @@ use lib.ListN.{getElem?}
 use lib.Ieee.Fits.{and-r}
 use Rattle.values.specs.Bytes.{same-bytes}
 use Rattle.text.specs.Syntax.{Name, Member, Interface, Entity, Rule, File}
-use Rattle.checking.specs.Scope.{Found, entity-named, member-named, interface-of, Variable, variables, variable-named}
+use Rattle.checking.specs.Scope.{Indexed, entity-named, member-named, interface-of, Variable, variables, variable-named}
 use Rattle.cycles.specs.Store.{Store}
 use Rattle.cycles.specs.Spots.{Spot, spot-at, spot-among, meant-by, meant, spot-if-meant, spots, numbered}
 use Rattle.cycles.specs.Bindings.{number-if, candidates, bindings}
@@ -48,7 +48,7 @@ pub meant-can-be : (f : File) (vs : List Variable) (b : List ℕ) → Binds f vs
 unfolding meant can-be
 meant-can-be f vs b binds n e h = go (entity-named f n) (variable-named vs n) (λ v p. look-up-at (λ v. v .name) n vs p) h
   where
-    go : (o : Option (Found Entity)) (p : Option (Found Variable)) → ((v : Found Variable) → p ≡ some v → getElem? vs (v .number) ≡ some (v .item))
+    go : (o : Option (Indexed Entity)) (p : Option (Indexed Variable)) → ((v : Indexed Variable) → p ≡ some v → getElem? vs (v .number) ≡ some (v .item))
         → meant-by o p b ≡ some e → T (can-mean f o p e)
     go none none at g = absurd (Option·none-ne-some e g)
     go none (some v) at g = binds (v .number) (v .item) e (at v refl) g
@@ -61,8 +61,8 @@ unfolding can-be
 can-be-inside f S r i n a e h =
     go (entity-named f (n .bytes)) (variable-named (variables r) (n .bytes)) refl (λ v p. look-up-at (λ v. v .name) (n .bytes) (variables r) p) h
   where
-    go : (o : Option (Found Entity)) (p : Option (Found Variable)) → entity-named f (n .bytes) ≡ o
-        → ((v : Found Variable) → p ≡ some v → getElem? (variables r) (v .number) ≡ some (v .item)) → T (can-mean f o p e) → S e
+    go : (o : Option (Indexed Entity)) (p : Option (Indexed Variable)) → entity-named f (n .bytes) ≡ o
+        → ((v : Indexed Variable) → p ≡ some v → getElem? (variables r) (v .number) ≡ some (v .item)) → T (can-mean f o p e) → S e
     go none (some v) q at t = i .ranged (v .item) e (at-among (variables r) (v .number) (at v refl)) t
     go (some d) p q at t = subst S (eqb→eq (d .number) e t) (i .named n d a q)
 
@@ -76,7 +76,7 @@ pub spots-in : (f : File) (vs : List Variable) (b n m : List ℕ) (P : ℕ → T
 unfolding spots
 spots-in f vs b n m P h = go (meant f vs b n) h
   where
-    of-member : (e : ℕ) (o : Option (Found Member)) → P e → Spot-in P (spot-at e o)
+    of-member : (e : ℕ) (o : Option (Indexed Member)) → P e → Spot-in P (spot-at e o)
     of-member e none p = tt
     of-member e (some x) p = p
 

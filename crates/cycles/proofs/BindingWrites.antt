@@ -12,7 +12,7 @@ use Rattle.values.specs.Bytes.{same-bytes}
 use Rattle.text.specs.Syntax.{Entity, Rule, File}
 use Rattle.text.proofs.ListLaws.{none-some, flatMap-map, flatMap-flatMap}
 use Rattle.text.proofs.SpotLaws.{stands-below, stands-drop}
-use Rattle.checking.specs.Scope.{Found, Variable, variables}
+use Rattle.checking.specs.Scope.{Indexed, Variable, variables}
 use Rattle.checking.specs.Directory.{interface-number, rule-row, entity-interface-row}
 use Rattle.checking.specs.RuleParts.{Rule-world}
 use Rattle.checking.specs.Resolution.{scope-row}
@@ -41,7 +41,7 @@ binds-more f (u ∷ vs) (a ∷ es) v e binds h t (suc k) w x p q = binds-more f 
 
 module _ (s : Store) (W : List ℕ → List Write) where
   -- what is written where an entity is chosen for a variable of this interface, and one of these for the further variables
-  unfoldable pub chosen : List ℕ → List (List ℕ) → Found Entity → List Write
+  unfoldable pub chosen : List ℕ → List (List ℕ) → Indexed Entity → List Write
   unfolding writes-if flatMap same-bytes
   chosen i bs x = writes-if (s .present (x .number) && same-bytes (x .item .interface .bytes) i) (flatMap (λ b. W (x .number ∷ b)) bs)
 

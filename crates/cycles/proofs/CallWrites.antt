@@ -13,7 +13,7 @@ use Rattle.values.specs.declared.Value.{Value}
 use Rattle.values.specs.Value.{is-set}
 use Rattle.text.specs.Tokens.{Token, NAME, ACTION, TRIGGER, ON, END, ROUND-OPEN, ROUND-CLOSE, COMMA}
 use Rattle.text.specs.Syntax.{Expression, Target, Filter, Condition, Call, Rule}
-use Rattle.text.specs.Readers.{Parse, read, refused, Reader, shift, give, expect, and-then, added, many}
+use Rattle.text.specs.Readers.{Parse, read, unfit-after, Parser, shift, give, expect, and-then, added, many}
 use Rattle.text.specs.Grammar.{
   name-of,
   expression-reader,
@@ -60,14 +60,14 @@ abbrev call-of : Token → Token → Token → Expression → Target → Option 
 call-of start name opener a t f = record { at = start .at; action = name-of name; open-at = opener .at; parameter = a; target = t; filter = f }
 
 -- what was read yields what follows from its being read, too
-means-with : {classes : List ℕ} (w : Rows classes) {A R : Type 0} {yields : A → R → Type 0} {v : R} {next at : ℕ} (has : A → Type 0) (r : Reader A)
+means-with : {classes : List ℕ} (w : Rows classes) {A R : Type 0} {yields : A → R → Type 0} {v : R} {next at : ℕ} (has : A → Type 0) (r : Parser A)
     → Means-at w yields r at v next → ((a : A) (n : ℕ) → r (drop at (w .tokens)) ≡ read a n → next ≡ at + n → has a)
     → Means-at w (λ (a : A) (v : R). yields a v × has a) r at v next
 means-with w {A} {R} {yields} {v} {next} {at} has r m f = go (r (drop at (w .tokens))) refl m
   where
     go : (p : Parse A) → r (drop at (w .tokens)) ≡ p → Means (w .high) yields v next at p → Means (w .high) (λ (a : A) (v : R). yields a v × has a) v next at p
     go (read a n) e (meant y q) = meant (λ k. (y k, f a n e q)) q
-    go (refused n) e vain = vain
+    go (unfit-after n) e vain = vain
 
 -- the `on` at number k is the first after an `action` at number i, if the expression between p and q has none
 first-on : (classes : List ℕ) {i n o p q k : ℕ} → n ≡ i + 1 → o ≡ n + 1 → p ≡ o + 1 → k ≡ q + 1
@@ -192,7 +192,7 @@ shift-read n (read b k) {a} {m} h =
     let e : b ≡ a = cc in
     let f : n + k ≡ m = cc in
     (k, ap (λ c. read c k) e, sym f)
-shift-read n (refused k) h = let z : _≡_ {A = ℕ} 0 1 = cc in absurd (omega arith)
+shift-read n (unfit-after k) h = let z : _≡_ {A = ℕ} 0 1 = cc in absurd (omega arith)
 
 -- a rule that was read begins with its condition
 pub rule-condition : (start : Token) (ts : List Token) {r : Rule} {n : ℕ} → rule-after start ts ≡ read r n
@@ -203,7 +203,7 @@ rule-condition start ts {r} {n} h = go (condition-reader OPENERS ts) refl
     any : Token → Type 0
     any t = Unit {0}
 
-    rest : Condition → Reader Rule
+    rest : Condition → Parser Rule
     rest c =
         expect TRIGGER λ t. and-then call-reader λ first. and-then (many COMMA call-after) λ others.
         expect END λ u. give (record { at = start .at; condition = c; calls = first ∷ others })
@@ -216,7 +216,7 @@ rule-condition start ts {r} {n} h = go (condition-reader OPENERS ts) refl
     go (read c k) e =
         let (m, q, s) = shift-read k (rest c (drop k ts)) (sym (and-then-reads (condition-reader OPENERS) rest c k ts e) ∙ h) in
         (k, e ∙ ap (λ c. read c k) (sym (of-condition c .makes (drop k ts) (λ t x. tt) r m q)), omega arith)
-    go (refused k) e =
+    go (unfit-after k) e =
         let f = sym (and-then-refuses (condition-reader OPENERS) rest k ts e) ∙ h in
         let z : _≡_ {A = ℕ} 0 1 = cc in absurd (omega arith)
 

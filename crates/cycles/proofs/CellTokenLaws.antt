@@ -9,7 +9,7 @@ use mathlib.Core.Option.{Option, none, some}
 use lib.ListN.{length, getD, getElem?}
 use Rattle.text.specs.Syntax.{Sort, attribute, event, action, Member, Interface, Entity, File}
 use Rattle.checking.specs.DirectoryReads.{Few}
-use Rattle.checking.specs.Scope.{Found, look-up, item-of, interface-named, interface-of-entity, interface-of, nth-member, member-of, is-attribute, is-action}
+use Rattle.checking.specs.Scope.{Indexed, look-up, item-of, interface-named, interface-of-entity, interface-of, nth-member, member-of, is-attribute, is-action}
 use Rattle.checking.specs.Directory.{sort-class, Bench, number-or, interface-number, member-count-row, member-row, entity-interface-row}
 use Rattle.checking.proofs.DirectoryLaws.{number-beyond, number-inside, named-bytes, class-stands}
 use Rattle.checking.proofs.LookUpLaws.{found-at}
@@ -24,7 +24,7 @@ module _ (f : File) (h : Few f) where
   unfolding interface-named interface-number number-or item-of
   interface-by-number n = go (look-up (λ i. i .name) n (f .interfaces)) refl
     where
-      go : (o : Option (Found Interface)) → look-up (λ (i : Interface). i .name) n (f .interfaces) ≡ o → item-of o ≡ getElem? (f .interfaces) (number-or 16 o)
+      go : (o : Option (Indexed Interface)) → look-up (λ (i : Interface). i .name) n (f .interfaces) ≡ o → item-of o ≡ getElem? (f .interfaces) (number-or 16 o)
       go none e = sym (number-beyond (f .interfaces) 16 (h .interfaces))
       go (some r) e = sym (found-at (λ (i : Interface). i .name) n (f .interfaces) e)
 

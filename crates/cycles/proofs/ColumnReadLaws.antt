@@ -12,7 +12,7 @@ use borrow.Author.Tests.{ltb-true, ltb-false}
 use Rattle.text.specs.Tokens.{EVENT}
 use Rattle.text.specs.Syntax.{Sort, attribute, event, action, Member, Interface, Entity, File}
 use Rattle.text.proofs.ListLaws.{some-injective, none-some}
-use Rattle.checking.specs.Scope.{Found, look-up, item-of, entity-named, member-named, interface-of-entity, interface-of}
+use Rattle.checking.specs.Scope.{Indexed, look-up, item-of, entity-named, member-named, interface-of-entity, interface-of}
 use Rattle.checking.specs.Directory.{Bench, sort-class, entity-number, member-number}
 use Rattle.checking.specs.DirectoryReads.{Few, Number-of, Member-class, few-members}
 use Rattle.checking.proofs.WithinCounts.{Within-counts}
@@ -36,7 +36,7 @@ pub few-within : (f : File) → Few f → Within-counts f
 unfolding interface-of
 few-within f few = record { entities = few .entities; members = λ e i h. by-entity (getElem? (f .entities) e) i h }
   where
-    by-name : (n : List ℕ) (i : Interface) (o : Option (Found Interface)) → look-up (λ (i : Interface). i .name) n (f .interfaces) ≡ o
+    by-name : (n : List ℕ) (i : Interface) (o : Option (Indexed Interface)) → look-up (λ (i : Interface). i .name) n (f .interfaces) ≡ o
         → item-of o ≡ some i → length (i .members) ≤ 12
     by-name n i none q h = absurd (none-some h)
     by-name n i (some r) q h =
@@ -70,7 +70,7 @@ event-class attribute h = absurd (omega arith)
 event-class event h = refl
 event-class action h = absurd (omega arith)
 
-module _ (e : ℕ) (x : Found Member) {s : ℕ} (q : s ≡ sort-class (x .item .sort)) where
+module _ (e : ℕ) (x : Indexed Member) {s : ℕ} (q : s ≡ sort-class (x .item .sort)) where
   event-numbered : s ≡ EVENT → number-if-column (event-column (some (found-spot e x))) ≡ e * 13 + x .number
   unfolding event-column number-if-column
   event-numbered h = let z : x .item .sort ≡ event = event-class (x .item .sort) (sym q ∙ h) in rw (z, event-column)
@@ -86,12 +86,12 @@ module _ (e : ℕ) (x : Found Member) {s : ℕ} (q : s ≡ sort-class (x .item .
 
 -- what the file has where the code found numbers
 record There (f : File) (owner member : List ℕ) (e m s : ℕ) : Type 0 where
-  entity : Found Entity
+  entity : Indexed Entity
   named : entity-named f owner ≡ some entity
   entity-is : e ≡ entity .number
   interface : Interface
   of-entity : interface-of f (entity .number) ≡ some interface
-  found : Found Member
+  found : Indexed Member
   member-is : m ≡ found .number
   called : member-named interface member ≡ some found
   of-sort : s ≡ sort-class (found .item .sort)
@@ -108,7 +108,7 @@ module _ (text classes offsets lengths d owner : List ℕ) {e : ℕ}
   named-none w few z = none-found (λ (x : Entity). x .name) owner (w .file .entities) 32 (few .entities) (sym (n .is classes w (few .entities)) ∙ z)
 
   named-some : (w : Bench text classes offsets lengths d) → Few (w .file) → (e ≡ 32 → ⊥)
-      → (r : Found Entity) × (entity-named (w .file) owner ≡ some r) × (e ≡ r .number)
+      → (r : Indexed Entity) × (entity-named (w .file) owner ≡ some r) × (e ≡ r .number)
   unfolding entity-named entity-number
   named-some w few z = some-found (λ (x : Entity). x .name) owner (w .file .entities) 32 (few .entities) e (n .is classes w (few .entities)) z
 
@@ -132,7 +132,7 @@ module _ (text classes offsets lengths d owner : List ℕ) {e : ℕ}
 
     module _ (z : e ≡ 32 → ⊥) {face : ℕ} (p : face ≡ getD d (323 + e) 0) {m : ℕ}
         (k : Number-of text offsets lengths d 12 (few-members face) (λ f. member-number (getElem? (f .interfaces) face) member) m) where
-      owner-interface : (w : Bench text classes offsets lengths d) → Few (w .file) → (r : Found Entity) → entity-named (w .file) owner ≡ some r → e ≡ r .number
+      owner-interface : (w : Bench text classes offsets lengths d) → Few (w .file) → (r : Indexed Entity) → entity-named (w .file) owner ≡ some r → e ≡ r .number
           → getElem? (w .file .interfaces) face ≡ interface-of (w .file) (r .number)
       owner-interface w few r q g =
           ap (getElem? (w .file .interfaces)) (p ∙ ap (λ (i : ℕ). getD d (323 + i) 0) g)
@@ -149,7 +149,7 @@ module _ (text classes offsets lengths d owner : List ℕ) {e : ℕ}
               ap (spot-at i) (none-found (λ (v : Member). v .name) member (x .members) 12 (few .members face x s) (sym h ∙ y))
 
           by-entity : (w : Bench text classes offsets lengths d) → Few (w .file)
-              → (r : Found Entity) × (entity-named (w .file) owner ≡ some r) × (e ≡ r .number)
+              → (r : Indexed Entity) × (entity-named (w .file) owner ≡ some r) × (e ≡ r .number)
               → 416 ≡ number-if-column (column-of-entity (w .file) (entity-named (w .file) owner) member)
           by-entity w few (r, q, g) =
               let o = owner-interface w few r q g in
@@ -162,7 +162,7 @@ module _ (text classes offsets lengths d owner : List ℕ) {e : ℕ}
         unfolding member-number member-named
         there w few = by-entity (named-some w few z)
           where
-            by-interface : (r : Found Entity) → entity-named (w .file) owner ≡ some r → e ≡ r .number → (o : Option Interface)
+            by-interface : (r : Indexed Entity) → entity-named (w .file) owner ≡ some r → e ≡ r .number → (o : Option Interface)
                 → getElem? (w .file .interfaces) face ≡ o → interface-of (w .file) (r .number) ≡ o → m ≡ member-number o member
                 → There (w .file) owner member e m s
             by-interface r q g none u v h = absurd (y h)
@@ -182,7 +182,7 @@ module _ (text classes offsets lengths d owner : List ℕ) {e : ℕ}
                       (ap (getElem? (x .members)) j ∙ found-at (λ (v : Member). v .name) member (x .members) c);
                 }
 
-            by-entity : (r : Found Entity) × (entity-named (w .file) owner ≡ some r) × (e ≡ r .number) → There (w .file) owner member e m s
+            by-entity : (r : Indexed Entity) × (entity-named (w .file) owner ≡ some r) × (e ≡ r .number) → There (w .file) owner member e m s
             by-entity (r, q, g) =
                 let o = owner-interface w few r q g in
                 by-interface r q g (interface-of (w .file) (r .number)) o refl

@@ -12,7 +12,7 @@ use Rattle.values.specs.declared.Value.{Value}
 use Rattle.values.specs.Value.{equal, differ}
 use Rattle.text.specs.Tokens.{Token, WITH, CHANGED, AND, OR, ROUND-OPEN, COLON}
 use Rattle.text.specs.Syntax.{Condition}
-use Rattle.text.specs.Readers.{Reader, joined}
+use Rattle.text.specs.Readers.{Parser, joined}
 use Rattle.text.specs.Grammar.{
   name-of,
   expression-reader,
@@ -189,7 +189,7 @@ module _ {classes values refs : List ℕ} {b : Binding} {flags cells previous-fl
 
   -- `and` between atoms, and `or` between conjunctions
   module _ {test : ℕ → Bool} {k : ℕ} {join : Token → Condition → Condition → Condition} {op : Bool → Bool → Bool} (joins : Joins test k join op)
-      (item : Reader Condition) {whole : Reader Condition} {at : ℕ} {v : Bool} {i c : ℕ}
+      (item : Parser Condition) {whole : Parser Condition} {at : ℕ} {v : Bool} {i c : ℕ}
       (g : Condition-loop classes values refs b flags cells previous-flags previous-cells whole test (joined item join) at v i)
       (ec : c ≡ getD classes i 0) where
     pub conditions-stop : (c ≡ k → ⊥) → Condition-walk classes values refs b flags cells previous-flags previous-cells whole at v i

@@ -15,7 +15,7 @@ use Rattle.values.specs.declared.Operator.the-variants.{Plus, Minus, Times, Div
 use Rattle.values.specs.Value.{fitted, settled, operated, negated, as-real}
 use Rattle.text.specs.Tokens.{NAME, WHOLE-NUMBER, REAL-NUMBER, TRUE, FALSE, REAL, ROUND-OPEN, PLUS, MINUS, TIMES, DIVIDE}
 use Rattle.text.specs.Syntax.{Expression}
-use Rattle.text.specs.Readers.{Reader, halt, joined}
+use Rattle.text.specs.Readers.{Parser, halt, joined}
 use Rattle.text.specs.Grammar.{name-of, operator-of, apply-at, is-factor-operator, is-term-operator, simple-or, factor-reader, expression-reader}
 use Rattle.text.specs.Walks.{nth-token, Steps}
 use Rattle.text.proofs.WalkLaws.{row-class, walk-stops, chain-turns}
@@ -150,8 +150,8 @@ pub term-operator-none : is-term-operator 0 ≡ false
 unfolding is-term-operator
 term-operator-none = refl
 
-module _ {classes values refs : List ℕ} {b : Binding} {flags cells : List ℕ} (test : ℕ → Bool) (item : Reader Expression) where
-  module _ {whole : Reader Expression} {at : ℕ} {v : Value} {i c : ℕ} {r : Bool}
+module _ {classes values refs : List ℕ} {b : Binding} {flags cells : List ℕ} (test : ℕ → Bool) (item : Parser Expression) where
+  module _ {whole : Parser Expression} {at : ℕ} {v : Value} {i c : ℕ} {r : Bool}
       (g : Expression-loop classes values refs b flags cells whole test (joined item apply-at) at v i) (ec : c ≡ getD classes i 0) (er : r ≡ test c) where
     pub operators-stop : r ≡ false → Expression-walk classes values refs b flags cells whole at v i
     operators-stop e =

@@ -13,12 +13,12 @@ use Rattle.values.specs.declared.Value.the-variants.{Unset}
 use Rattle.values.specs.Bytes.{same-bytes}
 use Rattle.text.specs.Tokens.{Token, NAME, BRACE-CLOSE, EQUALS}
 use Rattle.text.specs.Syntax.{Member, Literal, literal-value, Assignment, Entity}
-use Rattle.text.specs.Readers.{read, Reader, give, and-then}
+use Rattle.text.specs.Readers.{read, Parser, give, and-then}
 use Rattle.text.specs.Grammar.{name-of, literal-reader, assignment-after}
 use Rattle.text.proofs.TreeLaws.{read-tree}
 use Rattle.text.proofs.SpotLaws.{Starts, expect-starts, and-then-parts}
 use Rattle.checking.specs.DirectoryReads.{Few}
-use Rattle.checking.specs.Scope.{Found, here-or-later, look-up, member-of, is-attribute}
+use Rattle.checking.specs.Scope.{Indexed, here-or-later, look-up, member-of, is-attribute}
 use Rattle.checking.specs.Directory.{name-in, Columns-of, Begins, Bench}
 use Rattle.checking.specs.Sequences.{Sequence}
 use Rattle.checking.specs.DeclarationWalk.{Assignment-end, Body-of}
@@ -42,7 +42,7 @@ assignment-literal {ts} {q} {a} b = by-equals (expect-starts ts (q + 1) EQUALS t
     make : Token → Literal → Assignment
     make e l = record { name = name-of (b .token); equals-at = e .at; literal = l }
 
-    tail : Token → Reader Assignment
+    tail : Token → Parser Assignment
     tail e = and-then literal-reader λ l. give (make e l)
 
     by-literal : (e : Token) (n : ℕ)
@@ -69,7 +69,7 @@ module _ (n : List ℕ) (a : Assignment) (rest : List Assignment) where
   unfolding look-up assigned
   assigned-later e = rw e (go (look-up (λ x. x .name) n rest))
     where
-      go : (o : Option (Found Assignment)) → assigned (here-or-later false a o) ≡ assigned o
+      go : (o : Option (Indexed Assignment)) → assigned (here-or-later false a o) ≡ assigned o
       go none = refl
       go (some r) = refl
 

@@ -13,7 +13,7 @@ use borrow.Author.Tests.{not-true, eqb-true, eqb-false, ltb-true, ltb-false}
 use Rattle.values.specs.declared.Value.{Value}
 use Rattle.values.specs.Value.{equal, differ}
 use Rattle.text.specs.Syntax.{Expression, Condition, File}
-use Rattle.text.specs.Readers.{Reader}
+use Rattle.text.specs.Readers.{Parser}
 use Rattle.text.specs.Syntax.{OPENERS}
 use Rattle.text.specs.Grammar.{expression-reader, atom-reader}
 use Rattle.text.specs.Walks.{Rows}
@@ -154,7 +154,7 @@ module _ {classes values d refs scopes flags cells previous-flags previous-cells
     part-gives : {low high : ℕ} → Covered refs inner low high → (i : ℕ) → low ≤ i → i < high → Gives-at refs q (c .entities ++ rest) i
     part-gives = covered-gives b q (c .entities) rest (omega (arith, c .size)) (omega (arith, all-bound, few c)) (c .gives) agree
 
-    abbrev part-world : {A : Type 0} {reader : Reader A} {at : ℕ} {a : A} → Part reader world-rows refs inner at a → Resolved classes values refs q
+    abbrev part-world : {A : Type 0} {reader : Parser A} {at : ℕ} {a : A} → Part reader world-rows refs inner at a → Resolved classes values refs q
     part-world {at = at} p =
         resolved values (c .given .checked .bench) (c .given .checked .few) (c .given .checked .valued) (c .given .references)
         (c .given .checked .bench .directory .rule k (c .rule) (c .stands)) (c .entities ++ rest) all-binds all-bound (few c) q

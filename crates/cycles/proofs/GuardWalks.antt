@@ -10,7 +10,7 @@ use lib.ListN.{length, getD}
 use Rattle.values.specs.Value.{equal}
 use Rattle.text.specs.Tokens.{NAME, WITH, CHANGED, AND, ROUND-OPEN}
 use Rattle.text.specs.Syntax.{Expression, Target, Filter, Clause, clause}
-use Rattle.text.specs.Readers.{Reader, joined}
+use Rattle.text.specs.Readers.{Parser, joined}
 use Rattle.text.specs.Grammar.{
   name-of,
   expression-reader,
@@ -54,7 +54,7 @@ and-false false = refl
 -- ---- expressions and filters
 
 -- what is read there, whatever level covers it
-pub part-walk : {classes : List ℕ} (refs : List ℕ) {A : Type 0} {r : Reader A} {at next : ℕ} → Ends classes r at next
+pub part-walk : {classes : List ℕ} (refs : List ℕ) {A : Type 0} {r : Parser A} {at next : ℕ} → Ends classes r at next
     → Walks (all-rows classes) (λ w a (u : Unit {0}). (level : ℕ) → Covered refs level at next → Part r w refs level at a) r at tt next
 part-walk refs h = walk-then (λ w a l k y level c. record {
   used = y .used;

@@ -16,7 +16,7 @@ use Rattle.values.specs.declared.Value.{Value}
 use Rattle.values.specs.declared.Value.the-variants.{Truth}
 use Rattle.text.specs.Tokens.{Token, WHOLE-NUMBER, REAL-NUMBER, TRUE, FALSE, MINUS}
 use Rattle.text.specs.Syntax.{Literal, truth, whole-number, real-number, literal-value}
-use Rattle.text.specs.Readers.{read, Reader, give, expect, if-next}
+use Rattle.text.specs.Readers.{read, Parser, give, expect, if-next}
 use Rattle.text.specs.Grammar.{number-reader, literal-reader}
 use Rattle.text.proofs.TreeLaws.{read-tree}
 use Rattle.text.proofs.SpotLaws.{Starts, expect-starts}
@@ -82,7 +82,7 @@ module _ {classes values : List ℕ} {ts : List Token} (columns : Literal-column
       by-next MINUS (expect MINUS λ t. number-reader true) (number-reader false) (drop i ts) e
       (λ h. signed (expect-starts ts i MINUS (λ t. number-reader true) l n h .0)) number
     where
-      signed-or-number : Reader Literal
+      signed-or-number : Parser Literal
       signed-or-number = if-next MINUS (expect MINUS λ t. number-reader true) (number-reader false)
 
       signed : Starts ts i MINUS (λ t. number-reader true) l → X

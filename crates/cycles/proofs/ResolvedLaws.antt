@@ -14,7 +14,7 @@ use Rattle.text.specs.Walks.{no-token, nth-token, Rows, Stands}
 use Rattle.text.proofs.ListLaws.{none-some}
 use Rattle.text.proofs.WalkLaws.{getElem?-inside}
 use Rattle.checking.specs.Scope.{
-  Found,
+  Indexed,
   look-up,
   item-of,
   interface-named,
@@ -76,7 +76,7 @@ few-named : {f : File} → Few f → (n : List ℕ) {i : Interface} → interfac
 unfolding interface-named
 few-named {f} few n {i} h = go (look-up (λ (i : Interface). i .name) n (f .interfaces)) refl h
   where
-    go : (o : Option (Found Interface)) → look-up (λ (i : Interface). i .name) n (f .interfaces) ≡ o → item-of o ≡ some i → length (i .members) ≤ 12
+    go : (o : Option (Indexed Interface)) → look-up (λ (i : Interface). i .name) n (f .interfaces) ≡ o → item-of o ≡ some i → length (i .members) ≤ 12
     go none e h = absurd (none-some h)
     go (some x) e h = few .members (x .number) i (found-at (λ (i : Interface). i .name) n (f .interfaces) e ∙ h)
 
@@ -86,7 +86,7 @@ unfolding spot-among member-number
 among-located count e inside m none few = missing refl (omega arith)
 among-located count e inside m (some i) few = go (look-up (λ (m : Member). m .name) m (i .members)) refl
   where
-    go : (o : Option (Found Member)) → look-up (λ (m : Member). m .name) m (i .members) ≡ o → Locates count (spot-at e o) e (number-or 12 o)
+    go : (o : Option (Indexed Member)) → look-up (λ (m : Member). m .name) m (i .members) ≡ o → Locates count (spot-at e o) e (number-or 12 o)
     go none q = missing refl (omega arith)
     go (some x) q =
         let k = number-below (i .members) (x .number) (found-at (λ (m : Member). m .name) m (i .members) q) in
@@ -110,7 +110,7 @@ module _ {f : File} (few : Few f) (vs : List Variable) (bs : List ℕ) (binds : 
   unfolding spot-of
   entity-located e r n m q h i = rw (← q, i) (among-located (length (f .entities)) e h m (interface-named f n) (λ i p. few-named few n p))
 
-  variable-bound : (v : Found Variable) → getElem? vs (v .number) ≡ some (v .item)
+  variable-bound : (v : Indexed Variable) → getElem? vs (v .number) ≡ some (v .item)
       → (e : ℕ) × (getElem? bs (v .number) ≡ some e) × (e < length (f .entities)) × (interface-of f e ≡ interface-named f (v .item .interface .bytes))
   variable-bound v h =
       let k = number-below vs (v .number) h in
@@ -126,7 +126,7 @@ module _ {f : File} (few : Few f) (vs : List Variable) (bs : List ℕ) (binds : 
   unfolding spots reference member-meant
   spot-located n m gives = go (entity-named f n) refl (variable-named vs n) refl gives
     where
-      go : (d : Option (Found Entity)) → entity-named f n ≡ d → (v : Option (Found Variable)) → variable-named vs n ≡ v
+      go : (d : Option (Indexed Entity)) → entity-named f n ≡ d → (v : Option (Indexed Variable)) → variable-named vs n ≡ v
           → ((u e : ℕ) → reference-by d v ≡ 32 + u → getElem? bs u ≡ some e → e ≡ bound b (32 + u))
           → Locates (length (f .entities)) (spot-if-meant f (meant-by d v bs) m) (bound b (reference-by d v)) (member-number (interface-meant f d v) m)
       go none p none q gives = missing refl (omega arith)

@@ -9,7 +9,7 @@ use mathlib.Core.List.{List, [], _∷_, _++_, map, flatMap, append-nil}
 use mathlib.Core.Option.{Option, none, some}
 use lib.ListN.{length, getElem?}
 use Rattle.text.specs.Syntax.{Interface, File}
-use Rattle.checking.specs.Scope.{Found, interface-of, nth-member, member-of, is-action}
+use Rattle.checking.specs.Scope.{Indexed, interface-of, nth-member, member-of, is-action}
 use Rattle.checking.proofs.WithinCounts.{Within-counts}
 use Rattle.text.proofs.ListLaws.{flatMap-flatMap}
 use Rattle.cycles.specs.Spots.{Spot, numbered, members-of, entity-cells, cells}
@@ -28,7 +28,7 @@ module _ {A B C : Type 0} where
   flatMap-map g h (x ∷ xs) = ap (λ (l : List C). g (h x) ++ l) (flatMap-map g h xs)
 
 -- the items of a list with their numbers, from k on, as a table
-module _ {A : Type 0} (g : Found A → List ℕ) (piece : ℕ → List ℕ) where
+module _ {A : Type 0} (g : Indexed A → List ℕ) (piece : ℕ → List ℕ) where
   pub numbered-table : (k : ℕ) (xs : List A) → ((j : ℕ) (x : A) → getElem? xs j ≡ some x → g (record { number = k + j; item = x }) ≡ piece (k + j))
       → flatMap g (numbered k xs) ≡ table piece k (length xs)
   unfolding numbered flatMap table

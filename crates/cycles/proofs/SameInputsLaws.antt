@@ -17,7 +17,7 @@ use Rattle.values.specs.Storable.{storable}
 use Rattle.values.proofs.CellLaws.{identical-self, identical-same}
 use Rattle.text.specs.Syntax.{Member, Interface, Entity, File}
 use Rattle.text.proofs.ListLaws.{none-some, some-injective, flatMap-member}
-use Rattle.checking.specs.Scope.{Found, interface-of, nth-member, member-of}
+use Rattle.checking.specs.Scope.{Indexed, interface-of, nth-member, member-of}
 use Rattle.checking.proofs.WithinCounts.{Within-counts}
 use Rattle.checking.proofs.LookUpLaws.{same-bytes-eq, same-bytes-refl}
 use Rattle.checking.proofs.DirectoryLaws.{number-inside}
@@ -60,7 +60,7 @@ cell-member-of f e m {x} below h = by-interface (interface-of f e) refl h
         let (y, s) = number-inside (f .entities) e below in
         let inside : List·Memᴰ (record { entity = e; member = m; what = x }) (map (found-spot e) (numbered 0 (members-of (some i)))) =
         Memᴰ·map (found-spot e) (numbered-member (i .members) m g) in
-        flatMap-member (λ (k : Found Entity). entity-cells f (k .number)) (numbered 0 (f .entities)) (numbered-member (f .entities) e s)
+        flatMap-member (λ (k : Indexed Entity). entity-cells f (k .number)) (numbered 0 (f .entities)) (numbered-member (f .entities) e s)
         (subst (λ (o : Option Interface). List·Memᴰ (record { entity = e; member = m; what = x }) (map (found-spot e) (numbered 0 (members-of o))))
         (sym q) inside)
 
@@ -122,7 +122,7 @@ module _ (f : File) (w : Within-counts f) (i j : Inputs) (s : Sound-inputs f i) 
     presence-equal e b =
         let (x, q) = number-inside (f .entities) e b in
         same-presence-equal (i .presence e) (j .presence e)
-        (every-at (λ (e : Found Entity). same-presence (i .presence (e .number)) (j .presence (e .number))) (numbered 0 (f .entities))
+        (every-at (λ (e : Indexed Entity). same-presence (i .presence (e .number)) (j .presence (e .number))) (numbered 0 (f .entities))
         (and-l (every-presence f i j) (every-reading f i j) h)
         (record { number = e; item = x }) (numbered-member (f .entities) e q))
 
@@ -158,7 +158,7 @@ module _ (f : File) (w : Within-counts f) (i j : Inputs) (s : Sound-inputs f i) 
   unfolding same-inputs
   same-self =
       and-i (every-presence f i i) (every-reading f i i)
-      (every-passes (λ (e : Found Entity). same-presence (i .presence (e .number)) (i .presence (e .number))) (numbered 0 (f .entities))
+      (every-passes (λ (e : Indexed Entity). same-presence (i .presence (e .number)) (i .presence (e .number))) (numbered 0 (f .entities))
       (λ e m. same-presence-self (i .presence (e .number))))
       (every-passes (λ (p : Spot). same-given (i .given (p .entity) (p .member)) (i .given (p .entity) (p .member))) (cells f)
       (λ p m. same-given-self (i .given (p .entity) (p .member))))

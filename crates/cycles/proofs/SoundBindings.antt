@@ -12,7 +12,7 @@ use Rattle.values.specs.Bytes.{same-bytes}
 use Rattle.text.specs.Syntax.{Member, Interface, Entity, Rule, File}
 use Rattle.text.proofs.ListLaws.{some-injective, none-some, All, member-flatMap}
 use Rattle.checking.specs.Scope.{
-  Found,
+  Indexed,
   is-found,
   interface-named,
   entity-named,
@@ -60,12 +60,12 @@ module _ (f : File) where
   candidate-of : (s : Store) (i : List ℕ) (e : ℕ) → List·Memᴰ e (candidates f s i) → interface-of f e ≡ interface-named f i
   unfolding candidates
   candidate-of s i e m =
-      let (x, n, d) = member-flatMap (λ (x : Found Entity). number-if (s .present (x .number) && same-bytes (x .item .interface .bytes) i) (x .number))
+      let (x, n, d) = member-flatMap (λ (x : Indexed Entity). number-if (s .present (x .number) && same-bytes (x .item .interface .bytes) i) (x .number))
       (numbered 0 (f .entities)) m in
       go x (numbered-at (f .entities) x (member-among n)) (s .present (x .number) && same-bytes (x .item .interface .bytes) i)
       (and-r (s .present (x .number)) (same-bytes (x .item .interface .bytes) i)) d
     where
-      go : (x : Found Entity) → getElem? (f .entities) (x .number) ≡ some (x .item) → (b : Bool) → (T b → T (same-bytes (x .item .interface .bytes) i))
+      go : (x : Indexed Entity) → getElem? (f .entities) (x .number) ≡ some (x .item) → (b : Bool) → (T b → T (same-bytes (x .item .interface .bytes) i))
           → List·Memᴰ e (number-if b (x .number)) → interface-of f e ≡ interface-named f i
       go x h false k d = absurd (List·Memᴰ·not-nil d)
       go x h true k d =
@@ -84,8 +84,8 @@ module _ (f : File) where
   unfolding interface-in scope-of spots
   binding-resolves r b h = record { resolve = λ n m i x q g. go n m i x g (entity-named f n) refl (variable-named (variables r) n) refl q }
     where
-      go : (n m : List ℕ) (i : Interface) (x : Found Member) → member-named i m ≡ some x → (d : Option (Found Entity)) → entity-named f n ≡ d
-          → (v : Option (Found Variable)) → variable-named (variables r) n ≡ v → interface-meant f d v ≡ some i
+      go : (n m : List ℕ) (i : Interface) (x : Indexed Member) → member-named i m ≡ some x → (d : Option (Indexed Entity)) → entity-named f n ≡ d
+          → (v : Option (Indexed Variable)) → variable-named (variables r) n ≡ v → interface-meant f d v ≡ some i
           → (e : ℕ) × (spot-if-meant f (meant-by d v b) m ≡ some (found-spot e x)) × Stands f (found-spot e x)
       go n m i x g none p none q t = absurd (none-some t)
       go n m i x g none p (some v) q t =

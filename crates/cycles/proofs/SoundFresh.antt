@@ -17,7 +17,7 @@ use Rattle.text.specs.Syntax.{Member, Interface, literal-kind, literal-value, A
 use Rattle.text.proofs.ListLaws.{some-injective, none-some, All, number-member}
 use Rattle.text.proofs.NumberLaws.{Small-assignments}
 use Rattle.text.proofs.LiteralLaws.{literal-storable, literal-set}
-use Rattle.checking.specs.Scope.{Found, look-up, interface-named, member-named, member-of, is-attribute}
+use Rattle.checking.specs.Scope.{Indexed, look-up, interface-named, member-named, member-of, is-attribute}
 use Rattle.checking.proofs.LookUpLaws.{found-name, found-member}
 use Rattle.checking.proofs.AcceptedLaws.{named-interface}
 use Rattle.checking.proofs.CheckedFile.{Known-assignment, Known-entity, Known-file}
@@ -53,7 +53,7 @@ module _ (f : File) (known : Known-file f) (small : All Small-assignments (f .en
       let (q, w, o) = known .interface (k .interface) (named-interface f (y .interface .bytes) (k .named)) x n in
       let s = found-name (λ (a : Assignment). a .name) (x .name .bytes) (y .assignments) l in
       let z : c .found ≡ q = some-injective (sym (c .named) ∙ ap (member-named (k .interface)) (sym s) ∙ w) in
-      let j : literal-kind (r .item .literal) ≡ x .kind = c .kind ∙ ap (λ (u : Found Member). u .item .kind) z ∙ ap (λ (u : Member). u .kind) o in (
+      let j : literal-kind (r .item .literal) ≡ x .kind = c .kind ∙ ap (λ (u : Indexed Member). u .item .kind) z ∙ ap (λ (u : Member). u .kind) o in (
         rw l (subst (λ (u : Kind). T (storable u (literal-value (r .item .literal)))) j (literal-storable (r .item .literal))),
         rw l (literal-set (r .item .literal) (small y inside (r .item) a)),
       )

@@ -17,7 +17,7 @@ use Rattle.values.specs.Forms.{event-field, presence-field}
 use Rattle.values.proofs.StorableLaws.{event-field-storable}
 use Rattle.text.specs.Syntax.{Sort, attribute, event, action, Member, Entity, File}
 use Rattle.text.proofs.ListLaws.{some-injective, none-some, All, all-none, all-cons}
-use Rattle.checking.specs.Scope.{Found, entity-named, member-of}
+use Rattle.checking.specs.Scope.{Indexed, entity-named, member-of}
 use Rattle.checking.proofs.LookUpLaws.{entity-found}
 use Rattle.cycles.specs.Store.{State, Line}
 use Rattle.cycles.specs.Spots.{Spot, spot-of, every}
@@ -84,7 +84,7 @@ pub record Sound-column (f : File) (c : Column) : Type 0 where
   pub of-event : (p : Spot) → c .event ≡ some p → (member-of f (c .entity) (p .member) ≡ some (p .what)) × (p .what .sort ≡ event)
 
 module _ (f : File) where
-  presence-sound : (n : List ℕ) (o : Option (Found Entity)) → entity-named f n ≡ o → {c : Column} → presence-column o ≡ some c → Sound-column f c
+  presence-sound : (n : List ℕ) (o : Option (Indexed Entity)) → entity-named f n ≡ o → {c : Column} → presence-column o ≡ some c → Sound-column f c
   unfolding presence-column
   presence-sound n none q h = absurd (none-some h)
   presence-sound n (some e) q h =
@@ -111,7 +111,7 @@ module _ (f : File) where
             of-event = λ r e. subst (λ (r : Spot). (member-of f (p .entity) (r .member) ≡ some (r .what)) × (r .what .sort ≡ event)) (some-injective e) (s, q);
           })
 
-  entity-column-sound : (n m : List ℕ) (o : Option (Found Entity)) → entity-named f n ≡ o → {c : Column} → column-of-entity f o m ≡ some c → Sound-column f c
+  entity-column-sound : (n m : List ℕ) (o : Option (Indexed Entity)) → entity-named f n ≡ o → {c : Column} → column-of-entity f o m ≡ some c → Sound-column f c
   unfolding column-of-entity
   entity-column-sound n m none q h = absurd (none-some h)
   entity-column-sound n m (some e) q {c} h = by-spot (spot-of f (e .number) m) refl h

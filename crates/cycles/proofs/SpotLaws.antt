@@ -9,7 +9,7 @@ use Rattle.values.specs.declared.Kind.{Kind}
 use Rattle.values.specs.Storable.{storable}
 use Rattle.values.proofs.StorableLaws.{test-storable}
 use Rattle.text.specs.Syntax.{Name, Member, Interface, Entity, File}
-use Rattle.checking.specs.Scope.{Found, member-named, interface-of, nth-member, member-of, Scope, interface-in, is-member}
+use Rattle.checking.specs.Scope.{Indexed, member-named, interface-of, nth-member, member-of, Scope, interface-in, is-member}
 use Rattle.checking.specs.KindFaults.{kind-if-found, member-kind, kind-in}
 use Rattle.text.proofs.ListLaws.{some-injective, none-some, member-flatMap}
 use Rattle.checking.proofs.LookUpLaws.{found-at}
@@ -32,11 +32,11 @@ read-storable f s h p q =
 
 -- ---- by names
 
-abbrev pub found-spot : ℕ → Found Member → Spot
+abbrev pub found-spot : ℕ → Indexed Member → Spot
 found-spot e r = record { entity = e; member = r .number; what = r .item }
 
 -- a member that an entity's interface has by that name
-pub entity-spot : (f : File) (e : ℕ) (m : List ℕ) {i : Interface} {r : Found Member} → interface-of f e ≡ some i → member-named i m ≡ some r
+pub entity-spot : (f : File) (e : ℕ) (m : List ℕ) {i : Interface} {r : Indexed Member} → interface-of f e ≡ some i → member-named i m ≡ some r
     → (spot-of f e m ≡ some (found-spot e r)) × Stands f (found-spot e r)
 unfolding spot-of member-of
 entity-spot f e m {i} {r} h g = (rw (h, g), rw h (found-at (λ (m : Member). m .name) m (i .members) g))
@@ -46,7 +46,7 @@ pub spot-stands : (f : File) (e : ℕ) (m : List ℕ) {p : Spot} → spot-of f e
 unfolding spot-of
 spot-stands f e m {p} h = by-interface (interface-of f e) refl h
   where
-    by-member : (i : Interface) → interface-of f e ≡ some i → (o : Option (Found Member)) → member-named i m ≡ o → spot-at e o ≡ some p
+    by-member : (i : Interface) → interface-of f e ≡ some i → (o : Option (Indexed Member)) → member-named i m ≡ o → spot-at e o ≡ some p
         → (p .entity ≡ e) × Stands f p
     by-member i q none g h = absurd (none-some h)
     by-member i q (some r) g h = subst (λ (p : Spot). (p .entity ≡ e) × Stands f p) (some-injective h) (refl, entity-spot f e m q g .1)
@@ -60,11 +60,11 @@ spot-stands f e m {p} h = by-interface (interface-of f e) refl h
 pub cell-stands : (f : File) (p : Spot) → List·Memᴰ p (cells f) → Stands f p
 unfolding cells member-of
 cell-stands f p m =
-    let (e, n, d) = member-flatMap (λ (e : Found Entity). entity-cells f (e .number)) (numbered 0 (f .entities)) m in
+    let (e, n, d) = member-flatMap (λ (e : Indexed Entity). entity-cells f (e .number)) (numbered 0 (f .entities)) m in
     let (r, k, q) = Memᴰ·of-map (found-spot (e .number)) (numbered 0 (members-of (interface-of f (e .number)))) d in
     subst (Stands f) q (go (interface-of f (e .number)) r (numbered-at (members-of (interface-of f (e .number))) r (member-among k)))
   where
-    go : (o : Option Interface) (r : Found Member) → getElem? (members-of o) (r .number) ≡ some (r .item) → nth-member o (r .number) ≡ some (r .item)
+    go : (o : Option Interface) (r : Indexed Member) → getElem? (members-of o) (r .number) ≡ some (r .item) → nth-member o (r .number) ≡ some (r .item)
     go none r h = h
     go (some i) r h = h
 
@@ -72,7 +72,7 @@ cell-stands f p m =
 
 -- the names that the checks know stand for entities of the interface that they know
 pub record Resolves (f : File) (s : Scope) (sp : Spots) : Type 0 where
-  pub resolve : (n m : List ℕ) (i : Interface) (r : Found Member) → interface-in s n ≡ some i → member-named i m ≡ some r
+  pub resolve : (n m : List ℕ) (i : Interface) (r : Indexed Member) → interface-in s n ≡ some i → member-named i m ≡ some r
       → (e : ℕ) × (sp n m ≡ some (found-spot e r)) × Stands f (found-spot e r)
 
 pub kind-known : (s : Scope) (n m : Name) {k : Kind} → kind-in s n m ≡ some k
@@ -80,7 +80,7 @@ pub kind-known : (s : Scope) (n m : Name) {k : Kind} → kind-in s n m ≡ some 
 unfolding kind-in is-member
 kind-known s n m {k} h = by-interface (interface-in s (n .bytes)) refl h
   where
-    by-member : (i : Interface) → interface-in s (n .bytes) ≡ some i → (o : Option (Found Member)) → member-named i (m .bytes) ≡ o → kind-if-found o ≡ some k
+    by-member : (i : Interface) → interface-in s (n .bytes) ≡ some i → (o : Option (Indexed Member)) → member-named i (m .bytes) ≡ o → kind-if-found o ≡ some k
         → (c : Known-member s is-member (n .bytes) (m .bytes)) × (c .found .item .kind ≡ k)
     by-member i q none g h = absurd (none-some h)
     by-member i q (some r) g h = (record { interface = i; found = r; of-interface = q; named = g; of-sort = tt }, some-injective h)

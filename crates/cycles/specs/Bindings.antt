@@ -4,7 +4,7 @@ use mathlib.Core.List.{List, [], _∷_, _++_, map, flatMap}
 use mathlib.Core.Bool.{Bool, true, false, _&&_}
 use Rattle.values.specs.Bytes.{same-bytes}
 use Rattle.text.specs.Syntax.{Name, Entity, Rule, File}
-use Rattle.checking.specs.Scope.{Found, is-found, interface-named, Variable, variables}
+use Rattle.checking.specs.Scope.{Indexed, is-found, interface-named, Variable, variables}
 use Rattle.cycles.specs.Outcome.{Outcome, running, run-if, collected}
 use Rattle.cycles.specs.Store.{Store}
 use Rattle.cycles.specs.Spots.{spots, numbered, every}

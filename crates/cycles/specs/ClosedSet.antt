@@ -25,7 +25,7 @@ use Rattle.text.specs.Syntax.{
   Rule,
   File,
 }
-use Rattle.checking.specs.Scope.{Found, is-found, entity-named, clauses, targets, Variable, variables, variable-named}
+use Rattle.checking.specs.Scope.{Indexed, is-found, entity-named, clauses, targets, Variable, variables, variable-named}
 use Rattle.cycles.specs.Spots.{numbered, every}
 
 module _ {A : Type 0} where
@@ -43,7 +43,7 @@ unfoldable pub is-of : File → List ℕ → ℕ → Bool
 unfolding entity-is-of
 is-of f i e = entity-is-of i (getElem? (f .entities) e)
 
-unfoldable pub can-mean : File → Option (Found Entity) → Option (Found Variable) → ℕ → Bool
+unfoldable pub can-mean : File → Option (Indexed Entity) → Option (Indexed Variable) → ℕ → Bool
 unfolding is-of
 can-mean f none none e = false
 can-mean f none (some v) e = is-of f (v .item .interface .bytes) e
@@ -86,7 +86,7 @@ names-in-rule r = flatMap names-in-clause (clauses (r .condition)) ++ flatMap na
 
 -- "every entity that the rule names and every entity of each of its variables' interfaces is in the set"
 pub record Reads-inside (f : File) (S : ℕ → Type 0) (r : Rule) : Type 0 where
-  pub named : (n : Name) (d : Found Entity) → Among n (names-in-rule r) → entity-named f (n .bytes) ≡ some d → S (d .number)
+  pub named : (n : Name) (d : Indexed Entity) → Among n (names-in-rule r) → entity-named f (n .bytes) ≡ some d → S (d .number)
   pub ranged : (v : Variable) (e : ℕ) → Among v (variables r) → T (is-of f (v .interface .bytes) e) → S e
 
 -- "A set of entities is closed if, for each rule with a call whose place can be one of them .."

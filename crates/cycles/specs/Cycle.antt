@@ -10,7 +10,7 @@ use Rattle.values.specs.declared.Value.the-variants.{Unset}
 use Rattle.values.specs.declared.Kind.{Kind}
 use Rattle.values.specs.Storable.{of-kind}
 use Rattle.text.specs.Syntax.{Name, Sort, Member, Interface, Assignment, literal-value, Entity, File}
-use Rattle.checking.specs.Scope.{Found, look-up, is-found, member-of, interface-named, member-named, is-attribute, is-action}
+use Rattle.checking.specs.Scope.{Indexed, look-up, is-found, member-of, interface-named, member-named, is-attribute, is-action}
 use Rattle.cycles.specs.Outcome.{Outcome, running, proceed, run-if}
 use Rattle.cycles.specs.Store.{Store, Inputs, State, Line}
 use Rattle.cycles.specs.Spots.{Spot, every, cells}
@@ -92,7 +92,7 @@ unfoldable pub ref-follow : File → State → Line → Outcome State
 unfolding ref-cycle
 ref-follow f s l = elim (eqb (l .number) (s .last)) [ true ↦ running s | false ↦ ref-cycle f s l ]
 
-unfoldable pub assigned : Option (Found Assignment) → Value
+unfoldable pub assigned : Option (Indexed Assignment) → Value
 unfolding literal-value
 assigned none = Unset
 assigned (some a) = literal-value (a .item .literal)
@@ -114,7 +114,7 @@ fresh f = record {
 }
 
 -- an assignment: its name is found among the attributes, and its literal is of the attribute's kind
-unfoldable pub assignment-fits : Option (Found Member) → Value → Bool
+unfoldable pub assignment-fits : Option (Indexed Member) → Value → Bool
 unfolding is-attribute of-kind
 assignment-fits none v = false
 assignment-fits (some m) v = is-attribute (m .item .sort) && of-kind (m .item .kind) v

@@ -12,7 +12,7 @@ use Rattle.values.specs.declared.Value.{Value}
 use Rattle.values.specs.Cells.{cell-at, with-cell}
 use Rattle.text.specs.Tokens.{Token, NAME, EVENT, ACTION, FROM, WITH, ON, COLON, DOT}
 use Rattle.text.specs.Syntax.{Member, Expression, Target, Filter, Test, Condition, Call, Rule}
-use Rattle.text.specs.Readers.{Reader, read}
+use Rattle.text.specs.Readers.{Parser, read}
 use Rattle.text.specs.Grammar.{target-reader, rule-after}
 use Rattle.text.specs.Walks.{nth-token, Rows, Stands, Walks, Looping}
 use Rattle.checking.specs.CountFaults.{MOST-ENTITIES}
@@ -126,11 +126,11 @@ module _ (classes values refs : List ℕ) (b : Binding) (flags cells : List ℕ)
   abbrev pub expression-yields : In-store classes values refs b flags cells → Expression → Value → Type 0
   expression-yields c a v = v ≡ value (c .rule .spots) (c .store) a
 
-  abbrev pub Expression-walk : Reader Expression → ℕ → Value → ℕ → Type 0
+  abbrev pub Expression-walk : Parser Expression → ℕ → Value → ℕ → Type 0
   Expression-walk = Walks in-store-rows expression-yields
 
   -- a loop over items with operators between them
-  abbrev pub Expression-loop : Reader Expression → (ℕ → Bool) → (Expression → Token → Reader Expression) → ℕ → Value → ℕ → Type 0
+  abbrev pub Expression-loop : Parser Expression → (ℕ → Bool) → (Expression → Token → Parser Expression) → ℕ → Value → ℕ → Type 0
   Expression-loop = Looping in-store-rows expression-yields
 
   -- an attribute named after a `with` at number `at` is one of entity e, the target
@@ -141,20 +141,20 @@ module _ (classes values refs : List ℕ) (b : Binding) (flags cells : List ℕ)
   pub record Filter-yields (e at : ℕ) (c : In-store classes values refs b flags cells) (f : Option Filter) (r : Bool) : Type 0 where
     pub filters : (t : Target) → Owns e at c t → r ≡ filter-holds (c .rule .spots) (c .store) t f
 
-  abbrev pub Filter-walk : ℕ → Reader (Option Filter) → ℕ → Bool → ℕ → Type 0
+  abbrev pub Filter-walk : ℕ → Parser (Option Filter) → ℕ → Bool → ℕ → Type 0
   Filter-walk e r at v next = Walks in-store-rows (Filter-yields e at) r at v next
 
   -- a call's writes, after those that gave `area`
   abbrev pub call-yields : List ℕ → In-store classes values refs b flags cells → Call → List ℕ → Type 0
   call-yields area c k r = r ≡ puts area (call-writes (c .rule .spots) (c .store) k)
 
-  abbrev pub Call-walk : List ℕ → Reader Call → ℕ → List ℕ → ℕ → Type 0
+  abbrev pub Call-walk : List ℕ → Parser Call → ℕ → List ℕ → ℕ → Type 0
   Call-walk area = Walks in-store-rows (call-yields area)
 
   abbrev pub calls-yields : List ℕ → In-store classes values refs b flags cells → List Call → List ℕ → Type 0
   calls-yields area c ks r = r ≡ puts area (flatMap (call-writes (c .rule .spots) (c .store)) ks)
 
-  abbrev pub Calls-walk : List ℕ → Reader (List Call) → ℕ → List ℕ → ℕ → Type 0
+  abbrev pub Calls-walk : List ℕ → Parser (List Call) → ℕ → List ℕ → ℕ → Type 0
   Calls-walk area = Walks in-store-rows (calls-yields area)
 
 module _ (classes values refs : List ℕ) (b : Binding) (flags cells previous-flags previous-cells : List ℕ) where
@@ -165,16 +165,16 @@ module _ (classes values refs : List ℕ) (b : Binding) (flags cells previous-fl
   pub record Test-yields (e m : ℕ) (c : In-stores classes values refs b flags cells previous-flags previous-cells) (x : Test) (r : Bool) : Type 0 where
     pub tests : (p : Option Spot) → Locates (c .rule .count) p e m → r ≡ test-holds (c .rule .spots) (c .now) (c .previous) p x
 
-  abbrev pub Test-walk : ℕ → ℕ → Reader Test → ℕ → Bool → ℕ → Type 0
+  abbrev pub Test-walk : ℕ → ℕ → Parser Test → ℕ → Bool → ℕ → Type 0
   Test-walk e m = Walks in-stores-rows (Test-yields e m)
 
   abbrev pub condition-yields : In-stores classes values refs b flags cells previous-flags previous-cells → Condition → Bool → Type 0
   condition-yields c a r = r ≡ holds (c .rule .spots) (c .now) (c .previous) a
 
-  abbrev pub Condition-walk : Reader Condition → ℕ → Bool → ℕ → Type 0
+  abbrev pub Condition-walk : Parser Condition → ℕ → Bool → ℕ → Type 0
   Condition-walk = Walks in-stores-rows condition-yields
 
-  abbrev pub Condition-loop : Reader Condition → (ℕ → Bool) → (Condition → Token → Reader Condition) → ℕ → Bool → ℕ → Type 0
+  abbrev pub Condition-loop : Parser Condition → (ℕ → Bool) → (Condition → Token → Parser Condition) → ℕ → Bool → ℕ → Type 0
   Condition-loop = Looping in-stores-rows condition-yields
 
   -- of the rule whose tokens after `when` begin at number `at`: `area` after all that it writes

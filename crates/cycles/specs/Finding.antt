@@ -8,7 +8,7 @@ use mathlib.Core.Option.{Option}
 use lib.ListN.{length, getD, set}
 use Rattle.text.specs.Tokens.{NAME, WITH, COMMA}
 use Rattle.text.specs.Syntax.{Target, Filter, Test, Condition, Call, Rule}
-use Rattle.text.specs.Readers.{Reader}
+use Rattle.text.specs.Readers.{Parser}
 use Rattle.text.specs.Syntax.{OPENERS}
 use Rattle.text.specs.Grammar.{filter-reader, test-reader, call-reader}
 use Rattle.text.specs.Walks.{nth-token, Rows, Stands, Walks}
@@ -74,7 +74,7 @@ module _ (classes refs : List ℕ) where
   abbrev pub Test-guards-walk : ℕ → ℕ → ℕ → Growth → ℕ → Type 0
   Test-guards-walk n m = Walks (all-rows classes) (Test-guards refs n m) (test-reader OPENERS)
 
-  abbrev pub Condition-guards-walk : Reader Condition → ℕ → Growth → ℕ → Type 0
+  abbrev pub Condition-guards-walk : Parser Condition → ℕ → Growth → ℕ → Type 0
   Condition-guards-walk = Walks (all-rows classes) (condition-guards refs)
 
   -- of a rule's first call: if it is the only one, its guards; else none

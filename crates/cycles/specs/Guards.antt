@@ -10,7 +10,7 @@ use lib.ListN.{getD, drop}
 use Rattle.values.specs.Value.{equal, differ}
 use Rattle.text.specs.Tokens.{Token, NAME, EVENT, FROM, WITH, ON}
 use Rattle.text.specs.Syntax.{Expression, Condition, Rule}
-use Rattle.text.specs.Readers.{Reader, read}
+use Rattle.text.specs.Readers.{Parser, read}
 use Rattle.text.specs.Syntax.{OPENERS}
 use Rattle.text.specs.Grammar.{expression-reader, atom-reader, rule-after}
 use Rattle.text.specs.Walks.{nth-token, Rows, Stands}
@@ -41,7 +41,7 @@ abbrev pub spot-named : {classes : List ℕ} → Rows classes → Spots → ℕ 
 spot-named w sp n m = sp (nth-token (w .tokens) n .bytes) (nth-token (w .tokens) m .bytes)
 
 -- what a reader reads at number `at`, of the first `level` variables
-pub record Part {A : Type 0} {classes : List ℕ} (reader : Reader A) (w : Rows classes) (refs : List ℕ) (level at : ℕ) (a : A) : Type 0 where
+pub record Part {A : Type 0} {classes : List ℕ} (reader : Parser A) (w : Rows classes) (refs : List ℕ) (level at : ℕ) (a : A) : Type 0 where
   pub used : ℕ
   pub reads : reader (drop at (w .tokens)) ≡ read a used
   pub from : w .low ≤ at

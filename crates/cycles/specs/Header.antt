@@ -7,7 +7,7 @@ use lib.Dec.{leb, eqb}
 use lib.ListN.{length}
 use Rattle.values.specs.Bytes.{same-bytes}
 use Rattle.text.specs.Syntax.{Sort, attribute, event, action, Entity, File}
-use Rattle.checking.specs.Scope.{Found, entity-named}
+use Rattle.checking.specs.Scope.{Indexed, entity-named}
 use Rattle.cycles.specs.Spots.{Spot, spot-of}
 use Rattle.cycles.specs.Fields.{split, fields}
 
@@ -16,7 +16,7 @@ pub record Column : Type 0 where
   pub entity : ℕ
   pub event : Option Spot
 
-unfoldable pub presence-column : Option (Found Entity) → Option Column
+unfoldable pub presence-column : Option (Indexed Entity) → Option Column
 presence-column none = none
 presence-column (some e) = some (record { entity = e .number; event = none })
 
@@ -29,7 +29,7 @@ event-column (some p) = elim (p .what .sort) [
   | action ↦ none
 ]
 
-unfoldable pub column-of-entity : File → Option (Found Entity) → List ℕ → Option Column
+unfoldable pub column-of-entity : File → Option (Indexed Entity) → List ℕ → Option Column
 unfolding event-column spot-of
 column-of-entity f none m = none
 column-of-entity f (some e) m = event-column (spot-of f (e .number) m)

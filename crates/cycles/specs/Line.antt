@@ -8,7 +8,7 @@ use lib.ListN.{length}
 use Rattle.values.specs.declared.Value.{Value}
 use Rattle.values.specs.Cells.{identical}
 use Rattle.text.specs.Syntax.{Entity, File}
-use Rattle.checking.specs.Scope.{Found}
+use Rattle.checking.specs.Scope.{Indexed}
 use Rattle.cycles.specs.Store.{Store, Inputs, State, Line}
 use Rattle.cycles.specs.Spots.{Spot, numbered, every, cells}
 use Rattle.cycles.specs.Header.{Column, header}

@@ -5,7 +5,7 @@ use mathlib.Core.Bool.{Bool, true, false, _&&_}
 use mathlib.Core.Option.{Option, none, some}
 use lib.ListN.{getElem?}
 use Rattle.text.specs.Syntax.{Member, Interface, Entity, File}
-use Rattle.checking.specs.Scope.{Found, entity-named, member-named, interface-of, Variable, variable-named}
+use Rattle.checking.specs.Scope.{Indexed, entity-named, member-named, interface-of, Variable, variable-named}
 
 -- where a cell is, by the numbers of its entity and member, and what it is
 pub record Spot : Type 0 where
@@ -17,7 +17,7 @@ pub record Spot : Type 0 where
 abbrev pub Spots : Type 0
 Spots = List ℕ → List ℕ → Option Spot
 
-unfoldable pub spot-at : ℕ → Option (Found Member) → Option Spot
+unfoldable pub spot-at : ℕ → Option (Indexed Member) → Option Spot
 spot-at e none = none
 spot-at e (some m) = some (record { entity = e; member = m .number; what = m .item })
 
@@ -31,7 +31,7 @@ unfoldable pub spot-of : File → ℕ → List ℕ → Option Spot
 unfolding spot-among interface-of
 spot-of f e m = spot-among e (interface-of f e) m
 
-unfoldable pub meant-by : Option (Found Entity) → Option (Found Variable) → List ℕ → Option ℕ
+unfoldable pub meant-by : Option (Indexed Entity) → Option (Indexed Variable) → List ℕ → Option ℕ
 meant-by none none binding = none
 meant-by none (some v) binding = getElem? binding (v .number)
 meant-by (some e) v binding = some (e .number)
@@ -52,7 +52,7 @@ spots f vs binding n m = spot-if-meant f (meant f vs binding n) m
 
 module _ {A : Type 0} where
   -- the items of a list with their numbers, from n on
-  unfoldable pub numbered : ℕ → List A → List (Found A)
+  unfoldable pub numbered : ℕ → List A → List (Indexed A)
   numbered n [] = []
   numbered n (x ∷ xs) = record { number = n; item = x } ∷ numbered (suc n) xs
 

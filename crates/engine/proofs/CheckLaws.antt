@@ -31,12 +31,12 @@ check-answer text bench h = rw (le-ltb (length bench) BENCH h, check-call) (go (
   where
     go : (v : Verdict) → checked v text bench .answer ≡ verdict-answer v
     go (Verdict.accepted f) = refl
-    go (Verdict.refused code at) = refl
+    go (Verdict.refused-at code at) = refl
 
 accepts-admitted : (text : List ℕ) (v : Verdict) → verdict text ≡ v → Refused-by-code Some-code v → number-of (verdict-answer v) ≡ 0 → Admitted text
 unfolding verdict-answer
 accepts-admitted text (Verdict.accepted f) e p h = accepted-admitted text f e
-accepts-admitted text (Verdict.refused code at) e p h = let l = p .0 in let z = p .1 in absurd (omega arith)
+accepts-admitted text (Verdict.refused-at code at) e p h = let l = p .0 in let z = p .1 in absurd (omega arith)
 
 pub check-admits : (text bench new-bench : List ℕ) (r : ℕ) → Check-contract text bench new-bench r → BENCH ≤ length bench
     → (number-of r ≡ 0) ↔ Admitted text

@@ -17,7 +17,7 @@ use Rattle.cycles.specs.ClosedSet.{Closed}
 use Rattle.engine.specs.BenchImage.{BENCH}
 use Rattle.engine.specs.Calls.{ROW, After-line, Check-contract, Fresh-contract, Line-contract, Header-contract, Row-contract}
 use Rattle.engine.specs.Runs.{Request, Run-start, Run, sight, ref-run, taken-lines}
-use Rattle.engine.specs.DemandOne.{number-of, CHECK-NUMBERS, FRESH-NUMBERS, LINE-NUMBERS, HEADER-NUMBERS, ROW-NUMBERS, Numbered}
+use Rattle.engine.specs.DemandOne.{number-of, CHECK-NUMBERS, FRESH-NUMBERS, LINE-NUMBERS, HEADER-NUMBERS, ROW-NUMBERS, Listed-answer}
 use Rattle.engine.specs.DemandTwo.{Freshens, Follows, Names, Shows, Resent, Reads-back}
 use Rattle.engine.specs.DemandThree.{Same-lines, Same-values, Side-by-side}
 use Rattle.engine.proofs.NumberLaws.{check-numbered, fresh-numbered, line-numbered, header-numbered, row-numbered}
@@ -28,15 +28,15 @@ use Rattle.engine.proofs.RunLaws.{run-stays, runs-apart, run-resent}
 -- "Any text as bench file or readings, any memory as bench or state: an acceptance or a numbered refusal, always; a refusal changes no lent byte."
 pub record Demand-one : Type 0 where
   pub check : (text bench new-bench : List ℕ) (r : ℕ) → Check-contract text bench new-bench r
-      → Numbered CHECK-NUMBERS r (bench ∷ []) (new-bench ∷ [])
+      → Listed-answer CHECK-NUMBERS r (bench ∷ []) (new-bench ∷ [])
   pub fresh : (bench state new-state : List ℕ) (r : ℕ) → Fresh-contract bench state new-state r
-      → Numbered FRESH-NUMBERS r (state ∷ []) (new-state ∷ [])
+      → Listed-answer FRESH-NUMBERS r (state ∷ []) (new-state ∷ [])
   pub line : (bench state names values row new-state new-row : List ℕ) (r : ℕ) → Line-contract bench state names values row new-state new-row r
-      → Numbered LINE-NUMBERS r (state ∷ row ∷ []) (new-state ∷ new-row ∷ [])
+      → Listed-answer LINE-NUMBERS r (state ∷ row ∷ []) (new-state ∷ new-row ∷ [])
   pub header : (bench row new-row : List ℕ) (r : ℕ) → Header-contract bench row new-row r
-      → Numbered HEADER-NUMBERS r (row ∷ []) (new-row ∷ [])
+      → Listed-answer HEADER-NUMBERS r (row ∷ []) (new-row ∷ [])
   pub row : (bench state row new-row : List ℕ) (r : ℕ) → Row-contract bench state row new-row r
-      → Numbered ROW-NUMBERS r (row ∷ []) (new-row ∷ [])
+      → Listed-answer ROW-NUMBERS r (row ∷ []) (new-row ∷ [])
 
 pub demand-one : Demand-one
 demand-one = record { check = check-numbered; fresh = fresh-numbered; line = line-numbered; header = header-numbered; row = row-numbered }

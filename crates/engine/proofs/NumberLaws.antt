@@ -48,16 +48,16 @@ use Rattle.engine.specs.Calls.{
   Header-contract,
   Row-contract,
 }
-use Rattle.engine.specs.DemandOne.{number-of, CHECK-NUMBERS, FRESH-NUMBERS, LINE-NUMBERS, HEADER-NUMBERS, ROW-NUMBERS, Numbered}
+use Rattle.engine.specs.DemandOne.{number-of, CHECK-NUMBERS, FRESH-NUMBERS, LINE-NUMBERS, HEADER-NUMBERS, ROW-NUMBERS, Listed-answer}
 use Rattle.engine.proofs.CallLaws.{after-accepted, accepted-resent, accepted-new}
 
 -- ---- refusal and acceptance
 
 module _ {numbers : List ℕ} {lent : List (List ℕ)} where
-  refusal : (answer : ℕ) → Among (number-of answer) numbers → Numbered numbers answer lent lent
+  refusal : (answer : ℕ) → Among (number-of answer) numbers → Listed-answer numbers answer lent lent
   refusal answer a = record { number = a; as-lent = λ h. refl }
 
-  acceptance : {left : List (List ℕ)} (answer : ℕ) → number-of answer ≡ 0 → Among 0 numbers → Numbered numbers answer lent left
+  acceptance : {left : List (List ℕ)} (answer : ℕ) → number-of answer ≡ 0 → Among 0 numbers → Listed-answer numbers answer lent left
   acceptance answer e a = record { number = rw e a; as-lent = λ h. absurd (h e) }
 
 row-accepted : (r : List ℕ) → number-of (row-answer r) ≡ 0
@@ -83,48 +83,48 @@ verdict-listed =
     (lit< tt, there (there (there (there (there (there (there (there here))))))))
     (lit< tt, there (there (there (there (there (there (there (there (there here)))))))))
 
-check-call-numbered : (text bench : List ℕ) → Numbered CHECK-NUMBERS (check-call text bench .answer) (bench ∷ []) (check-call text bench .bench ∷ [])
+check-call-numbered : (text bench : List ℕ) → Listed-answer CHECK-NUMBERS (check-call text bench .answer) (bench ∷ []) (check-call text bench .bench ∷ [])
 unfolding check-call checked verdict-answer
 check-call-numbered text bench = by-size (ltb (length bench) BENCH)
   where
     by-verdict : (v : Verdict) → Refused-by-code CHECK v
-        → Numbered CHECK-NUMBERS (checked v text bench .answer) (bench ∷ []) (checked v text bench .bench ∷ [])
+        → Listed-answer CHECK-NUMBERS (checked v text bench .answer) (bench ∷ []) (checked v text bench .bench ∷ [])
     by-verdict (Verdict.accepted f) h = acceptance 0 refl here
-    by-verdict (Verdict.refused code at) h = refusal (code + 256 * at) (rw (with-offset code at (h .0)) (h .1))
+    by-verdict (Verdict.refused-at code at) h = refusal (code + 256 * at) (rw (with-offset code at (h .0)) (h .1))
 
     call : Bool → After-check
     call b = elim b [ true ↦ record { answer = 31; bench = bench } | false ↦ checked (verdict text) text bench ]
 
-    by-size : (b : Bool) → Numbered CHECK-NUMBERS (call b .answer) (bench ∷ []) (call b .bench ∷ [])
+    by-size : (b : Bool) → Listed-answer CHECK-NUMBERS (call b .answer) (bench ∷ []) (call b .bench ∷ [])
     by-size true = refusal 31 (there here)
     by-size false = by-verdict (verdict text) (verdict-listed text)
 
 pub check-numbered : (text bench new-bench : List ℕ) (r : ℕ) → Check-contract text bench new-bench r
-    → Numbered CHECK-NUMBERS r (bench ∷ []) (new-bench ∷ [])
+    → Listed-answer CHECK-NUMBERS r (bench ∷ []) (new-bench ∷ [])
 check-numbered text bench new-bench r c =
-    subst (λ (x : After-check). Numbered CHECK-NUMBERS (x .answer) (bench ∷ []) (x .bench ∷ [])) (sym c) (check-call-numbered text bench)
+    subst (λ (x : After-check). Listed-answer CHECK-NUMBERS (x .answer) (bench ∷ []) (x .bench ∷ [])) (sym c) (check-call-numbered text bench)
 
 -- ---- fresh
 
-fresh-call-numbered : (bench state : List ℕ) → Numbered FRESH-NUMBERS (fresh-call bench state .answer) (state ∷ []) (fresh-call bench state .state ∷ [])
+fresh-call-numbered : (bench state : List ℕ) → Listed-answer FRESH-NUMBERS (fresh-call bench state .answer) (state ∷ []) (fresh-call bench state .state ∷ [])
 unfolding fresh-call freshened
 fresh-call-numbered bench state = by-size (ltb (length bench) BENCH || ltb (length state) STATE)
   where
-    by-bench : (o : Option File) → Numbered FRESH-NUMBERS (freshened o state .answer) (state ∷ []) (freshened o state .state ∷ [])
+    by-bench : (o : Option File) → Listed-answer FRESH-NUMBERS (freshened o state .answer) (state ∷ []) (freshened o state .state ∷ [])
     by-bench none = refusal 32 (there (there here))
     by-bench (some f) = acceptance 0 refl here
 
     call : Bool → After-fresh
     call b = elim b [ true ↦ record { answer = 31; state = state } | false ↦ freshened (bench-of bench) state ]
 
-    by-size : (b : Bool) → Numbered FRESH-NUMBERS (call b .answer) (state ∷ []) (call b .state ∷ [])
+    by-size : (b : Bool) → Listed-answer FRESH-NUMBERS (call b .answer) (state ∷ []) (call b .state ∷ [])
     by-size true = refusal 31 (there here)
     by-size false = by-bench (bench-of bench)
 
 pub fresh-numbered : (bench state new-state : List ℕ) (r : ℕ) → Fresh-contract bench state new-state r
-    → Numbered FRESH-NUMBERS r (state ∷ []) (new-state ∷ [])
+    → Listed-answer FRESH-NUMBERS r (state ∷ []) (new-state ∷ [])
 fresh-numbered bench state new-state r c =
-    subst (λ (x : After-fresh). Numbered FRESH-NUMBERS (x .answer) (state ∷ []) (x .state ∷ [])) (sym c) (fresh-call-numbered bench state)
+    subst (λ (x : After-fresh). Listed-answer FRESH-NUMBERS (x .answer) (state ∷ []) (x .state ∷ [])) (sym c) (fresh-call-numbered bench state)
 
 -- ---- line
 
@@ -139,7 +139,7 @@ line-listed =
     (lit< tt, there (there (there (there (there (there (there (there here))))))))
 
 abbrev Line-numbered : List ℕ → List ℕ → After-line → Type 0
-Line-numbered state row x = Numbered LINE-NUMBERS (x .answer) (state ∷ row ∷ []) (x .state ∷ x .row ∷ [])
+Line-numbered state row x = Listed-answer LINE-NUMBERS (x .answer) (state ∷ row ∷ []) (x .state ∷ x .row ∷ [])
 
 line-call-numbered : (bench state names values row : List ℕ) → Line-numbered state row (line-call bench state names values row)
 unfolding line-call line-on-bench line-in-state line-answered line-refused after-accepted
@@ -169,13 +169,13 @@ line-call-numbered bench state names values row = by-size (ltb (length bench) BE
     by-size false = by-bench (bench-of bench)
 
 pub line-numbered : (bench state names values row new-state new-row : List ℕ) (r : ℕ) → Line-contract bench state names values row new-state new-row r
-    → Numbered LINE-NUMBERS r (state ∷ row ∷ []) (new-state ∷ new-row ∷ [])
+    → Listed-answer LINE-NUMBERS r (state ∷ row ∷ []) (new-state ∷ new-row ∷ [])
 line-numbered bench state names values row new-state new-row r c = subst (Line-numbered state row) (sym c) (line-call-numbered bench state names values row)
 
 -- ---- header and row
 
 abbrev Row-numbered : List ℕ → List ℕ → After-row → Type 0
-Row-numbered numbers row x = Numbered numbers (x .answer) (row ∷ []) (x .row ∷ [])
+Row-numbered numbers row x = Listed-answer numbers (x .answer) (row ∷ []) (x .row ∷ [])
 
 header-call-numbered : (bench row : List ℕ) → Row-numbered HEADER-NUMBERS row (header-call bench row)
 unfolding header-call header-on-bench row-written
@@ -192,7 +192,7 @@ header-call-numbered bench row = by-size (ltb (length bench) BENCH || ltb (lengt
     by-size true = refusal 31 (there here)
     by-size false = by-bench (bench-of bench)
 
-pub header-numbered : (bench row new-row : List ℕ) (r : ℕ) → Header-contract bench row new-row r → Numbered HEADER-NUMBERS r (row ∷ []) (new-row ∷ [])
+pub header-numbered : (bench row new-row : List ℕ) (r : ℕ) → Header-contract bench row new-row r → Listed-answer HEADER-NUMBERS r (row ∷ []) (new-row ∷ [])
 header-numbered bench row new-row r c = subst (Row-numbered HEADER-NUMBERS row) (sym c) (header-call-numbered bench row)
 
 row-call-numbered : (bench state row : List ℕ) → Row-numbered ROW-NUMBERS row (row-call bench state row)
@@ -214,5 +214,5 @@ row-call-numbered bench state row = by-size (ltb (length bench) BENCH || ltb (le
     by-size true = refusal 31 (there here)
     by-size false = by-bench (bench-of bench)
 
-pub row-numbered : (bench state row new-row : List ℕ) (r : ℕ) → Row-contract bench state row new-row r → Numbered ROW-NUMBERS r (row ∷ []) (new-row ∷ [])
+pub row-numbered : (bench state row new-row : List ℕ) (r : ℕ) → Row-contract bench state row new-row r → Listed-answer ROW-NUMBERS r (row ∷ []) (new-row ∷ [])
 row-numbered bench state row new-row r c = subst (Row-numbered ROW-NUMBERS row) (sym c) (row-call-numbered bench state row)

@@ -67,7 +67,7 @@ pub accepted-says : {text d : List ℕ} {u : Token-columns} {r : Checked} {n : �
 accepted-says {text} {d} {u} e s = subst (Says text u d) e s
 
 pub refused-says : (text d : List ℕ) (u : Token-columns) {r : Checked} {code at : ℕ} → r ≡ checked-as.Refused code at → Says text u d r
-    → verdict text ≡ Verdict.refused code at
+    → verdict text ≡ Verdict.refused-at code at
 refused-says text d u e s = subst (Says text u d) e s
 
 -- ---- an accepted text
@@ -127,7 +127,7 @@ module _ {text classes offsets lengths literals d state shown names values out :
 
 -- ---- a refused text
 
-pub refused-served : (call : Call) (text : List ℕ) {state : List ℕ} (shown names values : List ℕ) {out : List ℕ} {code at r : ℕ} → verdict text ≡ Verdict.refused code at → r ≡ refusal call code at
+pub refused-served : (call : Call) (text : List ℕ) {state : List ℕ} (shown names values : List ℕ) {out : List ℕ} {code at r : ℕ} → verdict text ≡ Verdict.refused-at code at → r ≡ refusal call code at
     → record { answer = r; state = state; out = out } ≡ served call text state shown names values out
 unfolding served checked verdict-answer accepted-file file-of freshened line-on-bench line-refused header-on-bench row-on-bench refusal checked-answer
 refused-served Check text shown names values v e = rw (v, e)

@@ -35,7 +35,7 @@ pub record After-check : Type 0 where
 
 unfoldable pub checked : Verdict → List ℕ → List ℕ → After-check
 unfolding verdict-answer with-bench
-checked (Verdict.refused code at) text bench = record { answer = verdict-answer (Verdict.refused code at); bench = bench }
+checked (Verdict.refused-at code at) text bench = record { answer = verdict-answer (Verdict.refused-at code at); bench = bench }
 checked (Verdict.accepted f) text bench = record { answer = verdict-answer (Verdict.accepted f); bench = with-bench text bench }
 
 unfoldable pub check-call : List ℕ → List ℕ → After-check

@@ -25,6 +25,6 @@ abbrev pub ROW-NUMBERS : List ℕ
 ROW-NUMBERS = 0 ∷ 31 ∷ 32 ∷ 33 ∷ []
 
 -- an answer, and the memory that a call may write, as it was lent and as it is left
-pub record Numbered (numbers : List ℕ) (answer : ℕ) (lent left : List (List ℕ)) : Type 0 where
+pub record Listed-answer (numbers : List ℕ) (answer : ℕ) (lent left : List (List ℕ)) : Type 0 where
   pub number : Among (number-of answer) numbers
   pub as-lent : (number-of answer ≡ 0 → ⊥) → left ≡ lent

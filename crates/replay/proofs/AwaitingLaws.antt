@@ -73,7 +73,7 @@ bench-printed f (l ∷ ls) = under-printed f l (header f l) ls
 
 by-verdict : (v : Verdict) (ls : List (List ℕ)) → opening v ++ prints-lines (awaited-first v) ls ≡ replay-by v ls
 unfolding opening awaited-first replay-by
-by-verdict (Verdict.refused code at) ls = rw (nothing-more ls) (append-nil _)
+by-verdict (Verdict.refused-at code at) ls = rw (nothing-more ls) (append-nil _)
 by-verdict (Verdict.accepted f) ls = bench-printed f ls
 
 pub replay-printed : (bench readings : List ℕ) → opening (verdict bench) ++ to-print (awaited-first (verdict bench)) readings ≡ replay bench readings

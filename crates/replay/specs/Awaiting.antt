@@ -83,11 +83,11 @@ left-after a t = awaited-after-lines a (lines t)
 
 unfoldable pub opening : Verdict → List ℕ
 unfolding bench-refusal
-opening (Verdict.refused code at) = bench-refusal code at ++ 10 ∷ []
+opening (Verdict.refused-at code at) = bench-refusal code at ++ 10 ∷ []
 opening (Verdict.accepted f) = []
 
 unfoldable pub awaited-first : Verdict → Awaits
-awaited-first (Verdict.refused code at) = nothing
+awaited-first (Verdict.refused-at code at) = nothing
 awaited-first (Verdict.accepted f) = names f
 
 -- ---- in memory

@@ -53,7 +53,7 @@ rows-of f (names ∷ values) = rows-under f names (header f names) values
 
 unfoldable pub replay-by : Verdict → List (List ℕ) → List ℕ
 unfolding bench-refusal rows-of
-replay-by (Verdict.refused code at) ls = bench-refusal code at ++ 10 ∷ []
+replay-by (Verdict.refused-at code at) ls = bench-refusal code at ++ 10 ∷ []
 replay-by (Verdict.accepted f) ls = rows-of f ls
 
 unfoldable pub replay : List ℕ → List ℕ → List ℕ

@@ -15,7 +15,7 @@ use Rattle.text.specs.declared.grammar.Parsing.{Parsing}
 use Rattle.text.specs.declared.grammar.Parsing.the-variants.{Grammatical, UngrammaticalAt}
 use Rattle.text.specs.Tokens.{Token, NAME, TRUE, FALSE, WHOLE-NUMBER, REAL-NUMBER, ROUND-OPEN, ROUND-CLOSE}
 use Rattle.text.specs.Syntax.{Name, Expression, literal, truth, Target, Condition, clause, changed, Call, File}
-use Rattle.text.specs.Readers.{Parse, read, refused, Reader, give, halt, expect}
+use Rattle.text.specs.Readers.{Parse, read, unfit-after, Parser, give, halt, expect}
 use Rattle.text.specs.Grammar.{
   number-reader,
   member-reader,
@@ -91,7 +91,7 @@ by-unsigned P c e t f w r =
 
 module _ {cs : List ℕ} {p q : Parsed} where
   -- a factor that is no opener is read whatever may come
-  factor-simple : (depth : ℕ) → ((other : Reader Expression) → Reads-as cs (simple-or other) p q) → Reads-as cs (factor-reader depth) p q
+  factor-simple : (depth : ℕ) → ((other : Parser Expression) → Reads-as cs (simple-or other) p q) → Reads-as cs (factor-reader depth) p q
   unfolding factor-reader
   factor-simple zero h = h halt
   factor-simple (suc left) h = h (opener-reader (factor-reader left))
@@ -117,7 +117,7 @@ module _ {cs : List ℕ} {p q : Parsed} where
 
       module _ (a : c ≡ NAME → ⊥) (e : u ≡ false) where
         -- only an opener is left
-        simple-lacks : (other : Reader Expression) → Reads-as cs other p q → Reads-as cs (simple-or other) p q
+        simple-lacks : (other : Parser Expression) → Reads-as cs other p q → Reads-as cs (simple-or other) p q
         unfolding simple-or is-unsigned
         simple-lacks other h =
             let lacks : (d : ℕ) → is-unsigned d ≡ true → c ≡ d → ⊥ = λ d k f. true≢false (sym k ∙ ap is-unsigned (sym f) ∙ sym i ∙ e) in
@@ -173,7 +173,7 @@ module _ {cs : List ℕ} {p : Parsed} {at : ℕ} (h : Reads-as cs file-reader (N
     where
       on : (ts : List Token) (x : Parse File) → file-reader ts ≡ x → Refused at ≡ parse-answer 0 x → Unfit-at ts at
       on ts (read f n) e i = let z : _≡_ {A = ℕ} 0 1 = cc in absurd (omega arith)
-      on ts (refused n) e i =
+      on ts (unfit-after n) e i =
           let k : at ≡ n = cc (zero-add n) in
           record {
             within = omega (arith, rw e at (parses-bounded file-parses .bound ts));
@@ -189,7 +189,7 @@ module _ {cs : List ℕ} {p : Parsed} {at : ℕ} (h : Reads-as cs file-reader (N
       left end f (t ∷ ts) l = refl
 
       on : (ts : List Token) (x : Parse File) → file-reader ts ≡ x → Next at ≡ parse-answer 0 x → length ts ≡ length cs → Unfit-at ts at
-      on ts (refused n) e i j = let z : _≡_ {A = ℕ} 0 1 = cc in absurd (omega arith)
+      on ts (unfit-after n) e i j = let z : _≡_ {A = ℕ} 0 1 = cc in absurd (omega arith)
       on ts (read f n) e i j =
           let k : at ≡ n = cc (zero-add n) in
           record { within = omega arith; parses = λ end. rw (k, e) (left end f (drop n ts) (omega (arith, length-drop n ts))) }
@@ -199,7 +199,7 @@ module _ {cs : List ℕ} {p : Parsed} {at : ℕ} (h : Reads-as cs file-reader (N
   file-whole i l = answers-file λ ts e. on ts (file-reader ts) refl (sym i ∙ h .told ts e) (same-length cs ts e)
     where
       on : (ts : List Token) (x : Parse File) → file-reader ts ≡ x → Next at ≡ parse-answer 0 x → length ts ≡ length cs → Makes-file ts
-      on ts (refused n) e i j = let z : _≡_ {A = ℕ} 0 1 = cc in absurd (omega arith)
+      on ts (unfit-after n) e i j = let z : _≡_ {A = ℕ} 0 1 = cc in absurd (omega arith)
       on ts (read f n) e i j =
           let k : at ≡ n = cc (zero-add n) in
           let m : n ≡ length ts = omega (arith, rw e at (parses-bounded file-parses .bound ts)) in

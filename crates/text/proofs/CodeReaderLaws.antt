@@ -17,8 +17,8 @@ use Rattle.text.specs.Tokens.{Token}
 use Rattle.text.specs.Readers.{
   Parse,
   read,
-  refused,
-  Reader,
+  unfit-after,
+  Parser,
   shift,
   give,
   halt,
@@ -62,10 +62,10 @@ drop-classes (suc at) (t ∷ ts) = drop-classes at ts
 answer-shift : {A : Type 0} (at n : ℕ) (p : Parse A) → parse-answer at (shift n p) ≡ parse-answer (at + n) p
 unfolding parse-answer shift
 answer-shift at n (read a k) = let e : at + (n + k) ≡ at + n + k = omega arith in rw e
-answer-shift at n (refused k) = let e : at + (n + k) ≡ at + n + k = omega arith in rw e
+answer-shift at n (unfit-after k) = let e : at + (n + k) ≡ at + n + k = omega arith in rw e
 
 -- one reader for another that makes the same of the tokens that are left
-instead : {A : Type 0} {r s : Reader A} {cs : List ℕ} (p : Parsed) {q : Parsed} → ((us : List Token) → classes-of us ≡ classes-from cs p → s us ≡ r us)
+instead : {A : Type 0} {r s : Parser A} {cs : List ℕ} (p : Parsed) {q : Parsed} → ((us : List Token) → classes-of us ≡ classes-from cs p → s us ≡ r us)
     → Reads-as cs s p q → Reads-as cs r p q
 unfolding answer-from classes-from
 instead (Next at) same h = record {
@@ -74,19 +74,19 @@ instead (Next at) same h = record {
 instead (Refused at) same h = record { told = h .told }
 
 -- what was refused is the answer of every reader
-kept : {A : Type 0} {cs : List ℕ} {r : Reader A} (at : ℕ) → Reads-as cs r (Refused at) (Refused at)
+kept : {A : Type 0} {cs : List ℕ} {r : Parser A} (at : ℕ) → Reads-as cs r (Refused at) (Refused at)
 unfolding answer-from
 kept at = record { told = λ ts e. refl }
 
 -- a reading leaves no more tokens than it found
-pub tokens-left : {A : Type 0} {cs : List ℕ} {r : Reader A} {p q : Parsed} → Reads-as cs r p q
+pub tokens-left : {A : Type 0} {cs : List ℕ} {r : Parser A} {p q : Parsed} → Reads-as cs r p q
     → length (classes-from cs q) ≤ length (classes-from cs p)
 unfolding answer-from parse-answer classes-from
 tokens-left {A} {cs} {r} {p} {q} h = on p (h .told (sample cs) (classes-sample cs))
   where
     part : (at : ℕ) (x : Parse A) → q ≡ parse-answer at x → length (classes-from cs q) ≤ length (drop at cs)
     part at (read a n) e = rw e (simp length-drop (omega arith))
-    part at (refused n) e = rw e (omega arith)
+    part at (unfit-after n) e = rw e (omega arith)
 
     on : (p : Parsed) → q ≡ answer-from p r (sample cs) → length (classes-from cs q) ≤ length (classes-from cs p)
     on (Next at) e = part at (r (drop at (sample cs))) e
@@ -115,9 +115,9 @@ module _ {A : Type 0} {cs : List ℕ} where
   halt-answers (Next at) i = record { told = λ ts e. i ∙ ap Refused (sym (add-zero at)) }
   halt-answers (Refused at) i = record { told = λ ts e. i }
 
-module _ {A B : Type 0} {cs : List ℕ} {r : Reader A} {p q : Parsed} (h : Reads-as cs r p q) where
+module _ {A B : Type 0} {cs : List ℕ} {r : Parser A} {p q : Parsed} (h : Reads-as cs r p q) where
   -- what r answers, and from there on what k answers, whatever tree it is given; after a refusal, one tree serves
-  pub and-then-answers : A → {k : A → Reader B} {w : Parsed} → ((a : A) → Reads-as cs (k a) q w) → Reads-as cs (and-then r k) p w
+  pub and-then-answers : A → {k : A → Parser B} {w : Parsed} → ((a : A) → Reads-as cs (k a) q w) → Reads-as cs (and-then r k) p w
   unfolding answer-from parse-answer and-then
   and-then-answers one {k} {w} f = record { told = λ ts e. on ts e p (h .told ts e) }
     where
@@ -129,7 +129,7 @@ module _ {A B : Type 0} {cs : List ℕ} {r : Reader A} {p q : Parsed} (h : Reads
       part ts e at (read a n) i =
           next ts e a (Next (at + n)) i ∙ ap (λ us. parse-answer (at + n) (k a us)) (sym (drop-drop n at ts))
           ∙ sym (answer-shift at n (k a (drop n (drop at ts))))
-      part ts e at (refused n) i = next ts e one (Refused (at + n)) i
+      part ts e at (unfit-after n) i = next ts e one (Refused (at + n)) i
 
       on : (ts : List Token) → classes-of ts ≡ cs → (p : Parsed) → q ≡ answer-from p r ts → w ≡ answer-from p (and-then r k) ts
       on ts e (Next at) i = part ts e at (r (drop at ts)) i
@@ -142,13 +142,13 @@ module _ {A B : Type 0} {cs : List ℕ} {r : Reader A} {p q : Parsed} (h : Reads
     where
       part : (ts : List Token) (at : ℕ) (x : Parse A) → q ≡ parse-answer at x → q ≡ parse-answer at (continued x (drop at ts) λ a. give (f a))
       part ts at (read a n) i = i ∙ ap (λ n. Next (at + n)) (sym (add-zero n))
-      part ts at (refused n) i = i
+      part ts at (unfit-after n) i = i
 
       on : (ts : List Token) (p : Parsed) → q ≡ answer-from p r ts → q ≡ answer-from p (and-then r λ a. give (f a)) ts
       on ts (Next at) i = part ts at (r (drop at ts)) i
       on ts (Refused at) i = i
 
-module _ {A : Type 0} {cs : List ℕ} (c : ℕ) {k : Token → Reader A} {p q w : Parsed} where
+module _ {A : Type 0} {cs : List ℕ} (c : ℕ) {k : Token → Parser A} {p q w : Parsed} where
   pub expect-answers : Reads-as cs (expect c give) p q → ((t : Token) → Reads-as cs (k t) q w) → Reads-as cs (expect c k) p w
   unfolding expect expected continued and-then give shift
   expect-answers h f = instead p (λ us e. same us) (and-then-answers h some-token f)
@@ -197,19 +197,19 @@ module _ {cs : List ℕ} {p : Parsed} {c d : ℕ} (n : d ≡ first-class (classe
     pub seen-less : {q : Parsed} → Reads-as cs any-token p q → length (classes-from cs q) < length (classes-from cs p)
     seen-less h = taken-less p (class-some c (classes-from cs p) l (sym e ∙ n)) h
 
-    pub if-next-answers : {A : Type 0} {r : Reader A} (s : Reader A) {q : Parsed} → Reads-as cs r p q → Reads-as cs (if-next c r s) p q
+    pub if-next-answers : {A : Type 0} {r : Parser A} (s : Parser A) {q : Parsed} → Reads-as cs r p q → Reads-as cs (if-next c r s) p q
     if-next-answers {r = r} s h = instead p (λ us i. sym (if-next-first c r s us (comes c us l (sym e ∙ n ∙ sym (ap first-class i))))) h
 
     -- the two together
-    pub chosen-answers : {A : Type 0} {k : Token → Reader A} (s : Reader A) {q w : Parsed} → Reads-as cs any-token p q → ((t : Token) → Reads-as cs (k t) q w)
+    pub chosen-answers : {A : Type 0} {k : Token → Parser A} (s : Parser A) {q w : Parsed} → Reads-as cs any-token p q → ((t : Token) → Reads-as cs (k t) q w)
         → Reads-as cs (if-next c (expect c k) s) p w
     chosen-answers s h f = if-next-answers s (expect-answers c (seen-answers h) f)
 
-  pub if-not-answers : {A : Type 0} (r : Reader A) {s : Reader A} {q : Parsed} → (d ≡ c → ⊥) → Reads-as cs s p q → Reads-as cs (if-next c r s) p q
+  pub if-not-answers : {A : Type 0} (r : Parser A) {s : Parser A} {q : Parsed} → (d ≡ c → ⊥) → Reads-as cs s p q → Reads-as cs (if-next c r s) p q
   if-not-answers r {s} e h = instead p (λ us i. sym (if-next-second c r s us (lacks c us (λ f. e (n ∙ sym (ap first-class i) ∙ f))))) h
 
   -- another class is seen than the expected one
-  pub unfit-answers : {A : Type 0} (k : Token → Reader A) {q : Parsed} → (d ≡ c → ⊥) → q ≡ refused-at p → Reads-as cs (expect c k) p q
+  pub unfit-answers : {A : Type 0} (k : Token → Parser A) {q : Parsed} → (d ≡ c → ⊥) → q ≡ refused-at p → Reads-as cs (expect c k) p q
   unfolding halt next-is expect
   unfit-answers k e h = instead p (λ us i. same us (lacks c us (λ f. e (n ∙ sym (ap first-class i) ∙ f)))) (halt-answers p h)
     where
@@ -218,11 +218,11 @@ module _ {cs : List ℕ} {p : Parsed} {c d : ℕ} (n : d ≡ first-class (classe
       same (t ∷ ts) i = sym (expect-refuses c k t ts i)
 
 -- a loop after some turns: who answers the rest answers the loop; and, given a tree, there are no more tokens left than before them
-pub record Going {A : Type 0} (cs : List ℕ) (test : ℕ → Bool) (step : A → Token → Reader A) (p q : Parsed) : Type 0 where
+pub record Going {A : Type 0} (cs : List ℕ) (test : ℕ → Bool) (step : A → Token → Parser A) (p q : Parsed) : Type 0 where
   pub finish : (r : Parsed) → ((a : A) → Reads-as cs (loop test step a 0) q r) → (a : A) → Reads-as cs (loop test step a 0) p r
   pub no-more : A → length (classes-from cs q) ≤ length (classes-from cs p)
 
-module _ {A : Type 0} {cs : List ℕ} {test : ℕ → Bool} {step : A → Token → Reader A} {p : Parsed} where
+module _ {A : Type 0} {cs : List ℕ} {test : ℕ → Bool} {step : A → Token → Parser A} {p : Parsed} where
   pub begins : Going cs test step p p
   begins = record { finish = λ r f. f; no-more = λ a. omega arith }
 
@@ -250,7 +250,7 @@ module _ {A : Type 0} {cs : List ℕ} {test : ℕ → Bool} {step : A → Token 
 
 -- the two kinds of loops: their steps, and the whole
 module _ {A : Type 0} {cs : List ℕ} {p q : Parsed} where
-  module _ (join : Token → A → A → A) {item : Reader A} (h : Reads-as cs item p q) where
+  module _ (join : Token → A → A → A) {item : Parser A} (h : Reads-as cs item p q) where
     pub joined-answers : (a : A) (t : Token) → Reads-as cs (joined item join a t) p q
     unfolding joined
     joined-answers a t = and-give-answers h _
@@ -260,23 +260,23 @@ module _ {A : Type 0} {cs : List ℕ} {p q : Parsed} where
     unfolding chain
     chain-answers test one f = and-then-answers h one f
 
-  pub added-answers : {item : Token → Reader A} → ((t : Token) → Reads-as cs (item t) p q) → (before : List A) (t : Token)
+  pub added-answers : {item : Token → Parser A} → ((t : Token) → Reads-as cs (item t) p q) → (before : List A) (t : Token)
       → Reads-as cs (added item before t) p q
   unfolding added
   added-answers h before t = and-give-answers (h t) _
 
-  pub many-answers : (c : ℕ) (item : Token → Reader A) → ((a : List A) → Reads-as cs (loop (is-class c) (added item) a 0) p q)
+  pub many-answers : (c : ℕ) (item : Token → Parser A) → ((a : List A) → Reads-as cs (loop (is-class c) (added item) a 0) p q)
       → Reads-as cs (many c item) p q
   unfolding many is-class
   many-answers c item f = f []
 
 -- where a chain's loop takes a token, no more are left than the chain found
-pub chain-left : {A B : Type 0} {cs : List ℕ} {test : ℕ → Bool} {step : A → Token → Reader A} {r : Reader B} {p q u v : Parsed} → A
+pub chain-left : {A B : Type 0} {cs : List ℕ} {test : ℕ → Bool} {step : A → Token → Parser A} {r : Parser B} {p q u v : Parsed} → A
     → Reads-as cs r p q → Going cs test step q u → Reads-as cs any-token u v → length (classes-from cs v) ≤ length (classes-from cs p)
 chain-left one h g s = omega (arith, tokens-left h, g .no-more one, tokens-left s)
 
 -- a turn of a loop leaves fewer tokens
-pub turn-less : {A : Type 0} {cs : List ℕ} {r : Reader A} {u v : Parsed} (test : ℕ → Bool) (q : Parsed) {b : Bool}
+pub turn-less : {A : Type 0} {cs : List ℕ} {r : Parser A} {u v : Parsed} (test : ℕ → Bool) (q : Parsed) {b : Bool}
     → b ≡ first-passes test (classes-from cs q) → b ≡ true → Reads-as cs any-token q u → Reads-as cs r u v
     → length (classes-from cs v) < length (classes-from cs q)
 turn-less {cs = cs} test q n e h s = omega (arith, taken-less q (passes-some test (classes-from cs q) (sym n ∙ e)) h, tokens-left s)
@@ -296,7 +296,7 @@ module _ (cs : List ℕ) where
     unfolding classes-from
     refused-left = is-refused (λ p. classes-from cs p ≡ []) p k λ at. refl
 
-    pub refused-answers : {A : Type 0} {r : Reader A} → Reads-as cs r p p
+    pub refused-answers : {A : Type 0} {r : Parser A} → Reads-as cs r p p
     refused-answers {r = r} = is-refused (λ p. Reads-as cs r p p) p k λ at. kept at
 
   module _ {p : Parsed} {at : ℕ} (i : p ≡ Next at) where
@@ -308,12 +308,12 @@ module _ (cs : List ℕ) where
     unfolding classes-from
     some-left l = rw i (drop-cons cs at 0 l)
 
-    here : {A : Type 0} {r : Reader A} {w : Parsed} → ((us : List Token) → classes-of us ≡ classes-from cs p → w ≡ parse-answer at (r us))
+    here : {A : Type 0} {r : Parser A} {w : Parsed} → ((us : List Token) → classes-of us ≡ classes-from cs p → w ≡ parse-answer at (r us))
         → Reads-as cs r p w
     unfolding answer-from classes-from
     here f = record { told = λ ts e. f (drop at ts) (drop-classes at ts ∙ rw (i, e)) ∙ rw i }
 
-    pub none-answers : {A : Type 0} (r : Reader A) → r [] ≡ refused 0 → length cs ≤ at → Reads-as cs r p (Refused at)
+    pub none-answers : {A : Type 0} (r : Parser A) → r [] ≡ unfit-after 0 → length cs ≤ at → Reads-as cs r p (Refused at)
     unfolding parse-answer
     none-answers r e l = here λ us h. on us (h ∙ none-left l)
       where
@@ -323,7 +323,7 @@ module _ (cs : List ℕ) where
 
     module _ (l : at < length cs) where
       -- by the token that stands there
-      there : {A : Type 0} {r : Reader A} {w : Parsed}
+      there : {A : Type 0} {r : Parser A} {w : Parsed}
           → ((t : Token) (ts : List Token) → t .class ≡ getD cs at 0 → w ≡ parse-answer at (r (t ∷ ts))) → Reads-as cs r p w
       there {r = r} {w = w} f = here λ us h. on us (h ∙ some-left l)
         where

@@ -24,7 +24,7 @@ use Rattle.text.specs.Tokens.{
   COMMA,
 }
 use Rattle.text.specs.Syntax.{Expression, Target, Filter, Test, changed, equals, Condition, clause, Call, Rule}
-use Rattle.text.specs.Readers.{Reader, give, expect, if-next, and-then, joined, many}
+use Rattle.text.specs.Readers.{Parser, give, expect, if-next, and-then, joined, many}
 use Rattle.text.specs.Grammar.{
   name-of,
   expression-reader,
@@ -181,7 +181,7 @@ atom-closed-is zero z = refl
 atom-closed-is (suc left) z = absurd (omega arith)
 
 -- `(` condition `)`, whose atoms `inside` reads
-unfoldable round-reader : Reader Condition → Reader Condition
+unfoldable round-reader : Parser Condition → Parser Condition
 round-reader inside = expect ROUND-OPEN λ o. and-then (condition-of inside) λ c. expect ROUND-CLOSE λ t. give c
 
 atom-open-is : (left : ℕ) → (left ≡ 0 → ⊥) → atom-reader left ≡ if-next ROUND-OPEN (round-reader (atom-reader (left - 1))) (clause-reader left)

@@ -28,7 +28,7 @@ use Rattle.text.specs.Tokens.{
   BRACE-CLOSE,
 }
 use Rattle.text.specs.Syntax.{Name, Sort, attribute, event, action, Member, Interface, Entity}
-use Rattle.text.specs.Readers.{read, Reader, expect, many}
+use Rattle.text.specs.Readers.{read, Parser, expect, many}
 use Rattle.text.specs.Grammar.{
   name-of,
   kind-reader,
@@ -63,7 +63,7 @@ pub record First-at (ts : List Token) (p c o : ℕ) : Type 0 where
   pub offset : token .at ≡ o
 
 -- an item that its reader reads after its first token, and then its name
-pub record Item-at {A : Type 0} (ts : List Token) (p c : ℕ) (after : Token → Reader A) (a : A) (o : ℕ) (n : Name) : Type 0 where
+pub record Item-at {A : Type 0} (ts : List Token) (p c : ℕ) (after : Token → Parser A) (a : A) (o : ℕ) (n : Name) : Type 0 where
   pub starts : Starts ts p c after a
   pub offset : starts .token .at ≡ o
   pub name : Name-at ts (suc p) n
@@ -111,7 +111,7 @@ is-leading c = leb INTERFACE c && leb c WHEN || eqb c BRACE-CLOSE
 
 module _ {X : Type 0} {ts : List Token} {wanted : ℕ → Bool} {at : ℕ → X → Type 0} where
   -- an item's first token, and those of what it has inside
-  pub item-marks : {A : Type 0} {c : ℕ} {after : Token → Reader A} → wanted c ≡ true → (mark : A → X) (inside : A → List X) (has : Token → ℕ → A → Type 0)
+  pub item-marks : {A : Type 0} {c : ℕ} {after : Token → Parser A} → wanted c ≡ true → (mark : A → X) (inside : A → List X) (has : Token → ℕ → A → Type 0)
       → ((p : ℕ) (a : A) (s : Starts ts p c after a) → has (s .token) (suc p) a → at p (mark a))
       → ((t : Token) (q : ℕ) → Marks ts wanted at q (after t) (λ a xs. (xs ≡ inside a) × has t q a))
       → (p : ℕ) → Marks ts wanted at p (expect c after) (λ a xs. xs ≡ mark a ∷ inside a)

@@ -6,7 +6,7 @@ use mathlib.Core.Option.{some}
 use native.Mathlib.Omega.{arith}
 use lib.ListN.{length, getD, getElem?, drop}
 use Rattle.text.specs.Tokens.{Token}
-use Rattle.text.specs.Readers.{Parse, read, refused, Reader}
+use Rattle.text.specs.Readers.{Parse, read, unfit-after, Parser}
 use Rattle.text.specs.declared.grammar.Parsed.{Parsed}
 use Rattle.text.specs.declared.grammar.Parsed.the-variants.{Next, Refused}
 use Rattle.text.specs.ParseAnswers.{classes-of, parse-answer, answer-from, refused-at, Reads-as}
@@ -39,13 +39,13 @@ column-of (t ∷ ts) (c ∷ cs) n f =
 pub row-classes : {classes : List ℕ} (w : Rows classes) → classes-of (w .tokens) ≡ classes
 row-classes {classes} w = column-of (w .tokens) classes (w .count) (w .class)
 
-module _ {A : Type 0} {classes : List ℕ} {r : Reader A} {at next : ℕ} where
+module _ {A : Type 0} {classes : List ℕ} {r : Parser A} {at next : ℕ} where
   read-there : (w : Rows classes) → ((a : A) (n : ℕ) → r (drop at (w .tokens)) ≡ read a n → next ≡ at + n) → Means-at w (Read-there r at next w) r at tt next
   read-there w f = go (r (drop at (w .tokens))) refl
     where
       go : (p : Parse A) → r (drop at (w .tokens)) ≡ p → Means-at w (Read-there r at next w) r at tt next
       go (read a n) e = rw e (meant (λ i. record { used = n; reads = e; ends = f a n e }) (f a n e))
-      go (refused n) e = rw e vain
+      go (unfit-after n) e = rw e vain
 
   -- a walk that gives more
   pub walk-ends : {R : Type 0} {yields : Rows classes → A → R → Type 0} {v : R} → Walks (λ w. w) yields r at v next → Ends classes r at next

@@ -9,7 +9,7 @@ use lib.ListN.{length, getD, drop}
 use borrow.Author.Tests.{ne-eqb, ltb-true, ltb-false}
 use Rattle.text.specs.Tokens.{Token, NAME, WHOLE-NUMBER, REAL-NUMBER, TRUE, FALSE, REAL, ROUND-OPEN, ROUND-CLOSE, DOT, PLUS, MINUS, TIMES, DIVIDE}
 use Rattle.text.specs.Syntax.{truth, whole-number, real-number, Expression, literal, member, to-real, negate}
-use Rattle.text.specs.Readers.{refused, Reader, give, halt, expect, pick, next-is, if-next, and-then, joined}
+use Rattle.text.specs.Readers.{unfit-after, Parser, give, halt, expect, pick, next-is, if-next, and-then, joined}
 use Rattle.text.specs.Grammar.{
   name-of,
   number-reader,
@@ -46,7 +46,7 @@ use Rattle.text.proofs.WalkLaws.{
 
 -- ---- what begins with no opener
 
-leaf-nil : simple-or halt [] ≡ refused 0
+leaf-nil : simple-or halt [] ≡ unfit-after 0
 unfolding simple-or if-next pick next-is halt
 leaf-nil = refl
 
@@ -183,7 +183,7 @@ module _ {C R : Type 0} {classes : List ℕ} {rows : C → Rows classes} {yields
 
 -- ---- factors
 
-if-next-alike : {A : Type 0} (c : ℕ) (q r s : Reader A) (ts : List Token) → r ts ≡ s ts → if-next c q r ts ≡ if-next c q s ts
+if-next-alike : {A : Type 0} (c : ℕ) (q r s : Parser A) (ts : List Token) → r ts ≡ s ts → if-next c q r ts ≡ if-next c q s ts
 unfolding if-next pick
 if-next-alike {A} c q r s ts e = go (next-is c ts)
   where
@@ -192,7 +192,7 @@ if-next-alike {A} c q r s ts e = go (next-is c ts)
     go false = e
 
 -- what may begin with an opener, by the openers left
-unfoldable openers-left : ℕ → Reader Expression
+unfoldable openers-left : ℕ → Parser Expression
 openers-left zero = halt
 openers-left (suc left) = opener-reader (factor-reader left)
 
@@ -206,14 +206,14 @@ unfolding openers-left
 openers-are zero z = absurd (z refl)
 openers-are (suc left) z = let k : left ≡ suc left - 1 = omega arith in ap (λ n. opener-reader (factor-reader n)) k
 
-simple-same : (r s : Reader Expression) (ts : List Token) → r ts ≡ s ts → simple-or r ts ≡ simple-or s ts
+simple-same : (r s : Parser Expression) (ts : List Token) → r ts ≡ s ts → simple-or r ts ≡ simple-or s ts
 unfolding simple-or
 simple-same r s ts e =
     if-next-alike NAME _ _ _ ts (if-next-alike TRUE _ _ _ ts (if-next-alike FALSE _ _ _ ts
     (if-next-alike WHOLE-NUMBER _ _ _ ts (if-next-alike REAL-NUMBER _ r s ts e))))
 
-opener-other : {classes : List ℕ} (w : Rows classes) (inside : Reader Expression) (at : ℕ) → (getD classes at 0 ≡ REAL → ⊥)
-    → (getD classes at 0 ≡ ROUND-OPEN → ⊥) → (getD classes at 0 ≡ MINUS → ⊥) → opener-reader inside (drop at (w .tokens)) ≡ refused 0
+opener-other : {classes : List ℕ} (w : Rows classes) (inside : Parser Expression) (at : ℕ) → (getD classes at 0 ≡ REAL → ⊥)
+    → (getD classes at 0 ≡ ROUND-OPEN → ⊥) → (getD classes at 0 ≡ MINUS → ⊥) → opener-reader inside (drop at (w .tokens)) ≡ unfit-after 0
 unfolding opener-reader
 opener-other w inside at r o m =
     if-next-second REAL _ _ (drop at (w .tokens)) (next-is-other w REAL at r)

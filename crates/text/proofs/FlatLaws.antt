@@ -11,7 +11,7 @@ use lib.Seq.{take-length}
 use borrow.Author.Tests.{eqb-true, leb-true, le-leb}
 use Rattle.text.specs.Tokens.{Token, INTERFACE, ATTRIBUTE, EVENT, ACTION, ENTITY, RULES, WHEN, END, BRACE-CLOSE, COLON}
 use Rattle.text.specs.Syntax.{Sort, attribute, event, action, Name, Member, Interface, Entity, Clause, Condition, clause, both, either, Call, Rule, File}
-use Rattle.text.specs.Readers.{read, Reader, expect, and-then, many, give}
+use Rattle.text.specs.Readers.{read, Parser, expect, and-then, many, give}
 use Rattle.text.specs.Grammar.{interface-after, entity-after, rule-after, file-reader}
 use Rattle.text.proofs.LanguageLaws.{is}
 use Rattle.text.proofs.ListLaws.{flatMap-append, flatMap-none, flatMap-map-none, flatMap-flatMap, flatMap-self, some-injective}
@@ -82,20 +82,20 @@ pub record File-marks (ts : List Token) (f : File) (n : ℕ) : Type 0 where
   pub end : Class-at ts end-at END
   pub all : suc end-at ≡ n
 
-class-at : {A : Type 0} {ts : List Token} {p c : ℕ} {after : Token → Reader A} {a : A} → Starts ts p c after a → Class-at ts p c
+class-at : {A : Type 0} {ts : List Token} {p c : ℕ} {after : Token → Parser A} {a : A} → Starts ts p c after a → Class-at ts p c
 class-at s = record { token = s .token; stands = s .stands; class = s .class }
 
 -- the file's reader after its interfaces, its entities, `rules`, its rules
-abbrev rules-end : List Interface → List Entity → List Rule → Reader File
+abbrev rules-end : List Interface → List Entity → List Rule → Parser File
 rules-end is es rs = expect END λ u. give (record { interfaces = is; entities = es; rules = rs })
 
-abbrev after-rules : List Interface → List Entity → Token → Reader File
+abbrev after-rules : List Interface → List Entity → Token → Parser File
 after-rules is es t = and-then (many WHEN rule-after) (rules-end is es)
 
-abbrev after-entities : List Interface → List Entity → Reader File
+abbrev after-entities : List Interface → List Entity → Parser File
 after-entities is es = expect RULES (after-rules is es)
 
-abbrev after-interfaces : List Interface → Reader File
+abbrev after-interfaces : List Interface → Parser File
 after-interfaces is = and-then (many ENTITY entity-after) (after-entities is)
 
 module _ (ts : List Token) (f : File) (n : ℕ) where

@@ -34,7 +34,7 @@ use Rattle.text.specs.Tokens.{
   MINUS,
 }
 use Rattle.text.specs.Syntax.{Sort, attribute, event, Literal, Condition, Expression, literal, whole-number, real-number}
-use Rattle.text.specs.Readers.{read, Reader, shift, give, halt, expected, expect, pick, next-is, if-next, and-then}
+use Rattle.text.specs.Readers.{read, Parser, shift, give, halt, expected, expect, pick, next-is, if-next, and-then}
 use Rattle.text.specs.Grammar.{
   kind-reader,
   member-after,
@@ -217,7 +217,7 @@ term-goes-on = is-factor-operator ∪ ∅
 abbrev pub expression-goes-on : ℕ → Bool
 expression-goes-on = is-term-operator ∪ term-goes-on
 
-module _ {factor : Reader Expression} {F : Language} (q : Parses factor F ∅) where
+module _ {factor : Parser Expression} {F : Language} (q : Parses factor F ∅) where
   pub term-of-parses : Parses (term-of factor) (Term-over F) term-goes-on
   unfolding term-of Term-over is-factor-operator
   term-of-parses = chain-parses apply-at (leads-either leads-only leads-only) (search look-ahead) q
@@ -268,14 +268,14 @@ simple-begins = is NAME ∪ is TRUE ∪ is FALSE ∪ is WHOLE-NUMBER ∪ is REAL
 
 -- a number without sign, where its class has been seen
 module _ (c : ℕ) (make : ℕ → Literal) (seen : (t : Token) (ts : List Token) → t .class ≡ c → number-reader false (t ∷ ts) ≡ read (make (t .value)) 1)
-    (otherwise : Reader Expression) where
+    (otherwise : Parser Expression) where
   number-seen : (ts : List Token) → if-next c (expect c λ t. give (literal (make (t .value)))) otherwise ts
       ≡ if-next c (and-then (number-reader false) λ l. give (literal l)) otherwise ts
   unfolding give shift
   number-seen = if-next-same c _ _ otherwise (λ t ts e.
       expect-takes c _ t ts e ∙ sym (and-give-reads (number-reader false) literal (make (t .value)) 1 (t ∷ ts) (seen t ts e)))
 
-module _ (otherwise : Reader Expression) {O : Language} (o : (c : ℕ) → simple-begins c ≡ true → Avoids (is c) O)
+module _ (otherwise : Parser Expression) {O : Language} (o : (c : ℕ) → simple-begins c ≡ true → Avoids (is c) O)
     (q : Parses (if-next REAL-NUMBER (expect REAL-NUMBER λ t. give (literal (real-number false (t .value)))) otherwise) (Only REAL-NUMBER or O) ∅) where
   simple-or-parses : Parses (simple-or otherwise) (Simple-language or O) ∅
   unfolding simple-begins simple-or number-reader if-next next-is pick expect expected shift give
@@ -289,7 +289,7 @@ module _ (otherwise : Reader Expression) {O : Language} (o : (c : ℕ) → simpl
       (parses-same (number-seen REAL-NUMBER (real-number false) (λ t ts e. rw e) _)
       q))))))
 
-module _ {inside : Reader Expression} {F : Language} (q : Parses inside F ∅) where
+module _ {inside : Parser Expression} {F : Language} (q : Parses inside F ∅) where
   pub opener-parses : Parses (opener-reader inside)
       (Only REAL ⨾ Only ROUND-OPEN ⨾ Expression-over F ⨾ Only ROUND-CLOSE or Only ROUND-OPEN ⨾ Expression-over F ⨾ Only ROUND-CLOSE or Only MINUS ⨾ F) ∅
   unfolding opener-reader is-term-operator is-factor-operator
@@ -371,7 +371,7 @@ conjunction-goes-on = is-and ∪ expression-goes-on
 abbrev pub condition-goes-on : ℕ → Bool
 condition-goes-on = is-or ∪ conjunction-goes-on
 
-module _ {atom : Reader Condition} {A : Language} (q : Parses atom A expression-goes-on) where
+module _ {atom : Parser Condition} {A : Language} (q : Parses atom A expression-goes-on) where
   pub conjunction-of-parses : Parses (conjunction-of atom) (Conjunction-over A) conjunction-goes-on
   unfolding conjunction-of Conjunction-over is-and is-term-operator is-factor-operator
   conjunction-of-parses = chain-parses both-at leads-only (search look-ahead) q

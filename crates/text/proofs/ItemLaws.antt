@@ -11,7 +11,7 @@ use lib.Seq.{length-take-le}
 use borrow.Author.Tests.{eq-eqb, ne-eqb, eqb-true, eqb-false, le-leb, lt-leb, leb-true, leb-false}
 use Rattle.text.specs.declared.Item.the-variants.{Found, Bad}
 use Rattle.text.specs.Bytes.{is-letter, is-digit, is-name-byte, is-blank, is-comment-byte, run}
-use Rattle.text.specs.Tokens.{Item, gap, found, bad, item, name-item, number-item, number-token, mark-item, digits-value, class-in, reserved, marks}
+use Rattle.text.specs.Tokens.{Lexeme, gap, found, bad, item, name-item, number-item, number-token, mark-item, digits-value, class-in, reserved, marks}
 use Rattle.text.specs.Tokens.{NAME, WHOLE-NUMBER, REAL-NUMBER}
 use Rattle.text.specs.TokenTable.{part, located}
 use Rattle.text.proofs.RunLaws.{byte-at, run-within}
@@ -144,7 +144,7 @@ mark-none b at c e n = go (class-in marks (b ∷ [])) e (mark-bounds (b ∷ []))
 -- ---- how far an item reaches
 
 -- an item before n bytes stays within them; a token has 24 bytes at most, a class up to 35 and a value up to 2147483647
-abbrev pub Reaches : ℕ → Item → Type 0
+abbrev pub Reaches : ℕ → Lexeme → Type 0
 Reaches n (gap more) = more ≤ n
 Reaches n (found c v more) = (more ≤ n) × (more < 24) × (c ≤ 35) × (v ≤ 2147483647)
 Reaches n bad = Unit {0}

@@ -15,7 +15,7 @@ use Rattle.text.specs.Tokens.{
   INTERFACE,
   ENTITY,
   WHEN,
-  Item,
+  Lexeme,
   gap,
   found,
   bad,
@@ -37,7 +37,7 @@ use Rattle.text.specs.Tokens.{
   tokens-of,
 }
 use Rattle.text.specs.Syntax.{Literal, truth, whole-number, real-number, Assignment, Entity, File}
-use Rattle.text.specs.Readers.{Parse, read, refused, many}
+use Rattle.text.specs.Readers.{Parse, read, unfit-after, many}
 use Rattle.text.specs.Grammar.{interface-after, number-reader, literal-reader, assignment-after, entity-after, rule-after, file-reader}
 use Rattle.text.specs.Parse.{grammatical, ended, parsed, parse}
 use Rattle.text.proofs.ListLaws.{All, all-none, all-cons}
@@ -60,7 +60,7 @@ Small-assignments e = All (λ (a : Assignment). Small-literal (a .literal)) (e .
 
 -- ---- the tokens of a text
 
-abbrev Small : Item → Type 0
+abbrev Small : Lexeme → Type 0
 Small (gap more) = Unit {0}
 Small (found c v more) = v ≤ MOST-NUMBER
 Small bad = Unit {0}
@@ -134,7 +134,7 @@ tokens-small skip at [] = all-none Small-token
 tokens-small (suc skip) at (b ∷ bs) = tokens-small skip (at + 1) bs
 tokens-small zero at (b ∷ bs) = go (item b bs) (item-small b bs) (λ more. tokens-small more (at + 1) bs)
   where
-    go : (i : Item) → Small i → ((more : ℕ) → Small-tokens (tokens-from more (at + 1) bs))
+    go : (i : Lexeme) → Small i → ((more : ℕ) → Small-tokens (tokens-from more (at + 1) bs))
         → Small-tokens (taken i at b bs (λ more. tokens-from more (at + 1) bs))
     go (gap more) s k = k more
     go (found c v more) s k = add-small (record { class = c; at = at; bytes = b ∷ take more bs; value = v }) (tokens-from more (at + 1) bs) s (k more)
@@ -198,5 +198,5 @@ parsed-small text end ts f l h = go (file-reader ts) refl h
     last g (t ∷ ts) h = cc
 
     go : (p : Parse File) → file-reader ts ≡ p → parsed end ts p ≡ grammatical f → All Small-assignments (f .entities)
-    go (refused n) e h = let z : _≡_ {A = ℕ} 0 1 = cc in absurd (omega arith)
+    go (unfit-after n) e h = let z : _≡_ {A = ℕ} 0 1 = cc in absurd (omega arith)
     go (read g n) e h = rw (last g (drop n ts) h) at (file-small .makes ts (text-small text ts l) g n e)

@@ -7,7 +7,7 @@ use lib.ListN.{length, drop, length-append}
 use lib.Seq.{drop-length}
 use Rattle.text.specs.Tokens.{Token}
 use Rattle.text.specs.Syntax.{File}
-use Rattle.text.specs.Readers.{Parse, read, refused}
+use Rattle.text.specs.Readers.{Parse, read, unfit-after}
 use Rattle.text.specs.Grammar.{file-reader}
 use Rattle.text.specs.Parse.{grammatical, ungrammatical-at, offset-of, ended, parsed, parse}
 use Rattle.text.specs.Language.{File-language, Grammatical}
@@ -29,7 +29,7 @@ whole ts w =
     (u .tree, ap file-reader (sym (append-nil ts)) ∙ u .reads)
 
 -- so what is refused, or not read whole, is not grammatical
-refused-word : (n : ℕ) (ts : List Token) → file-reader ts ≡ refused n → Grammatical ts → ⊥
+refused-word : (n : ℕ) (ts : List Token) → file-reader ts ≡ unfit-after n → Grammatical ts → ⊥
 refused-word n ts e w =
     let r = whole ts w .1 in
     let z : _≡_ {A = ℕ} 0 1 = cc in absurd (omega arith)
@@ -63,12 +63,12 @@ unfolding parse parsed Fits count
 accepted end ts f e = go (file-reader ts) (file-parses .trace ts) e
   where
     go : (p : Parse File) → Trace file-reader File-language ts p → parsed end ts p ≡ grammatical f → Grammatical ts
-    go (refused n) t e = let z : _≡_ {A = ℕ} 0 1 = cc in absurd (omega arith)
+    go (unfit-after n) t e = let z : _≡_ {A = ℕ} 0 1 = cc in absurd (omega arith)
     go (read g n) t e = subst Grammatical (all-read t (ended-accepts end f g (drop n ts) e)) (words (t .front) (t .fits))
 
 -- a refused token, or the first that is left over after a whole file, is the first unfit one
 module _ (end at : ℕ) (ts : List Token) where
-  at-refused : (n : ℕ) → offset-of end (drop n ts) ≡ at → Trace file-reader File-language ts (refused n) → First-unfit end ts at
+  at-refused : (n : ℕ) → offset-of end (drop n ts) ≡ at → Trace file-reader File-language ts (unfit-after n) → First-unfit end ts at
   unfolding Fits count
   at-refused n e t = record {
     front = t .front;
@@ -103,5 +103,5 @@ unfolding parse parsed
 refuses end ts at e = go (file-reader ts) (file-parses .trace ts) e
   where
     go : (p : Parse File) → Trace file-reader File-language ts p → parsed end ts p ≡ ungrammatical-at at → First-unfit end ts at
-    go (refused n) t e = at-refused end at ts n (cc) t
+    go (unfit-after n) t e = at-refused end at ts n (cc) t
     go (read f n) t e = at-left-over end at ts f n e t

@@ -9,8 +9,8 @@ use borrow.Author.Tests.{eqb-true, not-false}
 use Rattle.text.specs.Tokens.{Token}
 use Rattle.text.specs.Readers.{
   read,
-  refused,
-  Reader,
+  unfit-after,
+  Parser,
   shift,
   give,
   expected,
@@ -83,13 +83,13 @@ use Rattle.text.proofs.TraceLaws.{
 
 module _ {A : Type 0} where
   -- a reader parses a language; the set p has the classes with which a word may go on: where none of them comes next, the reader takes a word whole
-  pub record Parses (r : Reader A) (L : Language) (p : ℕ → Bool) : Type 0 where
+  pub record Parses (r : Parser A) (L : Language) (p : ℕ → Bool) : Type 0 where
     pub word : List ℕ
     pub spells : L word
     pub trace : (ts : List Token) → Trace r L ts (r ts)
     pub complete : (xs rest : List Token) → L (classes xs) → Clear p (classes rest) → Reads r xs rest
 
-  module _ {r : Reader A} {L : Language} {p : ℕ → Bool} where
+  module _ {r : Parser A} {L : Language} {p : ℕ → Bool} where
     pub parses-bounded : Parses r L p → Bounded r
     parses-bounded q = record { bound = λ ts. trace-bound (q .trace ts) }
 
@@ -114,7 +114,7 @@ module _ {A : Type 0} where
       complete = λ xs rest w h. q .complete xs rest w (k .clears (classes rest) h);
     }
 
-    pub parses-same : {s : Reader A} → ((ts : List Token) → r ts ≡ s ts) → Parses r L p → Parses s L p
+    pub parses-same : {s : Parser A} → ((ts : List Token) → r ts ≡ s ts) → Parses r L p → Parses s L p
     parses-same e q = subst (λ x. Parses x L p) (fun-ext e) q
 
   give-reads : (a : A) (xs rest : List Token) → Empty (classes xs) → Reads (give a) xs rest
@@ -130,7 +130,7 @@ module _ {A : Type 0} where
     complete = λ xs rest w h. give-reads a xs rest w;
   }
 
-module _ {A B : Type 0} {r : Reader A} {k : A → Reader B} {L M : Language} {p q : ℕ → Bool} where
+module _ {A B : Type 0} {r : Parser A} {k : A → Parser B} {L M : Language} {p q : ℕ → Bool} where
   pub and-then-parses : Parses r L p → Follows p q M → ((a : A) → Parses (k a) M q) → Parses (and-then r k) (L ⨾ M) q
   and-then-parses f h g =
       let s = g (some-tree f) in
@@ -149,7 +149,7 @@ module _ {A B : Type 0} {r : Reader A} {k : A → Reader B} {L M : Language} {p 
           subst (λ x. Reads (and-then r k) x rest) (w .joins) (reads-then r k (w .front) (w .back) rest u v)
 
 module _ {A B : Type 0} where
-  pub and-then-last : {r : Reader A} {L : Language} {p : ℕ → Bool} (f : A → B) → Parses r L p → Parses (and-then r (λ a. give (f a))) L p
+  pub and-then-last : {r : Parser A} {L : Language} {p : ℕ → Bool} (f : A → B) → Parses r L p → Parses (and-then r (λ a. give (f a))) L p
   and-then-last f q = parses-in drop-empty add-empty (and-then-parses q (follows-empty among-self) λ a. give-parses (f a))
 
 -- one token of class c
@@ -161,7 +161,7 @@ token-trace c (t ∷ ts) = go (eqb (t .class) c) refl
     go : (b : Bool) → eqb (t .class) c ≡ b → Trace (expect c give) (Only c) (t ∷ ts) (expect c give (t ∷ ts))
     go true e = trace-in drop-empty (cons-trace (Only c) t ts (leads-only .spells (t .class) e)
         (λ others. expect-takes c give t others (eqb-true (t .class) c e)) (give-parses {p = is c} t .trace ts))
-    go false e = stop-trace t ts (refused 0) refl (c ∷ [], only) (λ others. expect-refuses c give t others e)
+    go false e = stop-trace t ts (unfit-after 0) refl (c ∷ [], only) (λ others. expect-refuses c give t others e)
 
 token-reads : (c : ℕ) (xs rest : List Token) → Single (is c) xs → Reads (expect c give) xs rest
 unfolding give shift
@@ -177,7 +177,7 @@ token-parses c = record {
 }
 
 module _ {A : Type 0} where
-  token-then : (c : ℕ) (k : Token → Reader A) (ts : List Token) → and-then (expect c give) k ts ≡ expect c k ts
+  token-then : (c : ℕ) (k : Token → Parser A) (ts : List Token) → and-then (expect c give) k ts ≡ expect c k ts
   unfolding and-then continued expect expected shift give
   token-then c k [] = refl
   token-then c k (t ∷ ts) = go (eqb (t .class) c)
@@ -186,7 +186,7 @@ module _ {A : Type 0} where
       go true = refl
       go false = refl
 
-  pub expect-parses : {c : ℕ} {k : Token → Reader A} {L : Language} {p : ℕ → Bool} → ((t : Token) → Parses (k t) L p) → Parses (expect c k) (Only c ⨾ L) p
+  pub expect-parses : {c : ℕ} {k : Token → Parser A} {L : Language} {p : ℕ → Bool} → ((t : Token) → Parses (k t) L p) → Parses (expect c k) (Only c ⨾ L) p
   expect-parses {c} {k} q = parses-same (token-then c k) (and-then-parses (token-parses c) follows-∅ q)
 
   pub expect-last : {c : ℕ} {p : ℕ → Bool} (f : Token → A) → Parses (expect c (λ t. give (f t))) (Only c) p
@@ -202,7 +202,7 @@ unfolding next-is Clear
 next-is-other c [] h = refl
 next-is-other c (t ∷ ts) h = h
 
-module _ {A : Type 0} (c : ℕ) {r s : Reader A} {L M : Language} {p : ℕ → Bool} where
+module _ {A : Type 0} (c : ℕ) {r s : Parser A} {L M : Language} {p : ℕ → Bool} where
   -- a choice: the words of the one begin with c, and those of the other do not
   pub if-next-parses : Avoids (is-not c) L → Follows (is c) p M → Parses r L p → Parses s M p → Parses (if-next c r s) (L or M) p
   if-next-parses a h f g = record {
@@ -226,7 +226,7 @@ module _ {A : Type 0} (c : ℕ) {r s : Reader A} {L M : Language} {p : ℕ → B
           let begins : Clear (is c) (classes (xs ++ rest)) = rw map-append (h .clears w (classes rest) k) in
           record { tree = u .tree; reads = if-next-second c r s (xs ++ rest) (next-is-other c (xs ++ rest) begins) ∙ u .reads }
 
-module _ {A : Type 0} (c : ℕ) {r : Reader A} {L : Language} {p : ℕ → Bool} where
+module _ {A : Type 0} (c : ℕ) {r : Parser A} {L : Language} {p : ℕ → Bool} where
   pub maybe-parses : (a : A) → Avoids (is-not c) L → Among (is c) p → Parses r L p → Parses (if-next c r (give a)) (Maybe L) p
   maybe-parses a o k q = parses-in to-maybe from-maybe (if-next-parses c o (follows-empty k) q (give-parses a))
 
@@ -238,7 +238,7 @@ drops Q z s [] (suc k) = z
 drops Q z s (t ∷ ts) zero = s t ts (drops Q z s ts)
 drops Q z s (t ∷ ts) (suc k) = drops Q z s ts k
 
-module _ {A : Type 0} {test : ℕ → Bool} {step : A → Token → Reader A} {O L : Language} {p : ℕ → Bool}
+module _ {A : Type 0} {test : ℕ → Bool} {step : A → Token → Parser A} {O L : Language} {p : ℕ → Bool}
     (leads : Leads test O) (q : (a : A) (t : Token) → Parses (step a t) L p) (o : Avoids p O) where
   loop-trace : (ts : List Token) (a : A) → Trace (loop test step a 0) (Many (O ⨾ L)) ts (loop test step a 0 ts)
   unfolding count Fits
@@ -291,14 +291,14 @@ module _ {A : Type 0} {test : ℕ → Bool} {step : A → Token → Reader A} {O
     complete = λ xs rest w h. loop-reads w a xs rest refl h;
   }
 
-module _ {A : Type 0} {test : ℕ → Bool} {item : Reader A} {O L : Language} {p : ℕ → Bool} where
+module _ {A : Type 0} {test : ℕ → Bool} {item : Parser A} {O L : Language} {p : ℕ → Bool} where
   pub chain-parses : (join : Token → A → A → A) → Leads test O → Avoids p O → Parses item L p
       → Parses (chain test join item) (L ⨾ Many (O ⨾ L)) (test ∪ p)
   unfolding chain joined
   chain-parses join leads o q =
       and-then-parses q (follows-many (avoids-then o) (among-right test p)) (loop-parses leads (λ a t. and-then-last (join t a) q) o)
 
-module _ {A : Type 0} (c : ℕ) {item : Token → Reader A} {L : Language} {p : ℕ → Bool} where
+module _ {A : Type 0} (c : ℕ) {item : Token → Parser A} {L : Language} {p : ℕ → Bool} where
   pub many-parses : p c ≡ false → ((t : Token) → Parses (item t) L p) → Parses (many c item) (Many (Only c ⨾ L)) (is c ∪ p)
   unfolding many added
   many-parses e q = loop-parses leads-only (λ before t. and-then-last (λ a. before ++ a ∷ []) (q t)) (avoids-only e) []

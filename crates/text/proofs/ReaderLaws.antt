@@ -12,8 +12,8 @@ use Rattle.text.specs.Tokens.{Token}
 use Rattle.text.specs.Readers.{
   Parse,
   read,
-  refused,
-  Reader,
+  unfit-after,
+  Parser,
   shift,
   give,
   halt,
@@ -33,45 +33,45 @@ module _ {A : Type 0} where
   -- how many tokens are taken, or stand before the one that fits nothing
   unfoldable pub count : Parse A → ℕ
   count (read a n) = n
-  count (refused n) = n
+  count (unfit-after n) = n
 
   -- no more tokens than there are
-  pub record Bounded (r : Reader A) : Type 0 where
+  pub record Bounded (r : Parser A) : Type 0 where
     pub bound : (ts : List Token) → count (r ts) ≤ length ts
 
   pub count-shift : (n : ℕ) (p : Parse A) → count (shift n p) ≡ n + count p
   unfolding count shift
   count-shift n (read a k) = refl
-  count-shift n (refused k) = refl
+  count-shift n (unfit-after k) = refl
 
   pub shift-zero : (p : Parse A) → shift 0 p ≡ p
   unfolding shift
   shift-zero (read a n) = rw zero-add
-  shift-zero (refused n) = rw zero-add
+  shift-zero (unfit-after n) = rw zero-add
 
   pub shift-shift : (m n : ℕ) (p : Parse A) → shift m (shift n p) ≡ shift (m + n) p
   unfolding shift
   shift-shift m n (read a k) = let e : m + (n + k) ≡ m + n + k = omega arith in rw e
-  shift-shift m n (refused k) = let e : m + (n + k) ≡ m + n + k = omega arith in rw e
+  shift-shift m n (unfit-after k) = let e : m + (n + k) ≡ m + n + k = omega arith in rw e
 
-  pub expect-takes : (c : ℕ) (k : Token → Reader A) (t : Token) (ts : List Token) → t .class ≡ c → expect c k (t ∷ ts) ≡ shift 1 (k t ts)
+  pub expect-takes : (c : ℕ) (k : Token → Parser A) (t : Token) (ts : List Token) → t .class ≡ c → expect c k (t ∷ ts) ≡ shift 1 (k t ts)
   unfolding expect expected
   expect-takes c k t ts e = rw (eq-eqb (t .class) c e)
 
-  pub expect-refuses : (c : ℕ) (k : Token → Reader A) (t : Token) (ts : List Token) → eqb (t .class) c ≡ false → expect c k (t ∷ ts) ≡ refused 0
+  pub expect-refuses : (c : ℕ) (k : Token → Parser A) (t : Token) (ts : List Token) → eqb (t .class) c ≡ false → expect c k (t ∷ ts) ≡ unfit-after 0
   unfolding expect expected
   expect-refuses c k t ts e = rw e
 
-  pub if-next-first : (c : ℕ) (r s : Reader A) (ts : List Token) → next-is c ts ≡ true → if-next c r s ts ≡ r ts
+  pub if-next-first : (c : ℕ) (r s : Parser A) (ts : List Token) → next-is c ts ≡ true → if-next c r s ts ≡ r ts
   unfolding if-next pick
   if-next-first c r s ts e = rw e
 
-  pub if-next-second : (c : ℕ) (r s : Reader A) (ts : List Token) → next-is c ts ≡ false → if-next c r s ts ≡ s ts
+  pub if-next-second : (c : ℕ) (r s : Parser A) (ts : List Token) → next-is c ts ≡ false → if-next c r s ts ≡ s ts
   unfolding if-next pick
   if-next-second c r s ts e = rw e
 
   -- a token that is expected anyway is no choice
-  pub if-next-or-halt : (c : ℕ) (k : Token → Reader A) (ts : List Token) → if-next c (expect c k) halt ts ≡ expect c k ts
+  pub if-next-or-halt : (c : ℕ) (k : Token → Parser A) (ts : List Token) → if-next c (expect c k) halt ts ≡ expect c k ts
   unfolding next-is halt expect
   if-next-or-halt c k [] = if-next-second c (expect c k) halt [] refl
   if-next-or-halt c k (t ∷ ts) = go (eqb (t .class) c) refl
@@ -81,7 +81,7 @@ module _ {A : Type 0} where
       go false e = if-next-second c (expect c k) halt (t ∷ ts) e ∙ sym (expect-refuses c k t ts e)
 
   -- the first choice is only taken where its token comes
-  pub if-next-same : (c : ℕ) (r s q : Reader A) → ((t : Token) (ts : List Token) → t .class ≡ c → r (t ∷ ts) ≡ s (t ∷ ts))
+  pub if-next-same : (c : ℕ) (r s q : Parser A) → ((t : Token) (ts : List Token) → t .class ≡ c → r (t ∷ ts) ≡ s (t ∷ ts))
       → (ts : List Token) → if-next c r q ts ≡ if-next c s q ts
   unfolding if-next next-is pick
   if-next-same c r s q e [] = refl
@@ -91,12 +91,12 @@ module _ {A : Type 0} where
       go true h = e t ts (eqb-true (t .class) c h)
       go false h = refl
 
-module _ {A B : Type 0} (r : Reader A) where
-  pub and-then-reads : (k : A → Reader B) (a : A) (n : ℕ) (ts : List Token) → r ts ≡ read a n → and-then r k ts ≡ shift n (k a (drop n ts))
+module _ {A B : Type 0} (r : Parser A) where
+  pub and-then-reads : (k : A → Parser B) (a : A) (n : ℕ) (ts : List Token) → r ts ≡ read a n → and-then r k ts ≡ shift n (k a (drop n ts))
   unfolding and-then continued
   and-then-reads k a n ts e = ap (λ p. continued p ts k) e
 
-  pub and-then-refuses : (k : A → Reader B) (n : ℕ) (ts : List Token) → r ts ≡ refused n → and-then r k ts ≡ refused n
+  pub and-then-refuses : (k : A → Parser B) (n : ℕ) (ts : List Token) → r ts ≡ unfit-after n → and-then r k ts ≡ unfit-after n
   unfolding and-then continued
   and-then-refuses k n ts e = ap (λ p. continued p ts k) e
 
@@ -105,7 +105,7 @@ module _ {A B : Type 0} (r : Reader A) where
   unfolding give shift
   and-give-reads f a n ts e = and-then-reads (λ x. give (f x)) a n ts e ∙ ap (read (f a)) (add-zero n)
 
-module _ {A : Type 0} (test : ℕ → Bool) (step : A → Token → Reader A) where
+module _ {A : Type 0} (test : ℕ → Bool) (step : A → Token → Parser A) where
   -- the tokens that still belong to the last step are passed over
   pub loop-skips : (a : A) (k : ℕ) (ts : List Token) → loop test step a k ts ≡ shift k (loop test step a 0 (drop k ts))
   unfolding loop shift
@@ -128,7 +128,7 @@ module _ {A : Type 0} (test : ℕ → Bool) (step : A → Token → Reader A) wh
   step-then-loop : (p : Parse A) (ts : List Token) → stepped p (λ b n. loop test step b n ts) ≡ shift 1 (continued p ts (λ b. loop test step b 0))
   unfolding stepped continued shift
   step-then-loop (read b n) ts = ap (shift 1) (loop-skips b n ts)
-  step-then-loop (refused n) ts = let e : suc n ≡ 1 + n = omega arith in rw e
+  step-then-loop (unfit-after n) ts = let e : suc n ≡ 1 + n = omega arith in rw e
 
   -- the next token passes: a step, and then the loop again
   pub loop-turns : (a : A) (t : Token) (ts : List Token) → test (t .class) ≡ true
@@ -141,7 +141,7 @@ module _ {A : Type 0} (test : ℕ → Bool) (step : A → Token → Reader A) wh
       → loop test step a 0 (t ∷ ts) ≡ shift 1 (shift n (loop test step b 0 (drop n ts)))
   loop-goes-on a b n t ts e s = loop-turns a t ts e ∙ ap (shift 1) (and-then-reads (step a t) (λ x. loop test step x 0) b n ts s)
 
-  pub loop-refuses : (a : A) (n : ℕ) (t : Token) (ts : List Token) → test (t .class) ≡ true → step a t ts ≡ refused n
-      → loop test step a 0 (t ∷ ts) ≡ refused (suc n)
+  pub loop-refuses : (a : A) (n : ℕ) (t : Token) (ts : List Token) → test (t .class) ≡ true → step a t ts ≡ unfit-after n
+      → loop test step a 0 (t ∷ ts) ≡ unfit-after (suc n)
   unfolding loop turned stepped
   loop-refuses a n t ts e s = rw (e, s)

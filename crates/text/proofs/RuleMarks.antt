@@ -31,7 +31,7 @@ use Rattle.text.specs.Tokens.{
   DIVIDE,
 }
 use Rattle.text.specs.Syntax.{Name, Expression, Target, Clause, Condition, clause, both, either, Call, Rule}
-use Rattle.text.specs.Readers.{Reader, expect, many}
+use Rattle.text.specs.Readers.{Parser, expect, many}
 use Rattle.text.specs.Grammar.{
   name-of,
   apply-at,
@@ -139,19 +139,19 @@ one-of-two f a b c p q h = go (eqb c a) refl (eqb c b) refl h
 
 module _ (ts : List Token) where
   -- no wanted token
-  abbrev Plain : {A : Type 0} → Reader A → Type 0
+  abbrev Plain : {A : Type 0} → Parser A → Type 0
   Plain r = (p : ℕ) → Marks ts is-ruling (Ruled-at ts) p r (λ a xs. xs ≡ [])
 
-  term-plain : (r : Reader Expression) → Plain r → Plain (term-of r)
+  term-plain : (r : Parser Expression) → Plain r → Plain (term-of r)
   unfolding term-of is-factor-operator
   term-plain r f p = chain-marks is-factor-operator apply-at (λ e. []) (λ c. one-of-two is-ruling TIMES DIVIDE c refl refl) (λ t a b. refl) f
 
-  expression-of-plain : (r : Reader Expression) → Plain r → Plain (expression-of r)
+  expression-of-plain : (r : Parser Expression) → Plain r → Plain (expression-of r)
   unfolding expression-of is-term-operator
   expression-of-plain r f p =
       chain-marks is-term-operator apply-at (λ e. []) (λ c. one-of-two is-ruling PLUS MINUS c refl refl) (λ t a b. refl) (term-plain r f)
 
-  simple-plain : (r : Reader Expression) → Plain r → Plain (simple-or r)
+  simple-plain : (r : Parser Expression) → Plain r → Plain (simple-or r)
   unfolding simple-or member-reader
   simple-plain r f p =
       if-next-marks NAME (expect-skip refl λ n sn cn. expect-skip refl λ t s c. expect-skip refl λ m sm cm. give-marks _ refl)
@@ -161,7 +161,7 @@ module _ (ts : List Token) where
       (if-next-marks REAL-NUMBER (and-then-plain (number-plain refl refl false) λ l q. give-marks _ refl)
       (f p)))))
 
-  opener-plain : (r : Reader Expression) → Plain r → Plain (opener-reader r)
+  opener-plain : (r : Parser Expression) → Plain r → Plain (opener-reader r)
   unfolding opener-reader
   opener-plain r f p =
       if-next-marks REAL
@@ -241,7 +241,7 @@ module _ (ts : List Token) where
       let c : Clause = record { at = t .at; event = name-of n; target = g; filter = f; test = x } in
       (clause-mark c, record { token = t; stands = st; class = ct; offset = refl }, ap (λ l. clause-mark c ∷ l) (append-nil xs ∙ h))
 
-  condition-of-read : (r : Reader Condition) → ((p : ℕ) → Marks ts is-ruling (Ruled-at ts) p r (λ c xs. xs ≡ condition-marks c))
+  condition-of-read : (r : Parser Condition) → ((p : ℕ) → Marks ts is-ruling (Ruled-at ts) p r (λ c xs. xs ≡ condition-marks c))
       → (p : ℕ) → Marks ts is-ruling (Ruled-at ts) p (condition-of r) (λ c xs. xs ≡ condition-marks c)
   unfolding condition-of conjunction-of condition-marks is-and is-or both-at either-at
   condition-of-read r f p =

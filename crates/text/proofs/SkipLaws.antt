@@ -6,8 +6,8 @@ use mathlib.Core.Bool.{Bool, true, false}
 use native.Mathlib.Nat.{add-zero}
 use native.Mathlib.Omega.{arith}
 use lib.ListN.{take, drop}
-use Rattle.text.specs.Tokens.{Token, Item, gap, found, bad, item, Lexing, add-token, taken, tokens-from, tokens-step}
-use Rattle.text.specs.Readers.{Reader, loop, loop-step}
+use Rattle.text.specs.Tokens.{Token, Lexeme, gap, found, bad, item, Lexing, add-token, taken, tokens-from, tokens-step}
+use Rattle.text.specs.Readers.{Parser, loop, loop-step}
 use Rattle.text.proofs.ReaderLaws.{loop-ends, loop-stops, loop-turns}
 
 -- ---- tokens
@@ -22,7 +22,7 @@ tokens-skip (suc skip) at (b ∷ bs) = tokens-skip skip (at + 1) bs ∙ ap (λ (
     next : (at skip : ℕ) → at + 1 + skip ≡ at + suc skip
     next at skip = omega arith
 
-taken-same : (i : Item) (at b : ℕ) (bs : List ℕ) (f g : ℕ → Lexing) → ((more : ℕ) → f more ≡ g more) → taken i at b bs f ≡ taken i at b bs g
+taken-same : (i : Lexeme) (at b : ℕ) (bs : List ℕ) (f g : ℕ → Lexing) → ((more : ℕ) → f more ≡ g more) → taken i at b bs f ≡ taken i at b bs g
 unfolding taken
 taken-same (gap more) at b bs f g e = e more
 taken-same (found c v more) at b bs f g e = ap (add-token (record { class = c; at = at; bytes = b ∷ take more bs; value = v })) (e more)
@@ -35,7 +35,7 @@ tokens-equation at (b ∷ bs) = taken-same (item b bs) at b bs _ _ (λ more. tok
 
 -- ---- loops
 
-module _ {A : Type 0} (test : ℕ → Bool) (step : A → Token → Reader A) where
+module _ {A : Type 0} (test : ℕ → Bool) (step : A → Token → Parser A) where
   -- of every step, also of one that says it took more tokens than there are: `drop` leaves none then
   pub loop-equation : (a : A) (ts : List Token) → loop test step a 0 ts ≡ loop-step test step a ts
   unfolding loop-step

@@ -13,8 +13,8 @@ use Rattle.text.specs.Tokens.{Token}
 use Rattle.text.specs.Readers.{
   Parse,
   read,
-  refused,
-  Reader,
+  unfit-after,
+  Parser,
   shift,
   give,
   halt,
@@ -45,7 +45,7 @@ read-count h = cc
 shift-reads : {A : Type 0} (n : ℕ) (p : Parse A) {a : A} {m : ℕ} → shift n p ≡ read a m → (k : ℕ) × (p ≡ read a k) × (n + k ≡ m)
 unfolding shift
 shift-reads n (read b k) h = (k, ap (λ c. read c k) (read-tree h), read-count h)
-shift-reads n (refused k) h = absurd (refused-read h)
+shift-reads n (unfit-after k) h = absurd (refused-read h)
 
 module _ {A : Type 0} where
   -- the first of what is left stands at that number
@@ -66,7 +66,7 @@ module _ {A : Type 0} where
   stands-drop (y ∷ xs) (suc p) h = stands-drop xs p h
 
 -- token number p has class c, and the reader reads the tree from the tokens after it
-pub record Starts {A : Type 0} (ts : List Token) (p c : ℕ) (after : Token → Reader A) (a : A) : Type 0 where
+pub record Starts {A : Type 0} (ts : List Token) (p c : ℕ) (after : Token → Parser A) (a : A) : Type 0 where
   pub token : Token
   pub stands : getElem? ts p ≡ some token
   pub class : token .class ≡ c
@@ -74,7 +74,7 @@ pub record Starts {A : Type 0} (ts : List Token) (p c : ℕ) (after : Token → 
   pub reads : after token (drop (suc p) ts) ≡ read a used
 
 module _ (ts : List Token) (p : ℕ) where
-  pub expect-starts : {A : Type 0} (c : ℕ) (k : Token → Reader A) (a : A) (n : ℕ) → expect c k (drop p ts) ≡ read a n
+  pub expect-starts : {A : Type 0} (c : ℕ) (k : Token → Parser A) (a : A) (n : ℕ) → expect c k (drop p ts) ≡ read a n
       → (s : Starts ts p c k a) × (suc (s .used) ≡ n)
   unfolding expect
   expect-starts {A} c k a n e = go (drop p ts) refl e
@@ -92,20 +92,20 @@ module _ (ts : List Token) (p : ℕ) where
       go (t ∷ us) d e = after (eqb (t .class) c) t us d refl e
 
   -- what was read first, and what then
-  pub and-then-parts : {A B : Type 0} (r : Reader A) (k : A → Reader B) (b : B) (n : ℕ) → and-then r k (drop p ts) ≡ read b n
+  pub and-then-parts : {A B : Type 0} (r : Parser A) (k : A → Parser B) (b : B) (n : ℕ) → and-then r k (drop p ts) ≡ read b n
       → (a : A) × (m : ℕ) × (r (drop p ts) ≡ read a m) × (j : ℕ) × (k a (drop (p + m) ts) ≡ read b j) × (m + j ≡ n)
   unfolding and-then
   and-then-parts {A} {B} r k b n e = go (r (drop p ts)) refl e
     where
       go : (q : Parse A) → r (drop p ts) ≡ q → continued q (drop p ts) k ≡ read b n
           → (a : A) × (m : ℕ) × (r (drop p ts) ≡ read a m) × (j : ℕ) × (k a (drop (p + m) ts) ≡ read b j) × (m + j ≡ n)
-      go (refused m) q e = absurd (refused-read e)
+      go (unfit-after m) q e = absurd (refused-read e)
       go (read a m) q e =
           let (j, s, i) = shift-reads m (k a (drop m (drop p ts))) e in
           (a, m, q, j, ap (k a) (sym (drop-drop m p ts)) ∙ s, i)
 
   -- of a step that reads an item and makes a tree of it
-  given-parts : {A B : Type 0} (r : Reader A) (f : A → B) (b : B) (n : ℕ) → and-then r (λ a. give (f a)) (drop p ts) ≡ read b n
+  given-parts : {A B : Type 0} (r : Parser A) (f : A → B) (b : B) (n : ℕ) → and-then r (λ a. give (f a)) (drop p ts) ≡ read b n
       → (a : A) × (r (drop p ts) ≡ read a n) × (f a ≡ b)
   unfolding give
   given-parts r f b n e =
@@ -180,7 +180,7 @@ module _ {X : Type 0} {ts : List Token} {wanted : ℕ → Bool} {at : ℕ → X 
   spots-offsets (spot {p = p} {x = x} t s w a h) (suc n) e = rw (stands-drop ts p s, w, is-at p x t a s, spots-offsets h n (omega arith))
 
 -- what r reads from token number p: the items of its wanted tokens are as `has` says of the tree
-pub record Marks {X : Type 0} (ts : List Token) (wanted : ℕ → Bool) (at : ℕ → X → Type 0) {A : Type 0} (p : ℕ) (r : Reader A) (has : A → List X → Type 0)
+pub record Marks {X : Type 0} (ts : List Token) (wanted : ℕ → Bool) (at : ℕ → X → Type 0) {A : Type 0} (p : ℕ) (r : Parser A) (has : A → List X → Type 0)
     : Type 0 where
   pub marks : (a : A) (n : ℕ) → r (drop p ts) ≡ read a n → (xs : List X) × Spots ts wanted at p (p + n) xs × has a xs
 
@@ -199,7 +199,7 @@ module _ {X : Type 0} {ts : List Token} {wanted : ℕ → Bool} {at : ℕ → X 
     halt-marks = record { marks = λ a n e. absurd (refused-read e) }
 
     -- a token of no wanted class
-    pub expect-skip : {c : ℕ} {k : Token → Reader A} → wanted c ≡ false
+    pub expect-skip : {c : ℕ} {k : Token → Parser A} → wanted c ≡ false
         → ((t : Token) → getElem? ts p ≡ some t → t .class ≡ c → Marks ts wanted at (suc p) (k t) has) → Marks ts wanted at p (expect c k) has
     expect-skip {c} {k} w f = record { marks = λ a n e. go a n (expect-starts ts p c k a n e) }
       where
@@ -210,7 +210,7 @@ module _ {X : Type 0} {ts : List Token} {wanted : ℕ → Bool} {at : ℕ → X 
             (xs, skip (s .token) (s .stands) (ap wanted (s .class) ∙ w) (spots-to l q), h)
 
     -- a token of a wanted class: its item is known once the tree is
-    pub expect-spot : {c : ℕ} {k : Token → Reader A} → wanted c ≡ true
+    pub expect-spot : {c : ℕ} {k : Token → Parser A} → wanted c ≡ true
         → ((t : Token) → getElem? ts p ≡ some t → t .class ≡ c
         → Marks ts wanted at (suc p) (k t) (λ a xs. (n : ℕ) → k t (drop (suc p) ts) ≡ read a n → (x : X) × at p x × has a (x ∷ xs)))
         → Marks ts wanted at p (expect c k) has
@@ -223,7 +223,7 @@ module _ {X : Type 0} {ts : List Token} {wanted : ℕ → Bool} {at : ℕ → X 
             let l : suc p + s .used ≡ p + n = omega arith in
             (x ∷ xs, spot (s .token) (s .stands) (ap wanted (s .class) ∙ w) r (spots-to l q), g)
 
-    pub if-next-marks : (c : ℕ) {r s : Reader A} → Marks ts wanted at p r has → Marks ts wanted at p s has → Marks ts wanted at p (if-next c r s) has
+    pub if-next-marks : (c : ℕ) {r s : Parser A} → Marks ts wanted at p r has → Marks ts wanted at p s has → Marks ts wanted at p (if-next c r s) has
     unfolding if-next
     if-next-marks c {r} {s} f g = record { marks = λ a n. go (next-is c (drop p ts)) a n }
       where
@@ -231,7 +231,7 @@ module _ {X : Type 0} {ts : List Token} {wanted : ℕ → Bool} {at : ℕ → X 
         go true a n e = f .marks a n e
         go false a n e = g .marks a n e
 
-  module _ {A B : Type 0} {p : ℕ} {r : Reader A} {k : A → Reader B} {has : A → List X → Type 0} {wants : B → List X → Type 0} where
+  module _ {A B : Type 0} {p : ℕ} {r : Parser A} {k : A → Parser B} {has : A → List X → Type 0} {wants : B → List X → Type 0} where
     pub and-then-marks : Marks ts wanted at p r has
         → ((a : A) (xs : List X) → has a xs → (q : ℕ) → Marks ts wanted at q (k a) (λ b ys. wants b (xs ++ ys)))
         → Marks ts wanted at p (and-then r k) wants
@@ -247,13 +247,13 @@ module _ {X : Type 0} {ts : List Token} {wanted : ℕ → Bool} {at : ℕ → X 
             (xs ++ ys, spots-to l (spots-append q s), w)
 
   -- of which the first part has no wanted token
-  pub and-then-plain : {A B : Type 0} {p : ℕ} {r : Reader A} {k : A → Reader B} {wants : B → List X → Type 0}
+  pub and-then-plain : {A B : Type 0} {p : ℕ} {r : Parser A} {k : A → Parser B} {wants : B → List X → Type 0}
       → Marks ts wanted at p r (λ a xs. xs ≡ []) → ((a : A) (q : ℕ) → Marks ts wanted at q (k a) wants) → Marks ts wanted at p (and-then r k) wants
   and-then-plain {k = k} {wants = wants} f g =
       and-then-marks f (λ a xs e q. subst (λ l. Marks ts wanted at q (k a) (λ b ys. wants b (l ++ ys))) (sym e) (g a q))
 
   -- one turn: the token that passes the test, and what the step reads after it
-  module _ {A : Type 0} (test : ℕ → Bool) (step : A → Token → Reader A) (has : A → List X → Type 0)
+  module _ {A : Type 0} (test : ℕ → Bool) (step : A → Token → Parser A) (has : A → List X → Type 0)
       (turn : (p : ℕ) (a : A) (xs : List X) → has a xs → (t : Token) → getElem? ts p ≡ some t → test (t .class) ≡ true → (b : A) (n : ℕ)
       → step a t (drop (suc p) ts) ≡ read b n → (ys : List X) × Spots ts wanted at p (suc p + n) ys × has b (xs ++ ys)) where
     loop-from : (us : List Token) (o p more : ℕ) → drop p ts ≡ us → (a : A) (xs : List X) → Spots ts wanted at o (p + more) xs → has a xs
@@ -276,7 +276,7 @@ module _ {X : Type 0} {ts : List Token} {wanted : ℕ → Bool} {at : ℕ → X 
 
         after : test (t .class) ≡ true → (q : Parse A) → step a t us ≡ q → stepped q (λ c m. loop test step c m us) ≡ read b n → Rest
             → (ys : List X) × Spots ts wanted at o (p + n) ys × has b ys
-        after w (refused m) q e k = absurd (refused-read e)
+        after w (unfit-after m) q e k = absurd (refused-read e)
         after w (read c m) q e k =
             let (j, r, i) = shift-reads 1 (loop test step c m us) e in
             let (stands, rest) = drop-stands ts p d in
@@ -300,7 +300,7 @@ module _ {X : Type 0} {ts : List Token} {wanted : ℕ → Bool} {at : ℕ → X 
         start = omega arith
 
   -- operators of no wanted class
-  pub chain-marks : {A : Type 0} {p : ℕ} (test : ℕ → Bool) (join : Token → A → A → A) {item : Reader A} (out : A → List X)
+  pub chain-marks : {A : Type 0} {p : ℕ} (test : ℕ → Bool) (join : Token → A → A → A) {item : Parser A} (out : A → List X)
       → ((c : ℕ) → test c ≡ true → wanted c ≡ false) → ((t : Token) (a b : A) → out (join t a b) ≡ out a ++ out b)
       → ((q : ℕ) → Marks ts wanted at q item (λ a xs. xs ≡ out a)) → Marks ts wanted at p (chain test join item) (λ a xs. xs ≡ out a)
   unfolding chain joined
@@ -315,7 +315,7 @@ module _ {X : Type 0} {ts : List Token} {wanted : ℕ → Bool} {at : ℕ → X 
           (ys, skip t s (w (t .class) passes) q, sym (append-assoc zs xs ys) ∙ ap (λ l. l ++ ys) h ∙ ap (λ l. out a ++ l) o ∙ sym (j t a c) ∙ ap out i)
 
   -- items with their first tokens
-  pub many-marks : {A : Type 0} {p : ℕ} (c : ℕ) (item : Token → Reader A) (each : A → List X)
+  pub many-marks : {A : Type 0} {p : ℕ} (c : ℕ) (item : Token → Parser A) (each : A → List X)
       → ((q : ℕ) → Marks ts wanted at q (expect c item) (λ a xs. xs ≡ each a)) → Marks ts wanted at p (many c item) (λ before xs. xs ≡ flatMap each before)
   unfolding many added flatMap shift
   many-marks {A} c item each f = loop-marks (λ d. eqb d c) (added item) (λ before xs. xs ≡ flatMap each before) turn [] refl

@@ -14,7 +14,7 @@ use Rattle.text.specs.declared.Item.{Item as Answer}
 use Rattle.text.specs.declared.Item.the-variants.{Gap, Found, Bad, End}
 use Rattle.text.specs.Bytes.{is-letter, is-digit, is-name-byte, is-blank, is-comment-byte, run}
 use Rattle.text.specs.Tokens.{NAME, name-item, number-item, class-in, marks}
-use Rattle.text.specs.Tokens.{Item, gap, found, bad, item, tokens, no-token-at, add-token, taken, tokens-from}
+use Rattle.text.specs.Tokens.{Lexeme, gap, found, bad, item, tokens, no-token-at, add-token, taken, tokens-from}
 use Rattle.text.specs.TokenTable.{part, located, token-at, after, offset-after}
 use Rattle.text.proofs.SkipLaws.{tokens-skip}
 use Rattle.text.proofs.RunLaws.{byte-at, run-yes, run-again, run-part}
@@ -50,7 +50,7 @@ module _ (text : List ℕ) (at : ℕ) where
     unfolding token-at
     at-byte = rw (byte-at text at h)
 
-    pub at-item : {i : Item} → item (getD text at 0) (drop (at + 1) text) ≡ i → located at i ≡ token-at text at
+    pub at-item : {i : Lexeme} → item (getD text at 0) (drop (at + 1) text) ≡ i → located at i ≡ token-at text at
     at-item e = sym (at-byte ∙ ap (located at) e)
 
     -- each kind of byte, as code finds it
@@ -99,7 +99,7 @@ module _ (text : List ℕ) (at : ℕ) where
     unfolding tokens-from
     from-byte = rw (byte-at text at h)
 
-    item-says : (i : Item) → item (getD text at 0) (drop (at + 1) text) ≡ i → Reaches (length (drop (at + 1) text)) i → Answer-says text at (located at i)
+    item-says : (i : Lexeme) → item (getD text at 0) (drop (at + 1) text) ≡ i → Reaches (length (drop (at + 1) text)) i → Answer-says text at (located at i)
     unfolding located taken
     item-says (gap more) e k = (
       omega arith,

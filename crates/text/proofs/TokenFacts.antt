@@ -9,7 +9,7 @@ use lib.Dec.{ltb}
 use lib.ListN.{length, getD, take, drop, take-append-drop, length-drop}
 use lib.Seq.{drop-nil, drop-drop, length-take-le}
 use borrow.Author.Tests.{ltb-true, ltb-false}
-use Rattle.text.specs.Tokens.{Token, Item, gap, found, bad, item, Lexing, tokens, no-token-at, add-token, taken, tokens-from, tokens-of}
+use Rattle.text.specs.Tokens.{Token, Lexeme, gap, found, bad, item, Lexing, tokens, no-token-at, add-token, taken, tokens-from, tokens-of}
 use Rattle.text.specs.TokenTable.{Token-columns, row-token, rows}
 use Rattle.text.proofs.ItemLaws.{Reaches, item-reaches}
 use Rattle.text.proofs.RowLaws.{drop-rows}
@@ -63,7 +63,7 @@ module _ (text : List ℕ) where
         value-bound = k .3;
       }
 
-  taken-in-order : (i : Item) (at b : ℕ) (bs : List ℕ) (others : ℕ → Lexing) → drop at text ≡ b ∷ bs → Reaches (length bs) i
+  taken-in-order : (i : Lexeme) (at b : ℕ) (bs : List ℕ) (others : ℕ → Lexing) → drop at text ≡ b ∷ bs → Reaches (length bs) i
       → ((more : ℕ) → Lexing-in-order text (at + 1 + more) (others more)) → Lexing-in-order text at (taken i at b bs others)
   unfolding taken
   taken-in-order (gap more) at b bs others e k h = lower text at (at + 1 + more) (others more) (omega arith) (h more)

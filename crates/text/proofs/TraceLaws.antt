@@ -7,7 +7,7 @@ use native.Mathlib.Omega.{arith}
 use lib.ListN.{length, drop, length-append}
 use lib.Seq.{drop-at, drop-append-seam}
 use Rattle.text.specs.Tokens.{Token}
-use Rattle.text.specs.Readers.{Parse, read, refused, Reader, shift, next-is, continued, and-then}
+use Rattle.text.specs.Readers.{Parse, read, unfit-after, Parser, shift, next-is, continued, and-then}
 use Rattle.text.specs.Language.{Language, _⨾_, sequel}
 use Rattle.text.proofs.ReaderLaws.{count, count-shift, and-then-reads, and-then-refuses}
 use Rattle.text.proofs.LanguageLaws.{classes, _⊆_}
@@ -40,10 +40,10 @@ module _ {A : Type 0} where
   -- the classes of the tokens taken are a word; those before a refused token begin one
   unfoldable pub Fits : Language → List ℕ → Parse A → Type 0
   Fits L cs (read a n) = L cs
-  Fits L cs (refused n) = (more : List ℕ) × L (cs ++ more)
+  Fits L cs (unfit-after n) = (more : List ℕ) × L (cs ++ more)
 
   -- a reader r makes p of ts: it takes `front`, and does so wherever the next token is the same
-  pub record Trace (r : Reader A) (L : Language) (ts : List Token) (p : Parse A) : Type 0 where
+  pub record Trace (r : Parser A) (L : Language) (ts : List Token) (p : Parse A) : Type 0 where
     pub front : List Token
     pub rest : List Token
     pub joins : front ++ rest ≡ ts
@@ -52,11 +52,11 @@ module _ {A : Type 0} where
     pub fits : Fits L (classes front) p
 
   -- all of xs is taken, and nothing of what comes after it
-  pub record Reads (r : Reader A) (xs rest : List Token) : Type 0 where
+  pub record Reads (r : Parser A) (xs rest : List Token) : Type 0 where
     pub tree : A
     pub reads : r (xs ++ rest) ≡ read tree (length xs)
 
-  module _ {r : Reader A} {L : Language} {ts : List Token} {p : Parse A} (t : Trace r L ts p) where
+  module _ {r : Parser A} {L : Language} {ts : List Token} {p : Parse A} (t : Trace r L ts p) where
     pub trace-result : r ts ≡ p
     trace-result = ap r (sym (t .joins)) ∙ t .again (t .rest) (meets-self (t .rest))
 
@@ -74,9 +74,9 @@ module _ {A : Type 0} where
   fits-in : {L M : Language} → L ⊆ M → (cs : List ℕ) (p : Parse A) → Fits L cs p → Fits M cs p
   unfolding Fits
   fits-in i cs (read a n) f = i .holds f
-  fits-in i cs (refused n) f = (f .0, i .holds (f .1))
+  fits-in i cs (unfit-after n) f = (f .0, i .holds (f .1))
 
-  pub trace-in : {r : Reader A} {L M : Language} {ts : List Token} {p : Parse A} → L ⊆ M → Trace r L ts p → Trace r M ts p
+  pub trace-in : {r : Parser A} {L M : Language} {ts : List Token} {p : Parse A} → L ⊆ M → Trace r L ts p → Trace r M ts p
   trace-in {p} i t = record {
     front = t .front;
     rest = t .rest;
@@ -87,7 +87,7 @@ module _ {A : Type 0} where
   }
 
   -- no token is taken: none is left, or the next one decides
-  pub end-trace : {r : Reader A} {L : Language} → count (r []) ≡ 0 → Fits L [] (r []) → Trace r L [] (r [])
+  pub end-trace : {r : Parser A} {L : Language} → count (r []) ≡ 0 → Fits L [] (r []) → Trace r L [] (r [])
   unfolding Meets
   end-trace {r} c f = record { front = []; rest = []; joins = refl; counts = c; again = go; fits = f }
     where
@@ -95,7 +95,7 @@ module _ {A : Type 0} where
       go [] h = refl
       go (t ∷ ts) h = absurd h
 
-  pub stop-trace : {r : Reader A} {L : Language} (t : Token) (ts : List Token) (p : Parse A) → count p ≡ 0 → Fits L [] p
+  pub stop-trace : {r : Parser A} {L : Language} (t : Token) (ts : List Token) (p : Parse A) → count p ≡ 0 → Fits L [] p
       → ((others : List Token) → r (t ∷ others) ≡ p) → Trace r L (t ∷ ts) (r (t ∷ ts))
   unfolding Meets
   stop-trace {r} t ts p c f e = rw (e ts) (record { front = []; rest = t ∷ ts; joins = refl; counts = c; again = go; fits = f })
@@ -107,10 +107,10 @@ module _ {A : Type 0} where
   fits-cons : (O M : Language) (c : ℕ) (cs : List ℕ) (p : Parse A) → O (c ∷ []) → Fits M cs p → Fits (O ⨾ M) (c ∷ cs) (shift 1 p)
   unfolding Fits shift
   fits-cons O M c cs (read a n) o f = sequel o f
-  fits-cons O M c cs (refused n) o f = (f .0, sequel o (f .1))
+  fits-cons O M c cs (unfit-after n) o f = (f .0, sequel o (f .1))
 
   -- a token, and then what s does
-  pub cons-trace : {r s : Reader A} (O : Language) {M : Language} (t : Token) (ts : List Token) → O (t .class ∷ [])
+  pub cons-trace : {r s : Parser A} (O : Language) {M : Language} (t : Token) (ts : List Token) → O (t .class ∷ [])
       → ((others : List Token) → r (t ∷ others) ≡ shift 1 (s others)) → Trace s M ts (s ts) → Trace r (O ⨾ M) (t ∷ ts) (r (t ∷ ts))
   cons-trace {r} {s} O {M} t ts o e u = rw (e ts) (record {
     front = t ∷ u .front;
@@ -121,7 +121,7 @@ module _ {A : Type 0} where
     fits = fits-cons O M (t .class) (classes (u .front)) (s ts) o (u .fits);
   })
 
-  pub reads-cons : {r s : Reader A} {xs rest : List Token} (t : Token) → ((others : List Token) → r (t ∷ others) ≡ shift 1 (s others))
+  pub reads-cons : {r s : Parser A} {xs rest : List Token} (t : Token) → ((others : List Token) → r (t ∷ others) ≡ shift 1 (s others))
       → Reads s xs rest → Reads r (t ∷ xs) rest
   unfolding shift
   reads-cons {xs} {rest} t e q =
@@ -129,7 +129,7 @@ module _ {A : Type 0} where
       record { tree = q .tree; reads = e (xs ++ rest) ∙ ap (shift 1) (q .reads) ∙ ap (read (q .tree)) n }
 
   -- what r does, where the next token decides that s does so
-  pub choice-trace : {r s : Reader A} {L : Language} (c : ℕ) (ts : List Token) (b : Bool) → next-is c ts ≡ b
+  pub choice-trace : {r s : Parser A} {L : Language} (c : ℕ) (ts : List Token) (b : Bool) → next-is c ts ≡ b
       → ((others : List Token) → next-is c others ≡ b → s others ≡ r others) → Trace r L ts (r ts) → Trace s L ts (s ts)
   choice-trace c ts b e same t = rw (same ts e) (record {
     front = t .front;
@@ -145,9 +145,9 @@ module _ {A : Type 0} where
   fits-then : (L M : Language) (xs ys : List ℕ) (n : ℕ) (p : Parse A) → L xs → Fits M ys p → Fits (L ⨾ M) (xs ++ ys) (shift n p)
   unfolding Fits shift
   fits-then L M xs ys n (read a k) l f = sequel l f
-  fits-then L M xs ys n (refused k) l f = (f .0, rw append-assoc (sequel l (f .1)))
+  fits-then L M xs ys n (unfit-after k) l f = (f .0, rw append-assoc (sequel l (f .1)))
 
-module _ {A B : Type 0} (r : Reader A) (k : A → Reader B) where
+module _ {A B : Type 0} (r : Parser A) (k : A → Parser B) where
   -- what r does, and then what k does with the tree; w is a word to complete with where r refuses
   pub then-trace : (L M : Language) (ts : List Token) (w : List ℕ) → M w → Trace r L ts (r ts)
       → ((a : A) (n : ℕ) → r ts ≡ read a n → Trace (k a) M (drop n ts) (k a (drop n ts)))
@@ -156,7 +156,7 @@ module _ {A B : Type 0} (r : Reader A) (k : A → Reader B) where
   then-trace L M ts w m t q = go (r ts) refl t
     where
       go : (p : Parse A) → r ts ≡ p → Trace r L ts p → Trace (and-then r k) (L ⨾ M) ts (continued p ts k)
-      go (refused n) e t = record {
+      go (unfit-after n) e t = record {
         front = t .front;
         rest = t .rest;
         joins = t .joins;

@@ -12,7 +12,7 @@ use lib.ListN.{length, getD, getElem?, drop, drop-of-length-le}
 use lib.Seq.{drop-cons, drop-drop}
 use borrow.Author.Tests.{eq-eqb, ne-eqb, eqb-true, eqb-false, ltb-true, ltb-false}
 use Rattle.text.specs.Tokens.{Token}
-use Rattle.text.specs.Readers.{Parse, read, refused, Reader, shift, give, expect, pick, next-is, if-next, and-then, loop, joined, chain, added, many}
+use Rattle.text.specs.Readers.{Parse, read, unfit-after, Parser, shift, give, expect, pick, next-is, if-next, and-then, loop, joined, chain, added, many}
 use Rattle.text.specs.Walks.{no-token, nth-token, Rows, Stands, Steps, Means, meant, vain, Means-at, Walks, Looping}
 use Rattle.text.proofs.ReaderLaws.{
   expect-takes,
@@ -93,11 +93,11 @@ module _ {classes : List ℕ} (w : Rows classes) where
           rw (row-token i h) (ne-eqb (nth-token (w .tokens) i .class) c (λ z. e (sym (row-class i h) ∙ z)))
       go false q = rw (rows-end i (ltb-false i (length classes) q))
 
-  pub expect-other : {A : Type 0} (c : ℕ) (k : Token → Reader A) (i : ℕ) → (getD classes i 0 ≡ c → ⊥) → expect c k (drop i (w .tokens)) ≡ refused 0
+  pub expect-other : {A : Type 0} (c : ℕ) (k : Token → Parser A) (i : ℕ) → (getD classes i 0 ≡ c → ⊥) → expect c k (drop i (w .tokens)) ≡ unfit-after 0
   unfolding expect
   expect-other c k i e = go (ltb i (length classes)) refl
     where
-      go : (t : Bool) → ltb i (length classes) ≡ t → expect c k (drop i (w .tokens)) ≡ refused 0
+      go : (t : Bool) → ltb i (length classes) ≡ t → expect c k (drop i (w .tokens)) ≡ unfit-after 0
       go true q =
           let h = ltb-true i (length classes) q in
           let n = ne-eqb (nth-token (w .tokens) i .class) c (λ z. e (sym (row-class i h) ∙ z)) in
@@ -115,14 +115,14 @@ module _ {A R : Type 0} {high : ℕ} {yields : A → R → Type 0} {v : R} {next
   pub means-unshift : (p : Parse A) → Means high yields v next at (shift n p) → Means high yields v next (at + n) p
   unfolding shift
   means-unshift (read a k) (meant y f) = let g : next ≡ at + n + k = omega arith in meant y g
-  means-unshift (refused k) vain = vain
+  means-unshift (unfit-after k) vain = vain
 
 module _ {classes : List ℕ} (w : Rows classes) {A R : Type 0} (yields : A → R → Type 0) {v : R} {next : ℕ} where
   pub give-means : (a : A) {i : ℕ} → (next ≤ w .high → yields a v) → next ≡ i → Means-at w yields (give a) i v next
   unfolding give
   give-means a {i} y e = meant y (e ∙ sym (add-zero i))
 
-  pub expect-means : (c : ℕ) (k : Token → Reader A) {i j : ℕ} → Steps (length classes) i j
+  pub expect-means : (c : ℕ) (k : Token → Parser A) {i j : ℕ} → Steps (length classes) i j
       → (i < length classes → getD classes i 0 ≡ c → Means-at w yields (k (nth-token (w .tokens) i)) j v next) → Means-at w yields (expect c k) i v next
   unfolding expect
   expect-means c k {i} {j} s f = go (ltb i (length classes)) refl
@@ -142,18 +142,18 @@ module _ {classes : List ℕ} (w : Rows classes) {A R : Type 0} (yields : A → 
           rw (row-token w i h) (test (eqb (nth-token (w .tokens) i .class) c) refl h)
       go false e = rw (rows-end w i (ltb-false i (length classes) e)) vain
 
-  pub next-yes : (c : ℕ) (r s : Reader A) {i : ℕ} → i < length classes → getD classes i 0 ≡ c → Means-at w yields r i v next
+  pub next-yes : (c : ℕ) (r s : Parser A) {i : ℕ} → i < length classes → getD classes i 0 ≡ c → Means-at w yields r i v next
       → Means-at w yields (if-next c r s) i v next
   unfolding next-is
   next-yes c r s {i} h e m =
       let t : next-is c (drop i (w .tokens)) ≡ true = rw (row-token w i h) (eq-eqb (nth-token (w .tokens) i .class) c (row-class w i h ∙ e)) in
       rw (if-next-first c r s (drop i (w .tokens)) t) m
 
-  pub next-no : (c : ℕ) (r s : Reader A) {i : ℕ} → (getD classes i 0 ≡ c → ⊥) → Means-at w yields s i v next → Means-at w yields (if-next c r s) i v next
+  pub next-no : (c : ℕ) (r s : Parser A) {i : ℕ} → (getD classes i 0 ≡ c → ⊥) → Means-at w yields s i v next → Means-at w yields (if-next c r s) i v next
   next-no c r s {i} e m = rw (if-next-second c r s (drop i (w .tokens)) (next-is-other w c i e)) m
 
   -- whichever class comes next
-  pub next-either : (c : ℕ) (r s : Reader A) {i : ℕ} → Means-at w yields r i v next → Means-at w yields s i v next
+  pub next-either : (c : ℕ) (r s : Parser A) {i : ℕ} → Means-at w yields r i v next → Means-at w yields s i v next
       → Means-at w yields (if-next c r s) i v next
   unfolding if-next pick
   next-either c r s {i} m n = go (next-is c (drop i (w .tokens)))
@@ -162,12 +162,12 @@ module _ {classes : List ℕ} (w : Rows classes) {A R : Type 0} (yields : A → 
       go true = m
       go false = n
 
-  pub next-end : (c : ℕ) (r s : Reader A) {i : ℕ} → length classes ≤ i → Means-at w yields s i v next → Means-at w yields (if-next c r s) i v next
+  pub next-end : (c : ℕ) (r s : Parser A) {i : ℕ} → length classes ≤ i → Means-at w yields s i v next → Means-at w yields (if-next c r s) i v next
   unfolding next-is
   next-end c r s {i} h m = rw (if-next-second c r s (drop i (w .tokens)) (rw (rows-end w i h))) m
 
   -- what r reads, which yields x, and then what k reads
-  pub then-means : {B Q : Type 0} {first : B → Q → Type 0} {x : Q} {n : ℕ} (r : Reader B) (k : B → Reader A) {i : ℕ} → Means-at w first r i x n
+  pub then-means : {B Q : Type 0} {first : B → Q → Type 0} {x : Q} {n : ℕ} (r : Parser B) (k : B → Parser A) {i : ℕ} → Means-at w first r i x n
       → ((b : B) → (n ≤ w .high → first b x) → Means-at w yields (k b) n v next) → Means-at w yields (and-then r k) i v next
   then-means {B} {Q} {first} {x} {n} r k {i} m f = go (r (drop i (w .tokens))) refl m
     where
@@ -175,11 +175,11 @@ module _ {classes : List ℕ} (w : Rows classes) {A R : Type 0} (yields : A → 
       go (read b j) e (meant y q) =
           rw (and-then-reads r k b j (drop i (w .tokens)) e, drop-drop j i (w .tokens))
           (means-shift i j {p = k b (drop (i + j) (w .tokens))} (rw q at (f b y)))
-      go (refused j) e vain = rw (and-then-refuses r k j (drop i (w .tokens)) e) vain
+      go (unfit-after j) e vain = rw (and-then-refuses r k j (drop i (w .tokens)) e) vain
 
 module _ {classes : List ℕ} (w : Rows classes) {A R : Type 0} {yields : A → R → Type 0} {v : R} {next : ℕ} where
   -- what is read after a token of class c, from what is read with it
-  pub after-means : (c : ℕ) (k : Token → Reader A) {i j : ℕ} → i < length classes → getD classes i 0 ≡ c → Steps (length classes) i j
+  pub after-means : (c : ℕ) (k : Token → Parser A) {i j : ℕ} → i < length classes → getD classes i 0 ≡ c → Steps (length classes) i j
       → Means-at w yields (expect c k) i v next → Means-at w yields (k (nth-token (w .tokens) i)) j v next
   after-means c k {i} {j} h e s m =
       let t = nth-token (w .tokens) i in
@@ -191,7 +191,7 @@ module _ {classes : List ℕ} (w : Rows classes) {A R : Type 0} {yields : A → 
 
 module _ {C A R : Type 0} {classes : List ℕ} {rows : C → Rows classes} {yields : C → A → R → Type 0} where
   -- what a walk says where the reader reads
-  pub walk-yields : {r : Reader A} {at : ℕ} {v : R} {next : ℕ} → Walks rows yields r at v next → (c : C) → rows c .low ≤ at → {a : A} {n : ℕ}
+  pub walk-yields : {r : Parser A} {at : ℕ} {v : R} {next : ℕ} → Walks rows yields r at v next → (c : C) → rows c .low ≤ at → {a : A} {n : ℕ}
       → r (drop at (rows c .tokens)) ≡ read a n → (next ≤ rows c .high → yields c a v) × (next ≡ at + n)
   walk-yields {r} {at} {v} {next} h c l {a} {n} e = go (rw e at (h .means c l))
     where
@@ -199,20 +199,20 @@ module _ {C A R : Type 0} {classes : List ℕ} {rows : C → Rows classes} {yiel
       go (meant y q) = (y, q)
 
   -- the same walk of a reader that does the same there
-  pub walk-same : {r s : Reader A} {at : ℕ} {v : R} {next : ℕ} → ((c : C) → s (drop at (rows c .tokens)) ≡ r (drop at (rows c .tokens)))
+  pub walk-same : {r s : Parser A} {at : ℕ} {v : R} {next : ℕ} → ((c : C) → s (drop at (rows c .tokens)) ≡ r (drop at (rows c .tokens)))
       → Walks rows yields r at v next → Walks rows yields s at v next
   walk-same e h = record { onward = h .onward; means = λ c l. rw (e c) (h .means c l) }
 
   -- the same end by another name
-  pub walk-next : {r : Reader A} {at : ℕ} {v : R} {next m : ℕ} → m ≡ next → Walks rows yields r at v next → Walks rows yields r at v m
+  pub walk-next : {r : Parser A} {at : ℕ} {v : R} {next m : ℕ} → m ≡ next → Walks rows yields r at v next → Walks rows yields r at v m
   walk-next e h = rw e h
 
-  pub loop-next : {whole : Reader A} {test : ℕ → Bool} {step : A → Token → Reader A} {at : ℕ} {v : R} {i j : ℕ} → j ≡ i
+  pub loop-next : {whole : Parser A} {test : ℕ → Bool} {step : A → Token → Parser A} {at : ℕ} {v : R} {i j : ℕ} → j ≡ i
       → Looping rows yields whole test step at v i → Looping rows yields whole test step at v j
   loop-next e h = rw e h
 
   -- the same walk, with what follows from what it gives
-  pub walk-then : {Q : Type 0} {other : C → A → Q → Type 0} {r : Reader A} {at : ℕ} {v : R} {u : Q} {next : ℕ}
+  pub walk-then : {Q : Type 0} {other : C → A → Q → Type 0} {r : Parser A} {at : ℕ} {v : R} {u : Q} {next : ℕ}
       → ((c : C) (a : A) → rows c .low ≤ at → next ≤ rows c .high → yields c a v → other c a u) → Walks rows yields r at v next → Walks rows other r at u next
   walk-then {Q} {other} {r} {at} {v} {u} {next} f h = record { onward = h .onward; means = λ c l. go c l (h .means c l) }
     where
@@ -221,12 +221,12 @@ module _ {C A R : Type 0} {classes : List ℕ} {rows : C → Rows classes} {yiel
       go c l vain = vain
 
   -- the same walk in other worlds
-  pub walk-in : {D : Type 0} (f : D → C) {r : Reader A} {at : ℕ} {v : R} {next : ℕ} → Walks rows yields r at v next
+  pub walk-in : {D : Type 0} (f : D → C) {r : Parser A} {at : ℕ} {v : R} {next : ℕ} → Walks rows yields r at v next
       → Walks (λ d. rows (f d)) (λ d. yields (f d)) r at v next
   walk-in f h = record { onward = h .onward; means = λ d l. h .means (f d) l }
 
   -- two walks of one reader
-  pub walk-both : {Q : Type 0} {other : C → A → Q → Type 0} {r : Reader A} {at : ℕ} {v : R} {u : Q} {next m : ℕ} → Walks rows yields r at v next
+  pub walk-both : {Q : Type 0} {other : C → A → Q → Type 0} {r : Parser A} {at : ℕ} {v : R} {u : Q} {next m : ℕ} → Walks rows yields r at v next
       → Walks rows other r at u m → Walks {R = R × Q} rows (λ c a p. yields c a (p .0) × other c a (p .1)) r at (v, u) next
   walk-both {Q} {other} {r} {at} {v} {u} {next} {m} h g = record { onward = h .onward; means = λ c l. go c (h .means c l) (g .means c l) }
     where
@@ -238,8 +238,8 @@ module _ {C A R : Type 0} {classes : List ℕ} {rows : C → Rows classes} {yiel
 -- ---- loops
 
 module _ {C A R : Type 0} {classes : List ℕ} (rows : C → Rows classes) (yields : C → A → R → Type 0) where
-  module _ (test : ℕ → Bool) (step : A → Token → Reader A) where
-    module _ {whole : Reader A} {at : ℕ} {v : R} {i : ℕ} (g : Looping rows yields whole test step at v i) where
+  module _ (test : ℕ → Bool) (step : A → Token → Parser A) where
+    module _ {whole : Parser A} {at : ℕ} {v : R} {i : ℕ} (g : Looping rows yields whole test step at v i) where
       -- no token is left, or the next one fails the test
       pub walk-stops : test (getD classes i 0) ≡ false → Walks rows yields whole at v i
       walk-stops e = record { onward = g .onward; means = λ c l. g .rest c l v i (λ a y. on c a y (ltb i (length classes)) refl) }
@@ -278,7 +278,7 @@ module _ {C A R : Type 0} {classes : List ℕ} (rows : C → Rows classes) (yiel
               )
               (means-shift i 1 (rw (s .steps h) at (then-means (rows c) (yields c) (step a (nth-token (rows c .tokens) i)) (λ b. loop test step b 0) m k)))
 
-  module _ (test : ℕ → Bool) (join : Token → A → A → A) (item : Reader A) where
+  module _ (test : ℕ → Bool) (join : Token → A → A → A) (item : Parser A) where
     -- a chain begins with its first item
     pub chain-begins : {at : ℕ} {v : R} {i : ℕ} → Walks rows yields item at v i → Looping rows yields (chain test join item) test (joined item join) at v i
     unfolding chain
@@ -288,7 +288,7 @@ module _ {C A R : Type 0} {classes : List ℕ} (rows : C → Rows classes) (yiel
     }
 
     -- an operator, and another item
-    pub chain-turns : {whole : Reader A} {at : ℕ} {v : R} {i j : ℕ} {x u : R} {n : ℕ} → Looping rows yields whole test (joined item join) at v i
+    pub chain-turns : {whole : Parser A} {at : ℕ} {v : R} {i j : ℕ} {x u : R} {n : ℕ} → Looping rows yields whole test (joined item join) at v i
         → test 0 ≡ false → test (getD classes i 0) ≡ true → Steps (length classes) i j → Walks rows yields item j x n
         → ((c : C) (a b : A) → Stands (rows c) i (getD classes i 0) → yields c a v → yields c b x → yields c (join (nth-token (rows c .tokens) i) a b) u)
         → Looping rows yields whole test (joined item join) at u n
@@ -300,14 +300,14 @@ module _ {C A R : Type 0} {classes : List ℕ} (rows : C → Rows classes) (yiel
         (λ k. f c a b (stands l (omega arith) (test-inside test classes i z e) refl s (h .onward) k) (y (omega (arith, s .onward, h .onward))) (q k)) refl
 
 module _ {C A Q R : Type 0} {classes : List ℕ} (rows : C → Rows classes) (first : C → A → Q → Type 0) (yields : C → List A → R → Type 0)
-    (k : ℕ) (item : Token → Reader A) where
+    (k : ℕ) (item : Token → Parser A) where
   -- no item yet
   pub many-begins : (at : ℕ) {v : R} → ((c : C) → yields c [] v) → Looping rows yields (many k item) (λ d. eqb d k) (added item) at v at
   unfolding many
   many-begins at y = record { onward = omega arith; rest = λ c l u next f. f [] (λ h. y c) }
 
   -- another item, which begins with a token of class k
-  pub many-turns : {whole : Reader (List A)} {at : ℕ} {v : R} {i j : ℕ} {x : Q} {u : R} {n : ℕ}
+  pub many-turns : {whole : Parser (List A)} {at : ℕ} {v : R} {i j : ℕ} {x : Q} {u : R} {n : ℕ}
       → Looping rows yields whole (λ d. eqb d k) (added item) at v i → 0 < k → getD classes i 0 ≡ k → Steps (length classes) i j → j ≤ n
       → ((c : C) → rows c .low ≤ i → Means-at (rows c) (first c) (item (nth-token (rows c .tokens) i)) j x n)
       → ((c : C) (xs : List A) (a : A) → Stands (rows c) i k → yields c xs v → first c a x → yields c (xs ++ a ∷ []) u)
@@ -319,6 +319,6 @@ module _ {C A Q R : Type 0} {classes : List ℕ} (rows : C → Rows classes) (fi
       give-means (rows c) (yields c) (xs ++ a ∷ [])
       (λ z. f c xs a (stands l (omega arith) (class-inside classes i e p) e s o z) (y (omega (arith, s .onward))) (q z)) refl
 
-  pub many-stops : {whole : Reader (List A)} {at : ℕ} {v : R} {i : ℕ} → Looping rows yields whole (λ d. eqb d k) (added item) at v i
+  pub many-stops : {whole : Parser (List A)} {at : ℕ} {v : R} {i : ℕ} → Looping rows yields whole (λ d. eqb d k) (added item) at v i
       → (getD classes i 0 ≡ k → ⊥) → Walks rows yields whole at v i
   many-stops {i = i} g e = walk-stops rows yields (λ d. eqb d k) (added item) g (ne-eqb (getD classes i 0) k e)

@@ -11,9 +11,9 @@ use Rattle.text.specs.declared.grammar.Parsing.{Parsing}
 use Rattle.text.specs.declared.grammar.Parsing.the-variants.{Grammatical, UngrammaticalAt}
 use Rattle.text.specs.Tokens.{Token, TRUE, FALSE, WHOLE-NUMBER, REAL-NUMBER}
 use Rattle.text.specs.Syntax.{File}
-use Rattle.text.specs.Readers.{Parse, read, refused, Reader}
+use Rattle.text.specs.Readers.{Parse, read, unfit-after, Parser}
 use Rattle.text.specs.Grammar.{file-reader}
-use Rattle.text.specs.Parse.{Parsing as Outcome, grammatical, ungrammatical-at, offset-of, parse}
+use Rattle.text.specs.Parse.{Parse-verdict as Outcome, grammatical, ungrammatical-at, offset-of, parse}
 use Rattle.text.specs.Answers.{refusal-answer}
 use Rattle.text.specs.EnumAnswers.{parsing-answer}
 
@@ -24,21 +24,21 @@ module _ {A : Type 0} where
   -- what is read from the token `at` on: the index of the next token, or of the first unfit one
   unfoldable pub parse-answer : ℕ → Parse A → Parsed
   parse-answer at (read a n) = Next (at + n)
-  parse-answer at (refused n) = Refused (at + n)
+  parse-answer at (unfit-after n) = Refused (at + n)
 
   -- the same from where another reading ended: what was refused stays so
-  unfoldable pub answer-from : Parsed → Reader A → List Token → Parsed
+  unfoldable pub answer-from : Parsed → Parser A → List Token → Parsed
   unfolding parse-answer
   answer-from (Next at) reader ts = parse-answer at (reader (drop at ts))
   answer-from (Refused at) reader ts = Refused at
 
   -- from `start` on the reader answers so, for all tokens that have these classes
-  pub record Reads-as (classes : List ℕ) (reader : Reader A) (start answer : Parsed) : Type 0 where
+  pub record Reads-as (classes : List ℕ) (reader : Parser A) (start answer : Parsed) : Type 0 where
     pub told : (ts : List Token) → classes-of ts ≡ classes → answer ≡ answer-from start reader ts
 
 -- whichever token comes next
-unfoldable pub any-token : Reader Token
-any-token [] = refused 0
+unfoldable pub any-token : Parser Token
+any-token [] = unfit-after 0
 any-token (t ∷ ts) = read t 1
 
 -- the classes that are still to be read; none after a refusal

@@ -14,7 +14,7 @@ use Rattle.text.specs.declared.Run.the-variants.{Comment, Name, Digits}
 use Rattle.text.specs.Bytes.{is-digit, is-name-byte, is-comment-byte}
 use Rattle.text.specs.Answers.{refusal-answer}
 use Rattle.text.specs.EnumAnswers.{lexed-answer}
-use Rattle.text.specs.Tokens.{Fixed, Token, Item, gap, found, bad, item, Lexing, tokens, no-token-at, tokens-of}
+use Rattle.text.specs.Tokens.{Fixed, Token, Lexeme, gap, found, bad, item, Lexing, tokens, no-token-at, tokens-of}
 
 -- which bytes a run goes on with
 abbrev pub goes-on : Run → ℕ → Bool
@@ -34,7 +34,7 @@ abbrev pub part : ℕ → ℕ → List ℕ → List ℕ
 part at end text = take (end - at) (drop at text)
 
 -- an item that begins at `at`, with the offset after it
-unfoldable pub located : ℕ → Item → Answer
+unfoldable pub located : ℕ → Lexeme → Answer
 located at (gap more) = Gap (at + 1 + more)
 located at (found c v more) = Found c v (at + 1 + more)
 located at bad = Bad

@@ -158,13 +158,13 @@ class-in [] bs = none
 class-in (f ∷ fs) bs = elim (same-bytes bs (f .spelling)) [ true ↦ some (f .class) | false ↦ class-in fs bs ]
 
 -- what begins at a byte: a gap, a token with its class and value, each with how many bytes come after the first, or neither
-pub data Item : Type 0 where
-  gap : ℕ → Item
-  found : ℕ → ℕ → ℕ → Item
-  bad : Item
+pub data Lexeme : Type 0 where
+  gap : ℕ → Lexeme
+  found : ℕ → ℕ → ℕ → Lexeme
+  bad : Lexeme
 
 -- "a name: a letter, then letters, digits or `_`, 24 bytes at most (a longer run is no word)"; "Reserved, never names"
-unfoldable pub name-item : List ℕ → Item
+unfoldable pub name-item : List ℕ → Lexeme
 unfolding class-in reserved
 name-item bs = elim (leb (length bs) 24) [ true ↦ found (Option·getD (class-in reserved bs) NAME) 0 (length bs - 1) | false ↦ bad ]
 
@@ -174,24 +174,24 @@ digits-value n [] = n
 digits-value n (d ∷ ds) = digits-value (n * 10 + (d - 48)) ds
 
 -- "with `r` after it, that whole as a real"
-unfoldable pub number-token : ℕ → ℕ → List ℕ → Item
+unfoldable pub number-token : ℕ → ℕ → List ℕ → Lexeme
 number-token value more [] = found WHOLE-NUMBER value more
 number-token value more (b ∷ bs) = elim (eqb b 114) [ true ↦ found REAL-NUMBER value (suc more) | false ↦ found WHOLE-NUMBER value more ]
 
 -- "a number: 1 to 10 digits, at most 2147483647 ..; a longer run of digits or a larger number is no word"
-unfoldable pub number-item : List ℕ → List ℕ → Item
+unfoldable pub number-item : List ℕ → List ℕ → Lexeme
 unfolding number-token digits-value
 number-item ds after = elim (leb (length ds) 10 && leb (digits-value 0 ds) 2147483647) [
   | true ↦ number-token (digits-value 0 ds) (length ds - 1) after
   | false ↦ bad
 ]
 
-unfoldable pub mark-item : Option ℕ → Item
+unfoldable pub mark-item : Option ℕ → Lexeme
 mark-item none = bad
 mark-item (some c) = found c 0 0
 
 -- what begins at the byte b, before the bytes bs: a blank, "`#` starts a comment", a name, a number, a mark, or nothing allowed
-unfoldable pub item : ℕ → List ℕ → Item
+unfoldable pub item : ℕ → List ℕ → Lexeme
 unfolding is-letter is-digit is-name-byte is-blank is-comment-byte run mark-item number-item name-item class-in marks
 item b bs = elim (is-blank b) [
   | true ↦ gap 0
@@ -217,7 +217,7 @@ add-token t (tokens ts) = tokens (t ∷ ts)
 add-token t (no-token-at p) = no-token-at p
 
 -- an item at an offset, and then the others, by how many bytes after the first belong to it
-unfoldable pub taken : Item → ℕ → ℕ → List ℕ → (ℕ → Lexing) → Lexing
+unfoldable pub taken : Lexeme → ℕ → ℕ → List ℕ → (ℕ → Lexing) → Lexing
 unfolding add-token
 taken (gap more) at b bs others = others more
 taken (found c v more) at b bs others = add-token (record { class = c; at = at; bytes = b ∷ take more bs; value = v }) (others more)

@@ -19,7 +19,7 @@ use Rattle.trial_cases.specs.Trials.{
   header-printed,
   row-call-printed,
   row-printed,
-  refused-by,
+  refused-with,
   checked-as,
 }
 use Rattle.trial_cases.proofs.FirstCycle.{no-filter-holds-first}
@@ -29,7 +29,7 @@ pub record Trial-cases : Type 0 where
   pub pedal-names : header-printed pedal ≡ row-printed "n k.keep"
   pub pedal-rows : lines-printed pedal "n p.down s.pos"
       ("1 false 100" ∷ "2 true 140" ∷ "2 true 140" ∷ "3 - 150" ∷ "4 false 150" ∷ "5 true 190" ∷ "4 - -" ∷ [])
-      ≡ row-printed "1 -" ∷ row-printed "2 140" ∷ row-printed "2 140" ∷ row-printed "3 -" ∷ row-printed "4 -" ∷ row-printed "5 190" ∷ refused-by 24 ∷ []
+      ≡ row-printed "1 -" ∷ row-printed "2 140" ∷ row-printed "2 140" ∷ row-printed "3 -" ∷ row-printed "4 -" ∷ row-printed "5 190" ∷ refused-with 24 ∷ []
   pub pedal-row-again : row-call-printed pedal "n p.down s.pos" ("1 false 100" ∷ "2 true 140" ∷ "4 - -" ∷ []) ≡ row-printed "2 140"
   -- "`rules end` accepted; no bytes: 13 at 0"
   pub smallest : checked-as (ascii "rules end") ≡ 0
@@ -46,10 +46,10 @@ pub record Trial-cases : Type 0 where
   pub filters-false : (f : File) (sp : Spots) (now : Store) (c : Clause) (g : Filter) → c .filter ≡ some g → clause-holds sp now (fresh f .previous) c ≡ false
   pub filter-false : lines-printed filtered "n p.down" ("1 true" ∷ "2 false" ∷ "3 true" ∷ []) ≡ row-printed "1 -" ∷ row-printed "2 -" ∷ row-printed "3 1" ∷ []
   -- "After names `n`, `1` is taken, `0` is 24, `01` is 21"
-  pub only-numbers : lines-printed pedal "n" ("0" ∷ "01" ∷ "1" ∷ []) ≡ refused-by 24 ∷ refused-by 21 ∷ row-printed "1 -" ∷ []
+  pub only-numbers : lines-printed pedal "n" ("0" ∷ "01" ∷ "1" ∷ []) ≡ refused-with 24 ∷ refused-with 21 ∷ row-printed "1 -" ∷ []
 
 pub trial-cases : Trial-cases
-unfolding pedal calling filtered lines-printed header-printed row-call-printed row-printed refused-by checked-as ascii
+unfolding pedal calling filtered lines-printed header-printed row-call-printed row-printed refused-with checked-as ascii
     Ieee.div Ieee.ofInt Ieee.toBits Ieee.isNan
 trial-cases = record {
   pedal-names = refl;

@@ -63,24 +63,24 @@ unfoldable pub header-printed : List ℕ → Printed
 unfolding printed-by header-call bench-memory
 header-printed text = let r = header-call (bench-memory text) (replicate ROW 0) in printed-by (r .answer) (r .row)
 
-unfoldable pub state-after : List ℕ → List After-line → List ℕ
-state-after m [] = m
-state-after m (r ∷ rs) = state-after (r .state) rs
+unfoldable pub memory-after : List ℕ → List After-line → List ℕ
+memory-after m [] = m
+memory-after m (r ∷ rs) = memory-after (r .state) rs
 
 -- the row call after these lines
 unfoldable pub row-call-printed : List ℕ → String → List String → Printed
-unfolding printed-by row-call replies bench-memory state-memory state-after asked ascii
+unfolding printed-by row-call replies bench-memory state-memory memory-after asked ascii
 row-call-printed text names values =
     let rs = replies (bench-memory text) (state-memory text) (map (asked (ascii names)) values) in
-    let r = row-call (bench-memory text) (state-after (state-memory text) rs) (replicate ROW 0) in
+    let r = row-call (bench-memory text) (memory-after (state-memory text) rs) (replicate ROW 0) in
     printed-by (r .answer) (r .row)
 
 unfoldable pub row-printed : String → Printed
 unfolding ascii
 row-printed s = record { number = 0; row = ascii s }
 
-unfoldable pub refused-by : ℕ → Printed
-refused-by code = record { number = code; row = [] }
+unfoldable pub refused-with : ℕ → Printed
+refused-with code = record { number = code; row = [] }
 
 unfoldable pub checked-as : List ℕ → ℕ
 unfolding check-call
