@@ -1,5 +1,5 @@
-"""The stored cases as statements about the definitions: crates/stored_texts/proofs/StoredTexts.antt and
-crates/replay_cases/proofs/StoredLines.antt.
+"""The stored cases as statements about the definitions: crates/stored_texts/proofs/theorems/StoredTexts.antt and
+crates/replay_cases/proofs/theorems/StoredLines.antt.
 
 cases.json holds texts and readings with what bench_oracle.py makes of them. Each statement says that the definitions compute the same,
 by `refl`. With no argument or `--check` it fails if the files differ, in more than layout, from what they should be; `--write` writes them.
@@ -15,15 +15,15 @@ CRATES = HERE.parent.parent / "crates"
 TEXTS = """-- Bench texts, accepted and refused by each code. Made by tests/oracle/to_antt.py from tests/oracle/cases.json.
 use Prim.Native.Nat.{_+_, _*_}
 use mathlib.Core.Path.{_≡_, refl}
-use Rattle.text.specs.Bytes.{ascii}
-use Rattle.checking.specs.Verdict.{verdict, verdict-answer}
+use Rattle.text.specs.definitions.Bytes.{ascii}
+use Rattle.checking.specs.definitions.Verdict.{verdict, verdict-answer}
 """
 
 LINES = """-- Readings, and all that is printed for them. Made by tests/oracle/to_antt.py from tests/oracle/cases.json.
 use mathlib.Core.Path.{_≡_, refl}
 use lib.Ieee as Ieee
-use Rattle.text.specs.Bytes.{ascii}
-use Rattle.replay.specs.Replay.{replay}
+use Rattle.text.specs.definitions.Bytes.{ascii}
+use Rattle.replay.specs.definitions.Replay.{replay}
 """
 
 REALS = "Ieee.add Ieee.sub Ieee.mul Ieee.div Ieee.neg Ieee.eq Ieee.ofInt Ieee.ofBits Ieee.toBits Ieee.isNan"
@@ -60,8 +60,8 @@ def main() -> int:
     texts = [case for case in cases if case["readings"] is None]
     runs = [case for case in cases if case["readings"] is not None]
     files = {
-        "stored_texts/proofs/StoredTexts.antt": file_of(TEXTS, texts, of_text, "verdict verdict-answer ascii"),
-        "replay_cases/proofs/StoredLines.antt": file_of(LINES, runs, of_readings, "replay ascii\n    " + REALS),
+        "stored_texts/proofs/theorems/StoredTexts.antt": file_of(TEXTS, texts, of_text, "verdict verdict-answer ascii"),
+        "replay_cases/proofs/theorems/StoredLines.antt": file_of(LINES, runs, of_readings, "replay ascii\n    " + REALS),
     }
     for name, text in files.items():
         path = CRATES / name

@@ -1,10 +1,10 @@
 // What a file declares, by the bytes of a name, which need not be a token's.
 ghost use Prim.Native.Nat.{_≤_};
 ghost use lib.ListN.{length, getElem?};
-ghost use Rattle.checking.specs.CountFaults.{MOST-INTERFACES, MOST-ENTITIES};
-ghost use Rattle.checking.specs.Directory.{NO-INTERFACE, NO-ENTITY, NO-MEMBER, interface-number, entity-number, member-number};
-ghost use Rattle.checking.specs.DirectoryReads.{Number-of, few-members};
-ghost use Rattle.checking.specs.Called.{First-called};
+ghost use Rattle.checking.specs.definitions.CountFaults.{MOST-INTERFACES, MOST-ENTITIES};
+ghost use Rattle.checking.specs.contracts.Directory.{NO-INTERFACE, NO-ENTITY, NO-MEMBER, interface-number, entity-number, member-number};
+ghost use Rattle.checking.specs.contracts.DirectoryReads.{Number-of, few-members};
+ghost use Rattle.checking.specs.contracts.Called.{First-called};
 use crate::layout::ENTITY_COUNT_ROW;
 use crate::layout::ENTITY_ROWS_32;
 use crate::layout::INTERFACE_COUNT_ROW;

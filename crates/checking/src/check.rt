@@ -1,11 +1,11 @@
 // The check of a text into columns and a directory.
 ghost use mathlib.Core.Path.{_≡_};
 ghost use lib.ListN.{take};
-ghost use Rattle.text.specs.TokenTable.{columns-of};
-ghost use Rattle.checking.specs.FoundFaults.{found-as};
-ghost use Rattle.checking.specs.FileWalk.{Rules-found, File-found, or-else, Judged};
-ghost use Rattle.checking.specs.CheckedBench.{Checks};
-ghost use Rattle.checking.specs.CheckSteps.{concluded, Refuses, Settles};
+ghost use Rattle.text.specs.contracts.TokenTable.{columns-of};
+ghost use Rattle.checking.specs.contracts.FoundFaults.{found-as};
+ghost use Rattle.checking.specs.contracts.FileWalk.{Rules-found, File-found, or-else, Judged};
+ghost use Rattle.checking.specs.contracts.CheckedBench.{Checks};
+ghost use Rattle.checking.specs.contracts.CheckSteps.{concluded, Refuses, Settles};
 use crate::counts::count_fault;
 use crate::directory::build;
 use crate::entities::entity_faults;

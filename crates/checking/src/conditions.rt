@@ -1,10 +1,10 @@
 // Names and kinds of conditions and calls.
-ghost use Rattle.text.specs.Readers.{many};
-ghost use Rattle.text.specs.Tokens.{COMMA};
-ghost use Rattle.text.specs.Grammar.{target-reader, filter-reader, test-reader, clause-reader, atom-reader, conjunction-reader, condition-reader};
-ghost use Rattle.text.specs.Grammar.{call-reader, call-after};
-ghost use Rattle.checking.specs.RuleParts.{Nothing-found, Matched, After, Joined, Place-walk, Filter-walk, Test-walk, Condition-walk};
-ghost use Rattle.checking.specs.RuleParts.{Call-walk, Calls-walk};
+ghost use Rattle.text.specs.definitions.Readers.{many};
+ghost use Rattle.text.specs.definitions.Tokens.{COMMA};
+ghost use Rattle.text.specs.definitions.Grammar.{target-reader, filter-reader, test-reader, clause-reader, atom-reader, conjunction-reader, condition-reader};
+ghost use Rattle.text.specs.definitions.Grammar.{call-reader, call-after};
+ghost use Rattle.checking.specs.contracts.RuleParts.{Nothing-found, Matched, After, Joined, Place-walk, Filter-walk, Test-walk, Condition-walk};
+ghost use Rattle.checking.specs.contracts.RuleParts.{Call-walk, Calls-walk};
 use crate::expressions::Kinded;
 use crate::expressions::OPENERS;
 use crate::expressions::expression;

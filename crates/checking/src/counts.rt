@@ -3,19 +3,11 @@
 ghost use mathlib.Core.Path.{_≡_};
 ghost use Prim.Native.Nat.{_-_};
 ghost use lib.ListN.{length};
-ghost use Rattle.checking.specs.Faults.{earliest};
-ghost use Rattle.checking.specs.FoundFaults.{found-as};
-ghost use Rattle.checking.specs.CountFaults.{
-  MOST-INTERFACES,
-  MOST-MEMBERS,
-  MOST-ENTITIES,
-  MOST-RULES,
-  MOST-VARIABLES,
-  MOST-CLAUSES,
-  MOST-CALLS,
-};
-ghost use Rattle.checking.specs.CountScan.{past, declared-scan, ruled-scan};
-ghost use Rattle.checking.specs.CountChecked.{Count-checked};
+ghost use Rattle.checking.specs.definitions.Faults.{earliest};
+ghost use Rattle.checking.specs.contracts.FoundFaults.{found-as};
+ghost use Rattle.checking.specs.definitions.CountFaults.{MOST-INTERFACES, MOST-MEMBERS, MOST-ENTITIES, MOST-RULES, MOST-VARIABLES, MOST-CLAUSES, MOST-CALLS};
+ghost use Rattle.checking.specs.contracts.CountScan.{past, declared-scan, ruled-scan};
+ghost use Rattle.checking.specs.contracts.CountChecked.{Count-checked};
 use crate::faults::Found;
 use crate::faults::earlier;
 use crate::layout::MOST_CALLS;

@@ -1,8 +1,8 @@
 // The directory of a file: where its interfaces, their members, its entities and its rules begin, by scans of the classes.
 ghost use mathlib.Core.Path.{_≡_};
 ghost use lib.ListN.{set};
-ghost use Rattle.checking.specs.TokenPlaces.{Marked, Members-marked};
-ghost use Rattle.checking.specs.DirectoryItems.{Directory-built};
+ghost use Rattle.checking.specs.contracts.TokenPlaces.{Marked, Members-marked};
+ghost use Rattle.checking.specs.contracts.DirectoryItems.{Directory-built};
 use crate::layout::DIRECTORY;
 use crate::layout::ENTITY_COUNT_ROW;
 use crate::layout::ENTITY_ROWS_16;

@@ -1,7 +1,7 @@
 // What a walk of the check finds: nothing, or the earliest fault.
 ghost use mathlib.Core.Path.{_≡_};
-ghost use Rattle.checking.specs.Faults.{fault-unless, earliest};
-ghost use Rattle.checking.specs.FoundFaults.{found-as, merged};
+ghost use Rattle.checking.specs.definitions.Faults.{fault-unless, earliest};
+ghost use Rattle.checking.specs.contracts.FoundFaults.{found-as, merged};
 
 // The earliest fault of a part of the file, if it has one: a refusal's code, and the offset.
 pub enum Found {

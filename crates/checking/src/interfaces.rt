@@ -1,5 +1,5 @@
 // The interfaces of a file: the faults of their names and of their members' names.
-ghost use Rattle.checking.specs.DeclarationWalk.{Repeated-rows, Interfaces-found};
+ghost use Rattle.checking.specs.contracts.DeclarationWalk.{Repeated-rows, Interfaces-found};
 use crate::faults::Found;
 use crate::faults::earlier;
 use crate::faults::unless;

@@ -1,7 +1,7 @@
 // The names of a text's entities by their numbers.
 ghost use mathlib.Core.Path.{_≡_};
-ghost use Rattle.checking.specs.Verdict.{entity-name};
-ghost use Rattle.checking.specs.CheckSteps.{Names-entity};
+ghost use Rattle.checking.specs.definitions.Verdict.{entity-name};
+ghost use Rattle.checking.specs.contracts.CheckSteps.{Names-entity};
 use crate::check::Checked;
 use crate::check::check;
 use crate::layout::DIRECTORY;

@@ -3,20 +3,8 @@ ghost use mathlib.Core.Path.{_≡_};
 ghost use Prim.Native.Nat.{_+_, _*_, _≤_};
 ghost use lib.Dec.{leb};
 ghost use lib.ListN.{length, set};
-ghost use Rattle.checking.specs.Resolving.{
-  Variable-reference,
-  Referred,
-  Owner-of,
-  Member-of,
-  Row-resolved,
-  Names-resolved,
-  Declaration-number,
-  present,
-  Interface-at,
-  Variables-held,
-  Scopes-resolved,
-};
-ghost use Rattle.checking.specs.Resolution.{scope-row, ALL-SCOPE-ROWS, Resolves};
+ghost use Rattle.checking.specs.contracts.Resolving.{Variable-reference, Referred, Owner-of, Member-of, Row-resolved, Names-resolved, Declaration-number, present, Interface-at, Variables-held, Scopes-resolved};
+ghost use Rattle.checking.specs.contracts.Resolution.{scope-row, ALL-SCOPE-ROWS, Resolves};
 use crate::layout::FIRST_VARIABLE_16;
 use crate::layout::MOST_MEMBERS_16;
 use crate::layout::MOST_RULES_8;

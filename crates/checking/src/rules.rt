@@ -1,5 +1,5 @@
 // Names and kinds of a rule.
-ghost use Rattle.checking.specs.RuleWalk.{Rule-faults};
+ghost use Rattle.checking.specs.contracts.RuleWalk.{Rule-faults};
 use crate::conditions::call;
 use crate::conditions::condition;
 use crate::conditions::further_calls;

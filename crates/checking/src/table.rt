@@ -2,11 +2,11 @@
 ghost use mathlib.Core.Path.{_≡_};
 ghost use Prim.Native.Nat.{_<_, _≤_};
 ghost use lib.ListN.{length, getD, getElem?};
-ghost use Rattle.values.specs.Bytes.{same-bytes};
-ghost use Rattle.checking.specs.CountFaults.{MOST-INTERFACES, MOST-ENTITIES};
-ghost use Rattle.checking.specs.Directory.{name-in, sort-class, kind-class, NO-INTERFACE, NO-ENTITY, NO-MEMBER, interface-number, entity-number, member-number};
-ghost use Rattle.checking.specs.ClassSearch.{First-of};
-ghost use Rattle.checking.specs.DirectoryReads.{First-named, Number-of, Member-row, Member-class, few-members};
+ghost use Rattle.values.specs.definitions.Bytes.{same-bytes};
+ghost use Rattle.checking.specs.definitions.CountFaults.{MOST-INTERFACES, MOST-ENTITIES};
+ghost use Rattle.checking.specs.contracts.Directory.{name-in, sort-class, kind-class, NO-INTERFACE, NO-ENTITY, NO-MEMBER, interface-number, entity-number, member-number};
+ghost use Rattle.checking.specs.contracts.ClassSearch.{First-of};
+ghost use Rattle.checking.specs.contracts.DirectoryReads.{First-named, Number-of, Member-row, Member-class, few-members};
 use crate::layout::ENTITY_COUNT_ROW;
 use crate::layout::ENTITY_ROWS_32;
 use crate::layout::INTERFACE_COUNT_ROW;

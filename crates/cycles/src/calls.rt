@@ -1,11 +1,11 @@
 // The writes of a rule at one binding: of each of its calls, if its condition holds.
 ghost use Prim.Native.Nat.{_≤_};
 ghost use lib.ListN.{length};
-ghost use Rattle.text.specs.Tokens.{COMMA};
-ghost use Rattle.text.specs.Readers.{many};
-ghost use Rattle.text.specs.Grammar.{call-reader, call-after};
-ghost use Rattle.cycles.specs.Evaluation.{Call-walk, Calls-walk, Rule-puts};
-ghost use Rattle.cycles.specs.StateImage.{MOST-CELL-BYTES};
+ghost use Rattle.text.specs.definitions.Tokens.{COMMA};
+ghost use Rattle.text.specs.definitions.Readers.{many};
+ghost use Rattle.text.specs.definitions.Grammar.{call-reader, call-after};
+ghost use Rattle.cycles.specs.contracts.Evaluation.{Call-walk, Calls-walk, Rule-puts};
+ghost use Rattle.cycles.specs.definitions.StateImage.{MOST-CELL-BYTES};
 use crate::conditions::both;
 use crate::conditions::condition;
 use crate::conditions::filter;

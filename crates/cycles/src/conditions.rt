@@ -1,8 +1,8 @@
 // Whether a condition holds in a store and the one before it, by a walk over its tokens.
 ghost use mathlib.Core.Path.{_≡_};
 ghost use mathlib.Core.Bool.{_&&_, _||_};
-ghost use Rattle.text.specs.Grammar.{filter-reader, test-reader, clause-reader, atom-reader, conjunction-reader, condition-reader};
-ghost use Rattle.cycles.specs.Evaluation.{Target-walk, Filter-walk, Test-walk, Condition-walk};
+ghost use Rattle.text.specs.definitions.Grammar.{filter-reader, test-reader, clause-reader, atom-reader, conjunction-reader, condition-reader};
+ghost use Rattle.cycles.specs.contracts.Evaluation.{Target-walk, Filter-walk, Test-walk, Condition-walk};
 use crate::evaluate::Binding;
 use crate::evaluate::bound;
 use crate::evaluate::is_present_at;

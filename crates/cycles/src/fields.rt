@@ -2,8 +2,8 @@
 ghost use mathlib.Core.Path.{_≡_};
 ghost use Prim.Native.Nat.{_≤_};
 ghost use lib.ListN.{length};
-ghost use Rattle.cycles.specs.Fields.{fields, has-byte};
-ghost use Rattle.cycles.specs.FieldReads.{Field-start, first-size};
+ghost use Rattle.cycles.specs.definitions.Fields.{fields, has-byte};
+ghost use Rattle.cycles.specs.contracts.FieldReads.{Field-start, first-size};
 
 // Where the field that ends at `end` starts; fields stand between bytes `mark`.
 pub fn field_start(line: &[u8], end: usize, mark: u8) -> usize

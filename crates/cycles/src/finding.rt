@@ -2,11 +2,11 @@
 ghost use Prim.Native.Nat.{_+_, _<_, _≤_};
 ghost use mathlib.Core.Path.{_≡_};
 ghost use lib.ListN.{length};
-ghost use Rattle.text.specs.Syntax.{OPENERS};
-ghost use Rattle.text.specs.Grammar.{clause-reader, atom-reader, conjunction-reader};
-ghost use Rattle.checking.specs.CountFaults.{MOST-VARIABLES};
-ghost use Rattle.cycles.specs.Guards.{ALL-GUARD-ROWS, Covered, Guards-found};
-ghost use Rattle.cycles.specs.Finding.{Guard-put, Part-put, Filter-guards-walk, Test-guards-walk, Condition-guards-walk, Call-guarded};
+ghost use Rattle.text.specs.definitions.Syntax.{OPENERS};
+ghost use Rattle.text.specs.definitions.Grammar.{clause-reader, atom-reader, conjunction-reader};
+ghost use Rattle.checking.specs.definitions.CountFaults.{MOST-VARIABLES};
+ghost use Rattle.cycles.specs.contracts.Guards.{ALL-GUARD-ROWS, Covered, Guards-found};
+ghost use Rattle.cycles.specs.contracts.Finding.{Guard-put, Part-put, Filter-guards-walk, Test-guards-walk, Condition-guards-walk, Call-guarded};
 use crate::conditions::target_end;
 use crate::evaluate::owner;
 use crate::layout::GUARD_ROWS;

@@ -2,8 +2,8 @@
 ghost use Prim.Native.Nat.{_+_, _≤_};
 ghost use mathlib.Core.Path.{_≡_};
 ghost use lib.ListN.{length, getD};
-ghost use Rattle.cycles.specs.Guards.{Narrowed};
-ghost use Rattle.cycles.specs.Failing.{Marks-taken, Cell-fails, Value-fails, Unchanged, Group-fails, Guard-fails};
+ghost use Rattle.cycles.specs.contracts.Guards.{Narrowed};
+ghost use Rattle.cycles.specs.contracts.Failing.{Marks-taken, Cell-fails, Value-fails, Unchanged, Group-fails, Guard-fails};
 use crate::conditions::atom;
 use crate::evaluate::Binding;
 use crate::evaluate::bound;

@@ -2,10 +2,10 @@
 ghost use mathlib.Core.Path.{_≡_};
 ghost use Prim.Native.Nat.{_≤_};
 ghost use lib.ListN.{length};
-ghost use Rattle.checking.specs.Scope.{entity-named};
-ghost use Rattle.cycles.specs.Fields.{split};
-ghost use Rattle.cycles.specs.Header.{column-of-entity, column};
-ghost use Rattle.cycles.specs.HeaderReads.{Column-read, backwards, is-number-among, Header-read, MOST-COLUMNS};
+ghost use Rattle.checking.specs.definitions.Scope.{entity-named};
+ghost use Rattle.cycles.specs.definitions.Fields.{split};
+ghost use Rattle.cycles.specs.definitions.Header.{column-of-entity, column};
+ghost use Rattle.cycles.specs.contracts.HeaderReads.{Column-read, backwards, is-number-among, Header-read, MOST-COLUMNS};
 use crate::fields::field_start;
 use crate::layout::ENTITY_COLUMNS;
 use crate::layout::MOST_HEADER_BYTES;

@@ -2,9 +2,9 @@
 ghost use mathlib.Core.Path.{_≡_};
 ghost use Prim.Native.Nat.{_*_, _+_, _≤_, _<_};
 ghost use lib.ListN.{length};
-ghost use Rattle.cycles.specs.Line.{in-turn};
-ghost use Rattle.cycles.specs.StateImage.{CELL-BYTES, ENTITY-CELLS, ENTITY-CELL-BYTES, each};
-ghost use Rattle.cycles.specs.Judging.{present-by, takes-cell, same-memory, Judged};
+ghost use Rattle.cycles.specs.definitions.Line.{in-turn};
+ghost use Rattle.cycles.specs.definitions.StateImage.{CELL-BYTES, ENTITY-CELLS, ENTITY-CELL-BYTES, each};
+ghost use Rattle.cycles.specs.contracts.Judging.{present-by, takes-cell, same-memory, Judged};
 use crate::layout::CELL_BYTES;
 use crate::layout::ENTITY_CELL_BYTES;
 use crate::layout::ENTITY_CELLS;

@@ -18,7 +18,7 @@ mod record; // the values of a line
 pub mod rows; // rows of fired actions, and their header
 
 ghost use mathlib.Core.Path.{_≡_};
-ghost use Rattle.cycles.specs.StateImage.{STATE};
+ghost use Rattle.cycles.specs.definitions.StateImage.{STATE};
 pub use bindings::all_rules;
 pub use calls::rule_at;
 pub use conditions::Holding;

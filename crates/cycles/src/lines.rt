@@ -1,10 +1,10 @@
 // A record under a header that is read: a number and inputs in lent memory, or a refusal.
 ghost use Prim.Native.Nat.{ℕ, _≤_, _<_};
 ghost use lib.ListN.{length, getD};
-ghost use Rattle.checking.specs.CountFaults.{MOST-ENTITIES};
-ghost use Rattle.cycles.specs.HeaderReads.{NO-COLUMN};
-ghost use Rattle.cycles.specs.LineReads.{Record-read};
-ghost use Rattle.cycles.specs.StateImage.{MOST-CELL-BYTES};
+ghost use Rattle.checking.specs.definitions.CountFaults.{MOST-ENTITIES};
+ghost use Rattle.cycles.specs.contracts.HeaderReads.{NO-COLUMN};
+ghost use Rattle.cycles.specs.contracts.LineReads.{Record-read};
+ghost use Rattle.cycles.specs.definitions.StateImage.{MOST-CELL-BYTES};
 use crate::layout::ENTITY_CELLS;
 use crate::record::clear_cells;
 use crate::record::clear_flags;

@@ -1,13 +1,3 @@
-pub mod BenchLaws
-pub mod LeavesLaws
-pub mod ImageRoundTrip
-pub mod Replies
-pub mod CallLaws
-pub mod RunLaws
-pub mod NumberLaws
-pub mod CheckLaws
-pub mod FollowsLaws
-pub mod Demands
-pub mod LineLaws
-pub mod ServingLaws
-pub mod EntryLaws
+pub mod laws
+pub mod theorems
+pub mod steps

@@ -1,8 +1,2 @@
-pub mod BenchImage
-pub mod Calls
-pub mod Runs
-pub mod DemandOne
-pub mod DemandTwo
-pub mod DemandThree
-pub mod LineMemory
-pub mod Serving
+pub mod definitions
+pub mod contracts

@@ -2,8 +2,8 @@
 ghost use mathlib.Core.Path.{_≡_};
 ghost use Prim.Native.Nat.{_≤_};
 ghost use lib.ListN.{length};
-ghost use Rattle.checking.specs.Verdict.{MOST-BYTES};
-ghost use Rattle.engine.specs.BenchImage.{BENCH, with-bench, text-in};
+ghost use Rattle.checking.specs.definitions.Verdict.{MOST-BYTES};
+ghost use Rattle.engine.specs.definitions.BenchImage.{BENCH, with-bench, text-in};
 use checking::layout::MOST_BYTES;
 use cycles::layout::NUMBER_BYTES;
 use values::put_bytes;

@@ -6,7 +6,7 @@ pub mod bench; // the bench image
 pub mod line; // a line on a checked bench
 pub mod serve; // a call on a bench's text
 
-ghost use Rattle.engine.specs.Calls.{Check-contract, Fresh-contract, Line-contract, Header-contract, Row-contract};
+ghost use Rattle.engine.specs.definitions.Calls.{Check-contract, Fresh-contract, Line-contract, Header-contract, Row-contract};
 use bench::text_of;
 use checking::layout::MOST_BYTES;
 use cycles::layout::MOST_ROW_BYTES;

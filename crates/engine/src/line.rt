@@ -1,11 +1,11 @@
 // A line on a checked bench whose rules' names are resolved.
 ghost use Prim.Native.Nat.{ℕ, _≤_, _<_};
 ghost use lib.ListN.{length, getD};
-ghost use Rattle.checking.specs.CountFaults.{MOST-ENTITIES};
-ghost use Rattle.cycles.specs.StateImage.{MOST-CELL-BYTES, STATE};
-ghost use Rattle.cycles.specs.HeaderReads.{NO-COLUMN};
-ghost use Rattle.engine.specs.Calls.{ROW};
-ghost use Rattle.engine.specs.LineMemory.{Shown, Settled, Record-taken, Line-taken};
+ghost use Rattle.checking.specs.definitions.CountFaults.{MOST-ENTITIES};
+ghost use Rattle.cycles.specs.definitions.StateImage.{MOST-CELL-BYTES, STATE};
+ghost use Rattle.cycles.specs.contracts.HeaderReads.{NO-COLUMN};
+ghost use Rattle.engine.specs.definitions.Calls.{ROW};
+ghost use Rattle.engine.specs.contracts.LineMemory.{Shown, Settled, Record-taken, Line-taken};
 use checking::layout::ENTITY_COUNT_ROW;
 use checking::layout::MOST_ENTITIES;
 use cycles::cycle::cycle;

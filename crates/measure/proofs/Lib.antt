@@ -1,1 +1,1 @@
-pub mod MeasuredLaws
+pub mod steps

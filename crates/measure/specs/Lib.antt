@@ -1,1 +1,1 @@
-pub mod Measured
+pub mod contracts

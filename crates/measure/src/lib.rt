@@ -4,8 +4,8 @@
 // of the engine answers: 11 comes before 31, and a file has the count of its tokens above its 0.
 ghost use mathlib.Core.Path.{_≡_};
 ghost use Prim.Native.Nat.{_+_, _*_, _≤_, _<_};
-ghost use Rattle.text.specs.TokenTable.{columns-of};
-ghost use Rattle.measure.specs.Measured.{syntax-number, Measures};
+ghost use Rattle.text.specs.contracts.TokenTable.{columns-of};
+ghost use Rattle.measure.specs.contracts.Measured.{syntax-number, Measures};
 use text::Syntax;
 use text::read;
 

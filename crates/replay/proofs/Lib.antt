@@ -1,7 +1,3 @@
-pub mod AwaitingLaws
-pub mod GatheringLaws
-pub mod FeedingLaws
-pub mod TakenLaws
-pub mod LineLaws
-pub mod StartLaws
-pub mod Replayed
+pub mod laws
+pub mod theorems
+pub mod steps

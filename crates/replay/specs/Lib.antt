@@ -1,4 +1,2 @@
-pub mod Replay
-pub mod Awaiting
-pub mod Feeding
-pub mod InChunks
+pub mod definitions
+pub mod contracts

@@ -1,7 +1,7 @@
 // A line over chunks.
 ghost use Prim.Native.Nat.{_≤_};
 ghost use lib.ListN.{length};
-ghost use Rattle.replay.specs.Feeding.{Gathers};
+ghost use Rattle.replay.specs.contracts.Feeding.{Gathers};
 
 // The line ends before `end`, or the chunk does; `kept` bytes of it wait.
 pub struct Gathered {

@@ -3,12 +3,12 @@
 ghost use Prim.Native.Nat.{_+_, _≤_};
 ghost use mathlib.Core.List.{[], _∷_, _++_};
 ghost use lib.ListN.{length};
-ghost use Rattle.cycles.specs.HeaderReads.{MOST-COLUMNS};
-ghost use Rattle.cycles.specs.StateImage.{STATE};
-ghost use Rattle.cycles.specs.StateMemory.{Put};
-ghost use Rattle.replay.specs.Replay.{refusal, bench-refusal};
-ghost use Rattle.replay.specs.Awaiting.{bench-memory, Stood};
-ghost use Rattle.replay.specs.Feeding.{ROOM, Line-put};
+ghost use Rattle.cycles.specs.contracts.HeaderReads.{MOST-COLUMNS};
+ghost use Rattle.cycles.specs.definitions.StateImage.{STATE};
+ghost use Rattle.cycles.specs.contracts.StateMemory.{Put};
+ghost use Rattle.replay.specs.definitions.Replay.{refusal, bench-refusal};
+ghost use Rattle.replay.specs.contracts.Awaiting.{bench-memory, Stood};
+ghost use Rattle.replay.specs.contracts.Feeding.{ROOM, Line-put};
 ghost use Rattle.replay.specs.declared.Stage.the-variants.{Names, Values};
 use crate::Stage;
 use cycles::header::read_header;

@@ -1,2 +1,1 @@
-pub mod ReplayCases
-pub mod StoredLines
+pub mod theorems

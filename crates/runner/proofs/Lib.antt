@@ -1,1 +1,1 @@
-pub mod PassingLaws
+pub mod steps

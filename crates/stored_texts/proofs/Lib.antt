@@ -1,1 +1,1 @@
-pub mod StoredTexts
+pub mod theorems

@@ -1,14 +1,2 @@
-pub mod Bytes
-pub mod Tokens
-pub mod Syntax
-pub mod Readers
-pub mod Grammar
-pub mod Parse
-pub mod Answers
-pub mod EnumAnswers
-pub mod TokenTable
-pub mod ParseAnswers
-pub mod Walks
-pub mod Language
-pub mod Viable
-pub mod Syntaxes
+pub mod definitions
+pub mod contracts

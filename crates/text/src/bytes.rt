@@ -2,8 +2,8 @@
 ghost use mathlib.Core.Path.{_≡_};
 ghost use mathlib.Core.List.{[], _∷_};
 ghost use mathlib.Core.Option.{Option·getD};
-ghost use Rattle.text.specs.Bytes.{between, is-letter, is-digit, is-name-byte, is-blank, is-comment-byte};
-ghost use Rattle.text.specs.Tokens.{class-in, marks, NAME};
+ghost use Rattle.text.specs.definitions.Bytes.{between, is-letter, is-digit, is-name-byte, is-blank, is-comment-byte};
+ghost use Rattle.text.specs.definitions.Tokens.{class-in, marks, NAME};
 use crate::classes;
 
 // Is the byte one of low to high?

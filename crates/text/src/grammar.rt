@@ -2,15 +2,15 @@
 // reading ended, and a refused one stays refused, so that a sequence needs no tests.
 ghost use mathlib.Core.Path.{_≡_};
 ghost use mathlib.Core.Bool.{Bool};
-ghost use Rattle.text.specs.Tokens.{Token, NAME, INTERFACE, ACTION, ENTITY, WHEN, COMMA};
-ghost use Rattle.text.specs.Syntax.{Sort};
-ghost use Rattle.text.specs.Readers.{give, expect, many};
-ghost use Rattle.text.specs.Grammar.{kind-reader, member-after, action-after, interface-after, number-reader, literal-reader};
-ghost use Rattle.text.specs.Grammar.{assignment-after, entity-after, member-reader, factor-reader, opener-reader, term-reader};
-ghost use Rattle.text.specs.Grammar.{expression-reader, target-reader, filter-reader, test-reader, clause-reader, atom-reader};
-ghost use Rattle.text.specs.Grammar.{conjunction-reader, condition-reader, call-reader, call-after, rule-after, file-reader};
-ghost use Rattle.text.specs.ParseAnswers.{Reads-as, any-token, refused-at, Parses-as};
-ghost use Rattle.text.specs.ParseAnswers.{classes-from, first-class, first-passes, is-class, is-either, is-unsigned};
+ghost use Rattle.text.specs.definitions.Tokens.{Token, NAME, INTERFACE, ACTION, ENTITY, WHEN, COMMA};
+ghost use Rattle.text.specs.definitions.Syntax.{Sort};
+ghost use Rattle.text.specs.definitions.Readers.{give, expect, many};
+ghost use Rattle.text.specs.definitions.Grammar.{kind-reader, member-after, action-after, interface-after, number-reader, literal-reader};
+ghost use Rattle.text.specs.definitions.Grammar.{assignment-after, entity-after, member-reader, factor-reader, opener-reader, term-reader};
+ghost use Rattle.text.specs.definitions.Grammar.{expression-reader, target-reader, filter-reader, test-reader, clause-reader, atom-reader};
+ghost use Rattle.text.specs.definitions.Grammar.{conjunction-reader, condition-reader, call-reader, call-after, rule-after, file-reader};
+ghost use Rattle.text.specs.contracts.ParseAnswers.{Reads-as, any-token, refused-at, Parses-as};
+ghost use Rattle.text.specs.contracts.ParseAnswers.{classes-from, first-class, first-passes, is-class, is-either, is-unsigned};
 use crate::classes::ACTION;
 use crate::classes::AND;
 use crate::classes::ATTRIBUTE;

@@ -1,7 +1,7 @@
 // A text with an offset in it, from which items are taken one after another. The borrow checker covers no function over a struct that holds a
 // slice, so those are few and thin and proved by hand: each takes the struct apart and calls a function of `tokens`. Others call `item_at`.
 ghost use mathlib.Core.Path.{_≡_};
-ghost use Rattle.text.specs.TokenTable.{token-at, offset-after};
+ghost use Rattle.text.specs.contracts.TokenTable.{token-at, offset-after};
 use crate::Item;
 use crate::tokens::offset_after;
 use crate::tokens::token_at;

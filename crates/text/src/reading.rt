@@ -1,7 +1,7 @@
 // A text read into lent columns: its tokens, and whether they are a file.
 ghost use mathlib.Core.Path.{_≡_};
-ghost use Rattle.text.specs.TokenTable.{columns-of};
-ghost use Rattle.text.specs.Syntaxes.{Reads-text, Has-rows, Settles};
+ghost use Rattle.text.specs.contracts.TokenTable.{columns-of};
+ghost use Rattle.text.specs.contracts.Syntaxes.{Reads-text, Has-rows, Settles};
 use crate::Lexed;
 use crate::grammar::Parsing;
 use crate::grammar::parse;

@@ -1,2 +1,2 @@
-pub mod FirstCycle
-pub mod TrialCases
+pub mod laws
+pub mod theorems

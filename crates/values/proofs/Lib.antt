@@ -1,10 +1,2 @@
-pub mod Variants
-pub mod WholeLaws
-pub mod RealLaws
-pub mod ByteLaws
-pub mod DigitLaws
-pub mod StorableLaws
-pub mod FittingLaws
-pub mod CellLaws
-pub mod FormLaws
-pub mod PrintedReadsBack
+pub mod laws
+pub mod theorems

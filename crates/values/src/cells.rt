@@ -2,8 +2,8 @@
 ghost use mathlib.Core.Path.{_≡_};
 ghost use Prim.Native.Nat.{_+_, _*_, _≤_};
 ghost use lib.ListN.{length};
-ghost use Rattle.values.specs.Storable.{of-kind};
-ghost use Rattle.values.specs.Cells.{tag, payload, finite-bits, unpacked, cell-at, with-cell, identical};
+ghost use Rattle.values.specs.definitions.Storable.{of-kind};
+ghost use Rattle.values.specs.definitions.Cells.{tag, payload, finite-bits, unpacked, cell-at, with-cell, identical};
 use crate::Kind;
 use crate::Value;
 use crate::slices::put_word;

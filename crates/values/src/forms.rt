@@ -2,9 +2,9 @@
 ghost use mathlib.Core.Path.{_≡_};
 ghost use Prim.Native.Nat.{_+_, _≤_, _<_};
 ghost use lib.ListN.{length, drop};
-ghost use Rattle.values.specs.Bytes.{overwritten};
-ghost use Rattle.values.specs.Forms.{digit-byte, digit-of, decimal-digits, hexadecimal, scanned, decimal, whole-text, printed, magnitude};
-ghost use Rattle.values.specs.Forms.{unsigned-whole, negative-whole, whole-field, truth-field, finite-real, real-field, event-field, presence-field};
+ghost use Rattle.values.specs.definitions.Bytes.{overwritten};
+ghost use Rattle.values.specs.definitions.Forms.{digit-byte, digit-of, decimal-digits, hexadecimal, scanned, decimal, whole-text, printed, magnitude};
+ghost use Rattle.values.specs.definitions.Forms.{unsigned-whole, negative-whole, whole-field, truth-field, finite-real, real-field, event-field, presence-field};
 use crate::Field;
 use crate::Kind;
 use crate::Number;

@@ -1,6 +1,6 @@
 // Operators and comparisons. A result that no cell holds is unset.
 ghost use mathlib.Core.Path.{_≡_};
-ghost use Rattle.values.specs.Value.{is-set, fitted, settled, whole-op, real-op, operated, negated, as-real, equal, differ};
+ghost use Rattle.values.specs.definitions.Value.{is-set, fitted, settled, whole-op, real-op, operated, negated, as-real, equal, differ};
 use crate::Operator;
 use crate::Value;
 use crate::cells::finite_bits;

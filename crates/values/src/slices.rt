@@ -2,7 +2,7 @@
 ghost use mathlib.Core.Path.{_≡_};
 ghost use Prim.Native.Nat.{_+_, _≤_, _<_};
 ghost use lib.ListN.{length};
-ghost use Rattle.values.specs.Bytes.{same-bytes, word-at, low-first, overwritten};
+ghost use Rattle.values.specs.definitions.Bytes.{same-bytes, word-at, low-first, overwritten};
 
 pub fn wide(b: u8) -> u64
     ensures { λ r. ⌜ (r ≡ b) × (r < 256) ⌝ }

@@ -1,4 +1,4 @@
-use Rattle.engine.proofs.EntryLaws.{check-short, check-served}
+use Rattle.engine.proofs.steps.EntryLaws.{check-short, check-served}
 use borrow.Author.Needs.{needs}
 use Rattle.engine.proofs.bench_check.Statement.{statement}
 use Rattle.engine.proofs.bench_check.Tie as tie

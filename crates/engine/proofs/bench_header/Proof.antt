@@ -1,4 +1,4 @@
-use Rattle.engine.proofs.EntryLaws.{header-no-bench, header-short, header-served}
+use Rattle.engine.proofs.steps.EntryLaws.{header-no-bench, header-short, header-served}
 use borrow.Author.Needs.{needs}
 use Rattle.engine.proofs.bench_header.Statement.{statement}
 use Rattle.engine.proofs.bench_header.Tie as tie

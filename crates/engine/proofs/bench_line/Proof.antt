@@ -1,4 +1,4 @@
-use Rattle.engine.proofs.EntryLaws.{line-no-bench, line-no-state, line-short, line-served}
+use Rattle.engine.proofs.steps.EntryLaws.{line-no-bench, line-no-state, line-short, line-served}
 use borrow.Author.Needs.{needs}
 use Rattle.engine.proofs.bench_line.Statement.{statement}
 use Rattle.engine.proofs.bench_line.Tie as tie

@@ -1,4 +1,4 @@
-use Rattle.engine.proofs.EntryLaws.{row-no-bench, row-no-state, row-short, row-served}
+use Rattle.engine.proofs.steps.EntryLaws.{row-no-bench, row-no-state, row-short, row-served}
 use borrow.Author.Needs.{needs}
 use Rattle.engine.proofs.bench_row.Statement.{statement}
 use Rattle.engine.proofs.bench_row.Tie as tie

@@ -1,4 +1,4 @@
-use Rattle.engine.proofs.EntryLaws.{fresh-no-bench, fresh-short, fresh-served}
+use Rattle.engine.proofs.steps.EntryLaws.{fresh-no-bench, fresh-short, fresh-served}
 use borrow.Author.Needs.{needs}
 use Rattle.engine.proofs.state_fresh.Statement.{statement}
 use Rattle.engine.proofs.state_fresh.Tie as tie

@@ -1,5 +1,5 @@
 -- `measure_text` meets its contract: the answer of `read`, which fits one number.
-use Rattle.measure.proofs.MeasuredLaws.{answer-fits, measured}
+use Rattle.measure.proofs.steps.MeasuredLaws.{answer-fits, measured}
 use borrow.Author.Needs.{needs}
 use Rattle.measure.proofs.measure_text.Statement.{statement}
 use Rattle.measure.proofs.measure_text.Tie as tie

@@ -1,7 +1,7 @@
 -- `number` meets its contract: each answer's code, and the number above it.
 use native.Mathlib.Omega.{arith}
-use Rattle.measure.specs.Measured.{syntax-number}
-use Rattle.measure.proofs.MeasuredLaws.{fits-as}
+use Rattle.measure.specs.contracts.Measured.{syntax-number}
+use Rattle.measure.proofs.steps.MeasuredLaws.{fits-as}
 use borrow.Author.Needs.{needs}
 use Rattle.measure.proofs.number.Statement.{statement}
 use Rattle.measure.proofs.number.Tie as tie

@@ -3,9 +3,9 @@ use Prim.Native.Nat.{_-_, _<_}
 use native.Mathlib.Omega.{arith}
 use mathlib.Core.Path.{_≡_, refl, _∙_}
 use lib.ListN.{length}
-use Rattle.replay.specs.Awaiting.{bench-memory}
-use Rattle.replay.specs.Feeding.{Feeding}
-use Rattle.replay.proofs.FeedingLaws.{feeding-starts, feeding-waits, feeding-put}
+use Rattle.replay.specs.contracts.Awaiting.{bench-memory}
+use Rattle.replay.specs.contracts.Feeding.{Feeding}
+use Rattle.replay.proofs.steps.FeedingLaws.{feeding-starts, feeding-waits, feeding-put}
 use borrow.Author.Needs.{needs}
 use Rattle.replay.proofs.feed.Statement.{statement}
 use Rattle.replay.proofs.feed.Tie as tie

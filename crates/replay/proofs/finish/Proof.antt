@@ -1,7 +1,7 @@
 -- `finish` meets its contract.
 use native.Mathlib.Omega.{arith}
 use mathlib.Core.Path.{sym, _∙_}
-use Rattle.replay.proofs.FeedingLaws.{none-finished, last-finished}
+use Rattle.replay.proofs.steps.FeedingLaws.{none-finished, last-finished}
 use borrow.Author.Needs.{needs}
 use Rattle.replay.proofs.finish.Statement.{statement}
 use Rattle.replay.proofs.finish.Tie as tie

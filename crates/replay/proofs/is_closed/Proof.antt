@@ -1,5 +1,5 @@
 -- `is_closed` meets its contract.
-use Rattle.replay.specs.Feeding.{is-closed}
+use Rattle.replay.specs.contracts.Feeding.{is-closed}
 use borrow.Author.Needs.{needs}
 use Rattle.replay.proofs.is_closed.Statement.{statement}
 use Rattle.replay.proofs.is_closed.Tie as tie

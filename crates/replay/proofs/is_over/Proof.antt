@@ -1,5 +1,5 @@
 -- `is_over` meets its contract.
-use Rattle.replay.specs.Feeding.{is-over}
+use Rattle.replay.specs.contracts.Feeding.{is-over}
 use borrow.Author.Needs.{needs}
 use Rattle.replay.proofs.is_over.Statement.{statement}
 use Rattle.replay.proofs.is_over.Tie as tie

@@ -1,7 +1,7 @@
 -- `start` meets its contract.
 use native.Mathlib.Omega.{arith}
-use Rattle.engine.proofs.ServingLaws.{checked-room, accepted-rows, rows-fit}
-use Rattle.replay.proofs.StartLaws.{refused-starts, accepted-starts}
+use Rattle.engine.proofs.laws.ServingLaws.{checked-room, accepted-rows, rows-fit}
+use Rattle.replay.proofs.steps.StartLaws.{refused-starts, accepted-starts}
 use borrow.Author.Needs.{needs}
 use Rattle.replay.proofs.start.Statement.{statement}
 use Rattle.replay.proofs.start.Tie as tie

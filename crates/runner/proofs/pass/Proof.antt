@@ -4,9 +4,9 @@ use native.Mathlib.Omega.{arith}
 use mathlib.Core.Path.{_≡_, refl, _∙_}
 use mathlib.Core.List.{[]}
 use lib.ListN.{length}
-use Rattle.replay.specs.Awaiting.{bench-memory}
-use Rattle.runner.specs.Passing.{Passed}
-use Rattle.runner.proofs.PassingLaws.{passed-none, passed-fed, passed-whole, goes-on}
+use Rattle.replay.specs.contracts.Awaiting.{bench-memory}
+use Rattle.runner.specs.contracts.Passing.{Passed}
+use Rattle.runner.proofs.steps.PassingLaws.{passed-none, passed-fed, passed-whole, goes-on}
 use borrow.Author.Needs.{needs}
 use Rattle.runner.proofs.pass.Statement.{statement}
 use Rattle.runner.proofs.pass.Tie as tie

@@ -2,9 +2,9 @@
 use native.Mathlib.Omega.{arith}
 use mathlib.Core.Path.{_≡_, refl, _∙_}
 use lib.ListN.{length}
-use Rattle.replay.specs.Awaiting.{bench-memory}
-use Rattle.runner.specs.Passing.{File-passed}
-use Rattle.runner.proofs.PassingLaws.{file-none, file-more}
+use Rattle.replay.specs.contracts.Awaiting.{bench-memory}
+use Rattle.runner.specs.contracts.Passing.{File-passed}
+use Rattle.runner.proofs.steps.PassingLaws.{file-none, file-more}
 use borrow.Author.Needs.{needs}
 use Rattle.runner.proofs.pass_file.Statement.{statement}
 use Rattle.runner.proofs.pass_file.Tie as tie

@@ -1,6 +1,6 @@
 -- `pass_readings` meets its contract.
 use native.Mathlib.Omega.{arith}
-use Rattle.replay.specs.Feeding.{Lent}
+use Rattle.replay.specs.contracts.Feeding.{Lent}
 use borrow.Author.Needs.{needs}
 use Rattle.runner.proofs.pass_readings.Statement.{statement}
 use Rattle.runner.proofs.pass_readings.Tie as tie

@@ -1,7 +1,7 @@
 -- `run` meets its contract.
 use native.Mathlib.Omega.{arith}
-use Rattle.checking.proofs.CheckLaws.{room-for-all}
-use Rattle.runner.proofs.PassingLaws.{started}
+use Rattle.checking.proofs.laws.CheckLaws.{room-for-all}
+use Rattle.runner.proofs.steps.PassingLaws.{started}
 use borrow.Author.Needs.{needs}
 use Rattle.runner.proofs.run.Statement.{statement}
 use Rattle.runner.proofs.run.Tie as tie

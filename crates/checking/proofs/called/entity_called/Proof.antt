@@ -1,5 +1,5 @@
 -- `entity_called` meets its contract.
-use Rattle.checking.proofs.CalledLaws.{entity-numbered}
+use Rattle.checking.proofs.laws.CalledLaws.{entity-numbered}
 use borrow.Author.Needs.{needs}
 use Rattle.checking.proofs.called.entity_called.Statement.{statement}
 use Rattle.checking.proofs.called.entity_called.Tie as tie

@@ -1,7 +1,7 @@
 -- `first_called` meets its contract: what is left of the items gives the same number as all of them.
 use Prim.Native.Nat.{_-_}
 use native.Mathlib.Omega.{arith}
-use Rattle.checking.proofs.CalledLaws.{Passed, passed-none, passed-all, passed-here, passed-on}
+use Rattle.checking.proofs.laws.CalledLaws.{Passed, passed-none, passed-all, passed-here, passed-on}
 use borrow.Author.Needs.{needs}
 use Rattle.checking.proofs.called.first_called.Statement.{statement}
 use Rattle.checking.proofs.called.first_called.Tie as tie

@@ -1,5 +1,5 @@
 -- `interface_called` meets its contract.
-use Rattle.checking.proofs.CalledLaws.{interface-numbered}
+use Rattle.checking.proofs.laws.CalledLaws.{interface-numbered}
 use borrow.Author.Needs.{needs}
 use Rattle.checking.proofs.called.interface_called.Statement.{statement}
 use Rattle.checking.proofs.called.interface_called.Tie as tie

@@ -1,5 +1,5 @@
 -- `member_called` meets its contract.
-use Rattle.checking.proofs.CalledLaws.{no-interface-numbered, member-numbered}
+use Rattle.checking.proofs.laws.CalledLaws.{no-interface-numbered, member-numbered}
 use borrow.Author.Needs.{needs}
 use Rattle.checking.proofs.called.member_called.Statement.{statement}
 use Rattle.checking.proofs.called.member_called.Tie as tie

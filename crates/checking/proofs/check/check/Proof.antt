@@ -1,7 +1,7 @@
 -- `check` meets its contract: `settled` answers for the text and the columns that `read` left.
 use denote.Ref.{now}
-use Rattle.text.specs.TokenTable.{columns-of}
-use Rattle.checking.proofs.CheckLaws.{checks-short}
+use Rattle.text.specs.contracts.TokenTable.{columns-of}
+use Rattle.checking.proofs.laws.CheckLaws.{checks-short}
 use borrow.Author.Needs.{needs}
 use Rattle.checking.proofs.check.check.Statement.{statement}
 use Rattle.checking.proofs.check.check.Tie as tie

@@ -1,5 +1,5 @@
 -- `concluded` meets its contract.
-use Rattle.checking.specs.CheckSteps.{concluded}
+use Rattle.checking.specs.contracts.CheckSteps.{concluded}
 use borrow.Author.Needs.{needs}
 use Rattle.checking.proofs.check.concluded.Statement.{statement}
 use Rattle.checking.proofs.check.concluded.Tie as tie

@@ -1,5 +1,5 @@
 -- `file_faults` meets its contract: interfaces, entities and rules one after another.
-use Rattle.checking.proofs.RulesLaws.{file-told}
+use Rattle.checking.proofs.steps.RulesLaws.{file-told}
 use borrow.Author.Needs.{needs}
 use Rattle.checking.proofs.check.file_faults.Statement.{statement}
 use Rattle.checking.proofs.check.file_faults.Tie as tie

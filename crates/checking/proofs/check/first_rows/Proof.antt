@@ -1,5 +1,5 @@
 -- `first_rows` meets its contract.
-use Rattle.checking.proofs.CheckLaws.{rows-all, rows-first}
+use Rattle.checking.proofs.laws.CheckLaws.{rows-all, rows-first}
 use borrow.Author.Needs.{needs}
 use Rattle.checking.proofs.check.first_rows.Statement.{statement}
 use Rattle.checking.proofs.check.first_rows.Tie as tie

@@ -1,6 +1,6 @@
 -- `judged` meets its contract.
 use mathlib.Core.Path.{refl}
-use Rattle.checking.proofs.JudgedLaws.{judged-told}
+use Rattle.checking.proofs.steps.JudgedLaws.{judged-told}
 use borrow.Author.Needs.{needs}
 use Rattle.checking.proofs.check.judged.Statement.{statement}
 use Rattle.checking.proofs.check.judged.Tie as tie

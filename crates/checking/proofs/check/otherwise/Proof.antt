@@ -1,6 +1,6 @@
 -- `otherwise` meets its contract.
-use Rattle.checking.specs.FoundFaults.{found-as}
-use Rattle.checking.specs.FileWalk.{or-else}
+use Rattle.checking.specs.contracts.FoundFaults.{found-as}
+use Rattle.checking.specs.contracts.FileWalk.{or-else}
 use borrow.Author.Needs.{needs}
 use Rattle.checking.proofs.check.otherwise.Statement.{statement}
 use Rattle.checking.proofs.check.otherwise.Tie as tie

@@ -2,8 +2,8 @@
 use Prim.Native.Nat.{_≤_, _-_}
 use native.Mathlib.Omega.{arith}
 use mathlib.Core.Path.{refl}
-use Rattle.checking.specs.FoundFaults.{found-as}
-use Rattle.checking.proofs.RulesLaws.{Ruled, ruled-none, ruled-next, ruled-all}
+use Rattle.checking.specs.contracts.FoundFaults.{found-as}
+use Rattle.checking.proofs.steps.RulesLaws.{Ruled, ruled-none, ruled-next, ruled-all}
 use borrow.Author.Needs.{needs}
 use Rattle.checking.proofs.check.rules_faults.Statement.{statement}
 use Rattle.checking.proofs.check.rules_faults.Tie as tie

@@ -3,14 +3,14 @@ use Prim.Native.Nat.{_-_, _+_, _*_}
 use mathlib.Core.Path.{refl, sym, _∙_}
 use lib.ListN.{length}
 use borrow.Author.Tests.{eq-eqb, ne-eqb}
-use Rattle.text.specs.Tokens.{AND, OR}
-use Rattle.text.specs.Readers.{joined}
-use Rattle.text.specs.Grammar.{both-at, either-at, is-and, is-or, atom-reader, conjunction-reader, condition-reader}
-use Rattle.text.specs.Walks.{Looping}
-use Rattle.text.proofs.WalkLaws.{turn-less, walk-next, walk-stops, chain-turns}
-use Rattle.text.proofs.ConditionWalks.{atom-closed, atom-clause, atom-round, conjunction-begins, condition-begins}
-use Rattle.checking.specs.RuleParts.{world-rows, condition-yields}
-use Rattle.checking.proofs.RuleWalks.{closed-condition, both-checked, either-checked}
+use Rattle.text.specs.definitions.Tokens.{AND, OR}
+use Rattle.text.specs.definitions.Readers.{joined}
+use Rattle.text.specs.definitions.Grammar.{both-at, either-at, is-and, is-or, atom-reader, conjunction-reader, condition-reader}
+use Rattle.text.specs.contracts.Walks.{Looping}
+use Rattle.text.proofs.laws.WalkLaws.{turn-less, walk-next, walk-stops, chain-turns}
+use Rattle.text.proofs.laws.ConditionWalks.{atom-closed, atom-clause, atom-round, conjunction-begins, condition-begins}
+use Rattle.checking.specs.contracts.RuleParts.{world-rows, condition-yields}
+use Rattle.checking.proofs.steps.RuleWalks.{closed-condition, both-checked, either-checked}
 use borrow.Author.Needs.{needs}
 use Prim.Native.Nat.{ℕ, _<_}
 use borrow.Fn.Kinds.{In}

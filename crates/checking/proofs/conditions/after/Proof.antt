@@ -1,5 +1,5 @@
 -- `after` meets its contract.
-use Rattle.checking.proofs.CheckedParts.{after}
+use Rattle.checking.proofs.steps.CheckedParts.{after}
 use borrow.Author.Needs.{needs}
 use Rattle.checking.proofs.conditions.after.Statement.{statement}
 use Rattle.checking.proofs.conditions.after.Tie as tie

@@ -1,8 +1,8 @@
 -- `call` meets its contract.
 use mathlib.Core.Path.{_∙_}
-use Rattle.text.proofs.WalkLaws.{walk-next}
-use Rattle.text.proofs.ConditionWalks.{call-walk}
-use Rattle.checking.proofs.RuleWalks.{call-checked}
+use Rattle.text.proofs.laws.WalkLaws.{walk-next}
+use Rattle.text.proofs.laws.ConditionWalks.{call-walk}
+use Rattle.checking.proofs.steps.RuleWalks.{call-checked}
 use borrow.Author.Needs.{needs}
 use Rattle.checking.proofs.conditions.call.Statement.{statement}
 use Rattle.checking.proofs.conditions.call.Tie as tie

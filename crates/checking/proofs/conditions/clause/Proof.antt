@@ -1,8 +1,8 @@
 -- `clause` meets its contract.
 use mathlib.Core.Path.{_∙_}
-use Rattle.text.proofs.WalkLaws.{walk-next}
-use Rattle.text.proofs.ConditionWalks.{clause-walk}
-use Rattle.checking.proofs.RuleWalks.{clause-checked}
+use Rattle.text.proofs.laws.WalkLaws.{walk-next}
+use Rattle.text.proofs.laws.ConditionWalks.{clause-walk}
+use Rattle.checking.proofs.steps.RuleWalks.{clause-checked}
 use borrow.Author.Needs.{needs}
 use Rattle.checking.proofs.conditions.clause.Statement.{statement}
 use Rattle.checking.proofs.conditions.clause.Tie as tie

@@ -1,8 +1,8 @@
 -- `filter` meets its contract.
 use mathlib.Core.Path.{sym, _∙_}
-use Rattle.text.proofs.WalkLaws.{walk-next}
-use Rattle.text.proofs.ConditionWalks.{filter-none, filter-some}
-use Rattle.checking.proofs.RuleWalks.{no-filter-checked, filter-checked}
+use Rattle.text.proofs.laws.WalkLaws.{walk-next}
+use Rattle.text.proofs.laws.ConditionWalks.{filter-none, filter-some}
+use Rattle.checking.proofs.steps.RuleWalks.{no-filter-checked, filter-checked}
 use borrow.Author.Needs.{needs}
 use Rattle.checking.proofs.conditions.filter.Statement.{statement}
 use Rattle.checking.proofs.conditions.filter.Tie as tie

@@ -5,13 +5,13 @@ use mathlib.Core.Path.{refl, sym, _∙_}
 use lib.Dec.{eqb}
 use lib.ListN.{length}
 use borrow.Author.Tests.{eq-eqb}
-use Rattle.text.specs.Tokens.{COMMA}
-use Rattle.text.specs.Readers.{added, many}
-use Rattle.text.specs.Grammar.{call-after}
-use Rattle.text.specs.Walks.{Looping}
-use Rattle.text.proofs.WalkLaws.{turn-less, walk-next, loop-next, many-begins, many-turns, many-stops}
-use Rattle.checking.specs.RuleParts.{world-rows, call-yields, calls-yields}
-use Rattle.checking.proofs.RuleWalks.{no-call-checked, further-checked}
+use Rattle.text.specs.definitions.Tokens.{COMMA}
+use Rattle.text.specs.definitions.Readers.{added, many}
+use Rattle.text.specs.definitions.Grammar.{call-after}
+use Rattle.text.specs.contracts.Walks.{Looping}
+use Rattle.text.proofs.laws.WalkLaws.{turn-less, walk-next, loop-next, many-begins, many-turns, many-stops}
+use Rattle.checking.specs.contracts.RuleParts.{world-rows, call-yields, calls-yields}
+use Rattle.checking.proofs.steps.RuleWalks.{no-call-checked, further-checked}
 use borrow.Author.Needs.{needs}
 use Rattle.checking.proofs.conditions.further_calls.Statement.{statement}
 use Rattle.checking.proofs.conditions.further_calls.Tie as tie

@@ -1,5 +1,5 @@
 -- `joined` meets its contract.
-use Rattle.checking.proofs.CheckedParts.{joined}
+use Rattle.checking.proofs.steps.CheckedParts.{joined}
 use borrow.Author.Needs.{needs}
 use Rattle.checking.proofs.conditions.joined.Statement.{statement}
 use Rattle.checking.proofs.conditions.joined.Tie as tie

@@ -1,5 +1,5 @@
 -- `matched` meets its contract.
-use Rattle.checking.proofs.CheckedParts.{matched}
+use Rattle.checking.proofs.steps.CheckedParts.{matched}
 use borrow.Author.Needs.{needs}
 use Rattle.checking.proofs.conditions.matched.Statement.{statement}
 use Rattle.checking.proofs.conditions.matched.Tie as tie

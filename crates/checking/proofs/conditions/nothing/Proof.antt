@@ -1,5 +1,5 @@
 -- `nothing` meets its contract.
-use Rattle.checking.proofs.CheckedParts.{nothing-found}
+use Rattle.checking.proofs.steps.CheckedParts.{nothing-found}
 use Rattle.checking.proofs.conditions.nothing.Statement.{statement}
 use Rattle.checking.proofs.conditions.nothing.Tie as tie
 

@@ -1,7 +1,7 @@
 -- `target_place` meets its contract.
 use mathlib.Core.Path.{sym, _∙_}
-use Rattle.text.proofs.ConditionWalks.{target-bare, target-declares}
-use Rattle.checking.proofs.RuleWalks.{bare-checked, declaring-checked}
+use Rattle.text.proofs.laws.ConditionWalks.{target-bare, target-declares}
+use Rattle.checking.proofs.steps.RuleWalks.{bare-checked, declaring-checked}
 use borrow.Author.Needs.{needs}
 use Rattle.checking.proofs.conditions.target_place.Statement.{statement}
 use Rattle.checking.proofs.conditions.target_place.Tie as tie

@@ -1,8 +1,8 @@
 -- `test` meets its contract.
 use mathlib.Core.Path.{sym, _∙_}
-use Rattle.text.proofs.WalkLaws.{walk-next}
-use Rattle.text.proofs.ConditionWalks.{test-changed, test-equals}
-use Rattle.checking.proofs.RuleWalks.{changed-checked, equals-checked}
+use Rattle.text.proofs.laws.WalkLaws.{walk-next}
+use Rattle.text.proofs.laws.ConditionWalks.{test-changed, test-equals}
+use Rattle.checking.proofs.steps.RuleWalks.{changed-checked, equals-checked}
 use borrow.Author.Needs.{needs}
 use Rattle.checking.proofs.conditions.test.Statement.{statement}
 use Rattle.checking.proofs.conditions.test.Tie as tie

@@ -1,6 +1,6 @@
 -- `count_fault` meets its contract: the scans before `rules` and after it find the faults of the counts.
 use borrow.Author.Needs.{needs}
-use Rattle.checking.proofs.ColumnCountLaws.{count-checked}
+use Rattle.checking.proofs.steps.ColumnCountLaws.{count-checked}
 use Rattle.checking.proofs.counts.count_fault.Statement.{statement}
 use Rattle.checking.proofs.counts.count_fault.Tie as tie
 

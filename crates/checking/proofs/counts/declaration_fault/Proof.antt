@@ -3,8 +3,8 @@ use Prim.Native.Nat.{_-_}
 use native.Mathlib.Omega.{arith}
 use mathlib.Core.Path.{_∙_, ap, refl}
 use borrow.Author.Needs.{needs}
-use Rattle.checking.specs.FoundFaults.{found-as, merged}
-use Rattle.checking.proofs.CountScanLaws.{
+use Rattle.checking.specs.contracts.FoundFaults.{found-as, merged}
+use Rattle.checking.proofs.steps.CountScanLaws.{
   declaring-starts,
   interface-turn,
   member-turn,

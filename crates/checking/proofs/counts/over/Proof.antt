@@ -1,7 +1,7 @@
 -- `over` meets its contract.
 use borrow.Author.Needs.{needs}
-use Rattle.checking.specs.FoundFaults.{found-as}
-use Rattle.checking.proofs.CountScanLaws.{past-none, past-one}
+use Rattle.checking.specs.contracts.FoundFaults.{found-as}
+use Rattle.checking.proofs.steps.CountScanLaws.{past-none, past-one}
 use Rattle.checking.proofs.counts.over.Statement.{statement}
 use Rattle.checking.proofs.counts.over.Tie as tie
 

@@ -4,8 +4,8 @@ use native.Mathlib.Omega.{arith}
 use mathlib.Core.Path.{_∙_, ap, refl}
 use lib.ListN.{length}
 use borrow.Author.Needs.{needs}
-use Rattle.checking.specs.FoundFaults.{found-as, merged}
-use Rattle.checking.proofs.CountScanLaws.{
+use Rattle.checking.specs.contracts.FoundFaults.{found-as, merged}
+use Rattle.checking.proofs.steps.CountScanLaws.{
   Ruling,
   ruling-starts,
   rule-turn,

@@ -1,7 +1,7 @@
 -- `build` meets its contract.
 use native.Mathlib.Omega.{arith}
 use borrow.Author.Needs.{needs}
-use Rattle.checking.proofs.BuildLaws.{directory-built, directory-short, directory-long}
+use Rattle.checking.proofs.steps.BuildLaws.{directory-built, directory-short, directory-long}
 use Rattle.checking.proofs.directory.build.Statement.{statement}
 use Rattle.checking.proofs.directory.build.Tie as tie
 

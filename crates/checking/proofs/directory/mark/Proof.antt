@@ -2,7 +2,7 @@
 use Prim.Native.Nat.{_-_}
 use native.Mathlib.Omega.{arith}
 use borrow.Author.Needs.{needs}
-use Rattle.checking.proofs.PlaceLaws.{Marking, marking-starts, marking-below, marking-above, marking-full, marking-puts, marking-ends}
+use Rattle.checking.proofs.steps.PlaceLaws.{Marking, marking-starts, marking-below, marking-above, marking-full, marking-puts, marking-ends}
 use Rattle.checking.proofs.directory.mark.Statement.{statement}
 use Rattle.checking.proofs.directory.mark.Tie as tie
 

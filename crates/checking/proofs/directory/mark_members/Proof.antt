@@ -2,7 +2,7 @@
 use Prim.Native.Nat.{_-_}
 use native.Mathlib.Omega.{arith}
 use borrow.Author.Needs.{needs}
-use Rattle.checking.proofs.PlaceLaws.{Membering, membering-starts, membering-goes-on, membering-ends, membering-breaks}
+use Rattle.checking.proofs.steps.PlaceLaws.{Membering, membering-starts, membering-goes-on, membering-ends, membering-breaks}
 use Rattle.checking.proofs.directory.mark_members.Statement.{statement}
 use Rattle.checking.proofs.directory.mark_members.Tie as tie
 

@@ -1,6 +1,6 @@
 -- `assignment_end` meets its contract: by the sign of the literal.
 use native.Mathlib.Omega.{arith}
-use Rattle.checking.proofs.AssignmentLaws.{end-short, end-signed, end-plain}
+use Rattle.checking.proofs.laws.AssignmentLaws.{end-short, end-signed, end-plain}
 use borrow.Author.Needs.{needs}
 use Rattle.checking.proofs.entities.assignment_end.Statement.{statement}
 use Rattle.checking.proofs.entities.assignment_end.Tie as tie

@@ -3,8 +3,8 @@ use Prim.Native.Nat.{_-_}
 use native.Mathlib.Omega.{arith}
 use mathlib.Core.Path.{refl}
 use lib.ListN.{length}
-use Rattle.checking.specs.FoundFaults.{found-as}
-use Rattle.checking.proofs.BodyLaws.{Assigning, assigning-begins, assigning-stops, assigning-outside, assigning-on}
+use Rattle.checking.specs.contracts.FoundFaults.{found-as}
+use Rattle.checking.proofs.steps.BodyLaws.{Assigning, assigning-begins, assigning-stops, assigning-outside, assigning-on}
 use borrow.Author.Needs.{needs}
 use Rattle.checking.proofs.entities.assignment_faults.Statement.{statement}
 use Rattle.checking.proofs.entities.assignment_faults.Tie as tie

@@ -1,7 +1,7 @@
 -- `attribute_fault` meets its contract.
 use mathlib.Core.Path.{refl}
-use Rattle.checking.specs.FoundFaults.{found-as}
-use Rattle.checking.proofs.AssignmentLaws.{attribute-unasked, attribute-asked}
+use Rattle.checking.specs.contracts.FoundFaults.{found-as}
+use Rattle.checking.proofs.laws.AssignmentLaws.{attribute-unasked, attribute-asked}
 use borrow.Author.Needs.{needs}
 use Rattle.checking.proofs.entities.attribute_fault.Statement.{statement}
 use Rattle.checking.proofs.entities.attribute_fault.Tie as tie

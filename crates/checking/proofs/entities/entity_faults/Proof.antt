@@ -2,8 +2,8 @@
 use Prim.Native.Nat.{_≤_, _-_}
 use native.Mathlib.Omega.{arith}
 use mathlib.Core.Path.{refl}
-use Rattle.checking.specs.FoundFaults.{found-as}
-use Rattle.checking.proofs.EntityLaws.{Walked, walked-none, walked-next, walked-all}
+use Rattle.checking.specs.contracts.FoundFaults.{found-as}
+use Rattle.checking.proofs.steps.EntityLaws.{Walked, walked-none, walked-next, walked-all}
 use borrow.Author.Needs.{needs}
 use Rattle.checking.proofs.entities.entity_faults.Statement.{statement}
 use Rattle.checking.proofs.entities.entity_faults.Tie as tie

@@ -1,5 +1,5 @@
 -- `faults_of` meets its contract: the parts of an entity one after another.
-use Rattle.checking.proofs.EntityLaws.{entity-beyond, entity-told}
+use Rattle.checking.proofs.steps.EntityLaws.{entity-beyond, entity-told}
 use borrow.Author.Needs.{needs}
 use Rattle.checking.proofs.entities.faults_of.Statement.{statement}
 use Rattle.checking.proofs.entities.faults_of.Tie as tie

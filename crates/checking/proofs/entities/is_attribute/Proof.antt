@@ -1,5 +1,5 @@
 -- `is_attribute` meets its contract.
-use Rattle.checking.proofs.AssignmentLaws.{no-attribute, attribute-told}
+use Rattle.checking.proofs.laws.AssignmentLaws.{no-attribute, attribute-told}
 use borrow.Author.Needs.{needs}
 use Rattle.checking.proofs.entities.is_attribute.Statement.{statement}
 use Rattle.checking.proofs.entities.is_attribute.Tie as tie

@@ -1,7 +1,7 @@
 -- `kind_fault` meets its contract.
 use mathlib.Core.Path.{refl}
-use Rattle.checking.specs.FoundFaults.{found-as}
-use Rattle.checking.proofs.AssignmentLaws.{kind-unasked, kind-asked}
+use Rattle.checking.specs.contracts.FoundFaults.{found-as}
+use Rattle.checking.proofs.laws.AssignmentLaws.{kind-unasked, kind-asked}
 use borrow.Author.Needs.{needs}
 use Rattle.checking.proofs.entities.kind_fault.Statement.{statement}
 use Rattle.checking.proofs.entities.kind_fault.Tie as tie

@@ -1,7 +1,7 @@
 -- `link_entities` meets its contract: the interfaces of the first entities are written, and no other row.
 use Prim.Native.Nat.{_-_}
 use native.Mathlib.Omega.{arith}
-use Rattle.checking.proofs.LinkLaws.{Linking, not-linked, linking-none, linking-all, linking-on}
+use Rattle.checking.proofs.steps.LinkLaws.{Linking, not-linked, linking-none, linking-all, linking-on}
 use borrow.Author.Needs.{needs}
 use Rattle.checking.proofs.entities.link_entities.Statement.{statement}
 use Rattle.checking.proofs.entities.link_entities.Tie as tie

@@ -1,5 +1,5 @@
 -- `literal_kind` meets its contract.
-use Rattle.checking.proofs.AssignmentLaws.{whole-class, real-class, truth-class}
+use Rattle.checking.proofs.laws.AssignmentLaws.{whole-class, real-class, truth-class}
 use Rattle.checking.proofs.entities.literal_kind.Statement.{statement}
 use Rattle.checking.proofs.entities.literal_kind.Tie as tie
 

@@ -1,7 +1,7 @@
 -- `sets` meets its contract: the assignments passed do not set the name, so those left tell.
 use Prim.Native.Nat.{_-_}
 use native.Mathlib.Omega.{arith}
-use Rattle.checking.proofs.AssignmentLaws.{Looking, looking-begins, looking-outside, looking-ends, looking-here, looking-on}
+use Rattle.checking.proofs.laws.AssignmentLaws.{Looking, looking-begins, looking-outside, looking-ends, looking-here, looking-on}
 use borrow.Author.Needs.{needs}
 use Rattle.checking.proofs.entities.sets.Statement.{statement}
 use Rattle.checking.proofs.entities.sets.Tie as tie

@@ -3,8 +3,8 @@ use Prim.Native.Nat.{_-_}
 use native.Mathlib.Omega.{arith}
 use mathlib.Core.Path.{refl}
 use borrow.Author.Tests.{not-true, not-false}
-use Rattle.checking.specs.FoundFaults.{found-as}
-use Rattle.checking.proofs.UnsetLaws.{Settled, settled-none, settled-other, settled-set, settled-fails, settled-all, unset-unasked}
+use Rattle.checking.specs.contracts.FoundFaults.{found-as}
+use Rattle.checking.proofs.steps.UnsetLaws.{Settled, settled-none, settled-other, settled-set, settled-fails, settled-all, unset-unasked}
 use borrow.Author.Needs.{needs}
 use Rattle.checking.proofs.entities.unset_fault.Statement.{statement}
 use Rattle.checking.proofs.entities.unset_fault.Tie as tie

@@ -2,11 +2,11 @@
 use Prim.Native.Nat.{_-_, _+_, _*_}
 use mathlib.Core.Path.{refl, sym, _∙_}
 use lib.ListN.{length}
-use Rattle.text.specs.Readers.{joined}
-use Rattle.text.specs.Grammar.{apply-at, is-factor-operator, is-term-operator, factor-reader, term-reader, expression-reader}
-use Rattle.text.specs.Walks.{Looping}
-use Rattle.text.proofs.WalkLaws.{test-read, turn-less, walk-next, walk-stops, chain-turns}
-use Rattle.text.proofs.ExpressionWalks.{
+use Rattle.text.specs.definitions.Readers.{joined}
+use Rattle.text.specs.definitions.Grammar.{apply-at, is-factor-operator, is-term-operator, factor-reader, term-reader, expression-reader}
+use Rattle.text.specs.contracts.Walks.{Looping}
+use Rattle.text.proofs.laws.WalkLaws.{test-read, turn-less, walk-next, walk-stops, chain-turns}
+use Rattle.text.proofs.laws.ExpressionWalks.{
   factor-closed,
   factor-leaf,
   factor-real,
@@ -15,8 +15,8 @@ use Rattle.text.proofs.ExpressionWalks.{
   term-begins,
   expression-begins,
 }
-use Rattle.checking.specs.RuleParts.{world-scope, world-rows, expression-yields}
-use Rattle.checking.proofs.RuleWalks.{real-checked, negated-checked, applied-checked}
+use Rattle.checking.specs.contracts.RuleParts.{world-scope, world-rows, expression-yields}
+use Rattle.checking.proofs.steps.RuleWalks.{real-checked, negated-checked, applied-checked}
 use borrow.Author.Needs.{needs}
 use Prim.Native.Nat.{ℕ, _<_}
 use borrow.Fn.Kinds.{In}

@@ -1,5 +1,5 @@
 -- `applied` meets its contract.
-use Rattle.checking.proofs.CheckedParts.{applied}
+use Rattle.checking.proofs.steps.CheckedParts.{applied}
 use borrow.Author.Needs.{needs}
 use Rattle.checking.proofs.expressions.applied.Statement.{statement}
 use Rattle.checking.proofs.expressions.applied.Tie as tie

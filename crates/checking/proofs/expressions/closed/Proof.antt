@@ -1,5 +1,5 @@
 -- `closed` meets its contract.
-use Rattle.checking.proofs.CheckedParts.{closed-checked}
+use Rattle.checking.proofs.steps.CheckedParts.{closed-checked}
 use Rattle.checking.proofs.expressions.closed.Statement.{statement}
 use Rattle.checking.proofs.expressions.closed.Tie as tie
 

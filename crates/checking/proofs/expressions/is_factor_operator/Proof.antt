@@ -1,7 +1,7 @@
 -- `is_factor_operator` meets its contract.
 use borrow.Author.Tests.{eq-eqb, ne-eqb}
-use Rattle.text.specs.Tokens.{TIMES}
-use Rattle.text.specs.Grammar.{is-factor-operator}
+use Rattle.text.specs.definitions.Tokens.{TIMES}
+use Rattle.text.specs.definitions.Grammar.{is-factor-operator}
 use Rattle.checking.proofs.expressions.is_factor_operator.Statement.{statement}
 use Rattle.checking.proofs.expressions.is_factor_operator.Tie as tie
 

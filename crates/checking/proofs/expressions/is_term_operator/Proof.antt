@@ -1,7 +1,7 @@
 -- `is_term_operator` meets its contract.
 use borrow.Author.Tests.{eq-eqb, ne-eqb}
-use Rattle.text.specs.Tokens.{PLUS}
-use Rattle.text.specs.Grammar.{is-term-operator}
+use Rattle.text.specs.definitions.Tokens.{PLUS}
+use Rattle.text.specs.definitions.Grammar.{is-term-operator}
 use Rattle.checking.proofs.expressions.is_term_operator.Statement.{statement}
 use Rattle.checking.proofs.expressions.is_term_operator.Tie as tie
 

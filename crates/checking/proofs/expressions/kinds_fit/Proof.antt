@@ -1,5 +1,5 @@
 -- `kinds_fit` meets its contract.
-use Rattle.checking.proofs.KindCodes.{none-fits, fits-none, fits-alike}
+use Rattle.checking.proofs.laws.KindCodes.{none-fits, fits-none, fits-alike}
 use Rattle.checking.proofs.expressions.kinds_fit.Statement.{statement}
 use Rattle.checking.proofs.expressions.kinds_fit.Tie as tie
 

@@ -1,10 +1,10 @@
 -- `leaf` meets its contract.
 use mathlib.Core.Path.{refl, sym, _∙_}
-use Rattle.text.specs.Syntax.{literal-kind}
-use Rattle.text.proofs.WalkLaws.{walk-next}
-use Rattle.text.proofs.ExpressionWalks.{leaf-end, leaf-member, leaf-true, leaf-false, leaf-whole, leaf-real, leaf-other}
-use Rattle.checking.specs.Directory.{kind-class}
-use Rattle.checking.specs.RuleParts.{world-scope}
+use Rattle.text.specs.definitions.Syntax.{literal-kind}
+use Rattle.text.proofs.laws.WalkLaws.{walk-next}
+use Rattle.text.proofs.laws.ExpressionWalks.{leaf-end, leaf-member, leaf-true, leaf-false, leaf-whole, leaf-real, leaf-other}
+use Rattle.checking.specs.contracts.Directory.{kind-class}
+use Rattle.checking.specs.contracts.RuleParts.{world-scope}
 use borrow.Author.Needs.{needs}
 use Rattle.checking.proofs.expressions.leaf.Statement.{statement}
 use Rattle.checking.proofs.expressions.leaf.Tie as tie

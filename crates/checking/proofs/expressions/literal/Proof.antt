@@ -1,5 +1,5 @@
 -- `literal` meets its contract.
-use Rattle.checking.proofs.CheckedParts.{literal-checked}
+use Rattle.checking.proofs.steps.CheckedParts.{literal-checked}
 use Rattle.checking.proofs.expressions.literal.Statement.{statement}
 use Rattle.checking.proofs.expressions.literal.Tie as tie
 

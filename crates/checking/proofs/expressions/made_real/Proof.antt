@@ -1,5 +1,5 @@
 -- `made_real` meets its contract.
-use Rattle.checking.proofs.CheckedParts.{made-real, not-made-real}
+use Rattle.checking.proofs.steps.CheckedParts.{made-real, not-made-real}
 use borrow.Author.Needs.{needs}
 use Rattle.checking.proofs.expressions.made_real.Statement.{statement}
 use Rattle.checking.proofs.expressions.made_real.Tie as tie

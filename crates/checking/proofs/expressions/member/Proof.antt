@@ -1,6 +1,6 @@
 -- `member` meets its contract.
-use Rattle.text.proofs.ExpressionWalks.{member-walk}
-use Rattle.checking.proofs.RuleWalks.{member-checked}
+use Rattle.text.proofs.laws.ExpressionWalks.{member-walk}
+use Rattle.checking.proofs.steps.RuleWalks.{member-checked}
 use borrow.Author.Needs.{needs}
 use Rattle.checking.proofs.expressions.member.Statement.{statement}
 use Rattle.checking.proofs.expressions.member.Tie as tie

@@ -1,5 +1,5 @@
 -- `negated` meets its contract.
-use Rattle.checking.proofs.CheckedParts.{not-negated, negated}
+use Rattle.checking.proofs.steps.CheckedParts.{not-negated, negated}
 use borrow.Author.Needs.{needs}
 use Rattle.checking.proofs.expressions.negated.Statement.{statement}
 use Rattle.checking.proofs.expressions.negated.Tie as tie

@@ -1,5 +1,5 @@
 -- `operands_fit` meets its contract.
-use Rattle.checking.proofs.KindCodes.{left-bool, right-bool, no-bool}
+use Rattle.checking.proofs.laws.KindCodes.{left-bool, right-bool, no-bool}
 use borrow.Author.Needs.{needs}
 use Rattle.checking.proofs.expressions.operands_fit.Statement.{statement}
 use Rattle.checking.proofs.expressions.operands_fit.Tie as tie

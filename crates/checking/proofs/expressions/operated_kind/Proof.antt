@@ -1,5 +1,5 @@
 -- `operated_kind` meets its contract.
-use Rattle.checking.proofs.KindCodes.{bool-operated, other-operated, alike-operated}
+use Rattle.checking.proofs.laws.KindCodes.{bool-operated, other-operated, alike-operated}
 use Rattle.checking.proofs.expressions.operated_kind.Statement.{statement}
 use Rattle.checking.proofs.expressions.operated_kind.Tie as tie
 

@@ -1,9 +1,9 @@
 -- `earlier` meets its contract.
 use mathlib.Core.Path.{sym, ap}
 use mathlib.Core.Option.{some}
-use Rattle.checking.specs.Faults.{fault, earlier}
-use Rattle.checking.specs.FoundFaults.{found-as, merged}
-use Rattle.checking.proofs.FaultLaws.{earlier-left, earlier-right}
+use Rattle.checking.specs.definitions.Faults.{fault, earlier}
+use Rattle.checking.specs.contracts.FoundFaults.{found-as, merged}
+use Rattle.checking.proofs.laws.FaultLaws.{earlier-left, earlier-right}
 use borrow.Author.Needs.{needs}
 use Rattle.checking.proofs.faults.earlier.Statement.{statement}
 use Rattle.checking.proofs.faults.earlier.Tie as tie

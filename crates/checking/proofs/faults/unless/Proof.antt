@@ -1,7 +1,7 @@
 -- `unless` meets its contract.
 use mathlib.Core.Path.{sym}
-use Rattle.checking.specs.FoundFaults.{found-as}
-use Rattle.checking.proofs.FaultLaws.{earliest-passed, earliest-failed}
+use Rattle.checking.specs.contracts.FoundFaults.{found-as}
+use Rattle.checking.proofs.laws.FaultLaws.{earliest-passed, earliest-failed}
 use Rattle.checking.proofs.faults.unless.Statement.{statement}
 use Rattle.checking.proofs.faults.unless.Tie as tie
 

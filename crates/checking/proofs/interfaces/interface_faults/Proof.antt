@@ -1,8 +1,8 @@
 -- `interface_faults` meets its contract: what is found in the first interfaces and what is left come to the faults of all.
 use Prim.Native.Nat.{_≤_, _-_}
 use native.Mathlib.Omega.{arith}
-use Rattle.checking.specs.FoundFaults.{found-as}
-use Rattle.checking.proofs.InterfaceLaws.{Interfaces-left, interfaces-begin, interfaces-next, interfaces-end}
+use Rattle.checking.specs.contracts.FoundFaults.{found-as}
+use Rattle.checking.proofs.steps.InterfaceLaws.{Interfaces-left, interfaces-begin, interfaces-next, interfaces-end}
 use borrow.Author.Needs.{needs}
 use Rattle.checking.proofs.interfaces.interface_faults.Statement.{statement}
 use Rattle.checking.proofs.interfaces.interface_faults.Tie as tie

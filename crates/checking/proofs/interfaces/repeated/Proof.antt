@@ -2,8 +2,8 @@
 use Prim.Native.Nat.{_-_}
 use native.Mathlib.Omega.{arith}
 use mathlib.Core.Path.{refl}
-use Rattle.checking.specs.FoundFaults.{found-as}
-use Rattle.checking.proofs.RepeatedLaws.{Repeating, repeating-none, repeating-all, repeating-on}
+use Rattle.checking.specs.contracts.FoundFaults.{found-as}
+use Rattle.checking.proofs.steps.RepeatedLaws.{Repeating, repeating-none, repeating-all, repeating-on}
 use borrow.Author.Needs.{needs}
 use Rattle.checking.proofs.interfaces.repeated.Statement.{statement}
 use Rattle.checking.proofs.interfaces.repeated.Tie as tie

@@ -1,5 +1,5 @@
 -- `cell_of` meets its contract.
-use Rattle.checking.proofs.MeaningLaws.{no-cell, a-cell}
+use Rattle.checking.proofs.steps.MeaningLaws.{no-cell, a-cell}
 use borrow.Author.Needs.{needs}
 use Rattle.checking.proofs.meanings.cell_of.Statement.{statement}
 use Rattle.checking.proofs.meanings.cell_of.Tie as tie

@@ -1,7 +1,7 @@
 -- `declaration` meets its contract: what is left of the rule gives the same as all of it.
 use Prim.Native.Nat.{_-_}
 use lib.ListN.{length}
-use Rattle.checking.proofs.RuleNames.{Sought, sought-all, sought-over, sought-end, sought-here, sought-on}
+use Rattle.checking.proofs.steps.RuleNames.{Sought, sought-all, sought-over, sought-end, sought-here, sought-on}
 use borrow.Author.Needs.{needs}
 use Rattle.checking.proofs.meanings.declaration.Statement.{statement}
 use Rattle.checking.proofs.meanings.declaration.Tie as tie

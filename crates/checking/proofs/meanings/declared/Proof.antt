@@ -1,5 +1,5 @@
 -- `declared` meets its contract.
-use Rattle.checking.proofs.MeaningLaws.{declared-found}
+use Rattle.checking.proofs.steps.MeaningLaws.{declared-found}
 use borrow.Author.Needs.{needs}
 use Rattle.checking.proofs.meanings.declared.Statement.{statement}
 use Rattle.checking.proofs.meanings.declared.Tie as tie

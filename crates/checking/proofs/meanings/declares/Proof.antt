@@ -1,6 +1,6 @@
 -- `declares` meets its contract.
 use borrow.Author.Tests.{eq-eqb, ne-eqb}
-use Rattle.text.specs.Tokens.{COLON}
+use Rattle.text.specs.definitions.Tokens.{COLON}
 use borrow.Author.Needs.{needs}
 use Rattle.checking.proofs.meanings.declares.Statement.{statement}
 use Rattle.checking.proofs.meanings.declares.Tie as tie

@@ -1,5 +1,5 @@
 -- `meaning_of` meets its contract.
-use Rattle.checking.proofs.MeaningLaws.{entity-meant, unknown-meant, variable-meant}
+use Rattle.checking.proofs.steps.MeaningLaws.{entity-meant, unknown-meant, variable-meant}
 use borrow.Author.Needs.{needs}
 use Rattle.checking.proofs.meanings.meaning_of.Statement.{statement}
 use Rattle.checking.proofs.meanings.meaning_of.Tie as tie

@@ -1,7 +1,7 @@
 -- `repeated` meets its contract: what is found so far, and what is left of the rule, give the same as all of it.
 use Prim.Native.Nat.{_-_}
 use lib.ListN.{length}
-use Rattle.checking.proofs.RuleNames.{Repeating, repeating-none, repeating-over, repeating-end, repeating-on}
+use Rattle.checking.proofs.steps.RuleNames.{Repeating, repeating-none, repeating-over, repeating-end, repeating-on}
 use borrow.Author.Needs.{needs}
 use Rattle.checking.proofs.meanings.repeated.Statement.{statement}
 use Rattle.checking.proofs.meanings.repeated.Tie as tie

@@ -1,5 +1,5 @@
 -- `repeated_at` meets its contract.
-use Rattle.checking.proofs.RuleNames.{repeated-other, repeated-again}
+use Rattle.checking.proofs.steps.RuleNames.{repeated-other, repeated-again}
 use borrow.Author.Needs.{needs}
 use Rattle.checking.proofs.meanings.repeated_at.Statement.{statement}
 use Rattle.checking.proofs.meanings.repeated_at.Tie as tie

@@ -1,5 +1,5 @@
 -- `sort_fits` meets its contract.
-use Rattle.checking.proofs.MeaningLaws.{any-sort, same-sort, other-sort, event-sort}
+use Rattle.checking.proofs.steps.MeaningLaws.{any-sort, same-sort, other-sort, event-sort}
 use Rattle.checking.proofs.meanings.sort_fits.Statement.{statement}
 use Rattle.checking.proofs.meanings.sort_fits.Tie as tie
 

@@ -1,6 +1,6 @@
 -- `entity_name` meets its contract: the arrays have room for every text that is not too long.
 use native.Mathlib.Omega.{arith}
-use Rattle.checking.proofs.CheckLaws.{room-for-all}
+use Rattle.checking.proofs.laws.CheckLaws.{room-for-all}
 use borrow.Author.Needs.{needs}
 use Rattle.checking.proofs.names.entity_name.Statement.{statement}
 use Rattle.checking.proofs.names.entity_name.Tie as tie

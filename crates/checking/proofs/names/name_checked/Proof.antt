@@ -1,5 +1,5 @@
 -- `name_checked` meets its contract: one law for each answer of the check.
-use Rattle.checking.proofs.EntityNameLaws.{names-none, names-one, names-refused, names-short}
+use Rattle.checking.proofs.steps.EntityNameLaws.{names-none, names-one, names-refused, names-short}
 use borrow.Author.Needs.{needs}
 use Rattle.checking.proofs.names.name_checked.Statement.{statement}
 use Rattle.checking.proofs.names.name_checked.Tie as tie

@@ -1,7 +1,7 @@
 -- `declaration_number` meets its contract: what is left of the rule gives the same as all of it.
 use Prim.Native.Nat.{_-_}
 use lib.ListN.{length}
-use Rattle.checking.proofs.ScopeLaws.{Counting, counting-all, counting-over, counting-end, counting-other, counting-here, counting-on}
+use Rattle.checking.proofs.steps.ScopeLaws.{Counting, counting-all, counting-over, counting-end, counting-other, counting-here, counting-on}
 use borrow.Author.Needs.{needs}
 use Rattle.checking.proofs.resolver.declaration_number.Statement.{statement}
 use Rattle.checking.proofs.resolver.declaration_number.Tie as tie

@@ -1,6 +1,6 @@
 -- `interface_at` meets its contract.
 use native.Mathlib.Omega.{arith}
-use Rattle.checking.proofs.ScopeLaws.{interface-stands}
+use Rattle.checking.proofs.steps.ScopeLaws.{interface-stands}
 use borrow.Author.Needs.{needs}
 use Rattle.checking.proofs.resolver.interface_at.Statement.{statement}
 use Rattle.checking.proofs.resolver.interface_at.Tie as tie

@@ -1,6 +1,6 @@
 -- `member_of` meets its contract.
 use native.Mathlib.Omega.{arith}
-use Rattle.checking.proofs.ReferenceLaws.{member-is}
+use Rattle.checking.proofs.steps.ReferenceLaws.{member-is}
 use borrow.Author.Needs.{needs}
 use Rattle.checking.proofs.resolver.member_of.Statement.{statement}
 use Rattle.checking.proofs.resolver.member_of.Tie as tie

@@ -1,5 +1,14 @@
 -- `owner_of` meets its contract: one law for each form in which a member's name stands.
-use Rattle.checking.proofs.ReferenceLaws.{no-owner-first, dotted-owner, event-owner, action-owner, other-owner, no-owner-second, declared-owner, filtered-owner}
+use Rattle.checking.proofs.steps.ReferenceLaws.{
+  no-owner-first,
+  dotted-owner,
+  event-owner,
+  action-owner,
+  other-owner,
+  no-owner-second,
+  declared-owner,
+  filtered-owner,
+}
 use borrow.Author.Needs.{needs}
 use Rattle.checking.proofs.resolver.owner_of.Statement.{statement}
 use Rattle.checking.proofs.resolver.owner_of.Tie as tie

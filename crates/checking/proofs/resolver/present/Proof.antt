@@ -1,6 +1,6 @@
 -- `present` meets its contract.
 use borrow.Author.Tests.{le-leb, lt-leb}
-use Rattle.checking.specs.Resolving.{present}
+use Rattle.checking.specs.contracts.Resolving.{present}
 use Rattle.checking.proofs.resolver.present.Statement.{statement}
 use Rattle.checking.proofs.resolver.present.Tie as tie
 

@@ -1,6 +1,6 @@
 -- `put_variables` meets its contract.
 use Prim.Native.Nat.{_*_}
-use Rattle.checking.proofs.ScopeLaws.{four-puts, four-length}
+use Rattle.checking.proofs.steps.ScopeLaws.{four-puts, four-length}
 use borrow.Author.Needs.{needs}
 use Rattle.checking.proofs.resolver.put_variables.Statement.{statement}
 use Rattle.checking.proofs.resolver.put_variables.Tie as tie

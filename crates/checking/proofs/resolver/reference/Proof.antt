@@ -1,5 +1,5 @@
 -- `reference` meets its contract.
-use Rattle.checking.proofs.ReferenceLaws.{entity-referred, variable-referred}
+use Rattle.checking.proofs.steps.ReferenceLaws.{entity-referred, variable-referred}
 use borrow.Author.Needs.{needs}
 use Rattle.checking.proofs.resolver.reference.Statement.{statement}
 use Rattle.checking.proofs.resolver.reference.Tie as tie

@@ -1,5 +1,5 @@
 -- `resolve` meets its contract.
-use Rattle.checking.proofs.ResolutionLaws.{resolves}
+use Rattle.checking.proofs.steps.ResolutionLaws.{resolves}
 use borrow.Author.Needs.{needs}
 use Rattle.checking.proofs.resolver.resolve.Statement.{statement}
 use Rattle.checking.proofs.resolver.resolve.Tie as tie

@@ -2,7 +2,7 @@
 use Prim.Native.Nat.{_-_}
 use native.Mathlib.Omega.{arith}
 use lib.ListN.{length}
-use Rattle.checking.proofs.ResolvedNames.{Naming, naming-first, naming-when, naming-other, naming-name, naming-ends}
+use Rattle.checking.proofs.steps.ResolvedNames.{Naming, naming-first, naming-when, naming-other, naming-name, naming-ends}
 use borrow.Author.Needs.{needs}
 use Rattle.checking.proofs.resolver.resolve_names.Statement.{statement}
 use Rattle.checking.proofs.resolver.resolve_names.Tie as tie

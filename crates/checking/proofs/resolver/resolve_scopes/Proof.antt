@@ -1,7 +1,7 @@
 -- `resolve_scopes` meets its contract: the rows of the rules passed are filled.
 use Prim.Native.Nat.{_-_}
 use native.Mathlib.Omega.{arith}
-use Rattle.checking.proofs.ScopeLaws.{Scoping, scoping-none, scoping-on, scoping-ends}
+use Rattle.checking.proofs.steps.ScopeLaws.{Scoping, scoping-none, scoping-on, scoping-ends}
 use borrow.Author.Needs.{needs}
 use Rattle.checking.proofs.resolver.resolve_scopes.Statement.{statement}
 use Rattle.checking.proofs.resolver.resolve_scopes.Tie as tie

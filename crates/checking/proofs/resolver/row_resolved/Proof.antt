@@ -1,6 +1,6 @@
 -- `row_resolved` meets its contract.
 use native.Mathlib.Omega.{arith}
-use Rattle.checking.proofs.ReferenceLaws.{row-alone, row-with-member}
+use Rattle.checking.proofs.steps.ReferenceLaws.{row-alone, row-with-member}
 use borrow.Author.Needs.{needs}
 use Rattle.checking.proofs.resolver.row_resolved.Statement.{statement}
 use Rattle.checking.proofs.resolver.row_resolved.Tie as tie

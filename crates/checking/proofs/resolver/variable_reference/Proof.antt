@@ -1,7 +1,16 @@
 -- `variable_reference` meets its contract: what is left of the rule gives the same as all of it.
 use Prim.Native.Nat.{_-_}
 use lib.ListN.{length}
-use Rattle.checking.proofs.ReferenceLaws.{Referring, referring-all, referring-over, referring-full, referring-end, referring-here, referring-other, referring-on}
+use Rattle.checking.proofs.steps.ReferenceLaws.{
+  Referring,
+  referring-all,
+  referring-over,
+  referring-full,
+  referring-end,
+  referring-here,
+  referring-other,
+  referring-on,
+}
 use borrow.Author.Needs.{needs}
 use Rattle.checking.proofs.resolver.variable_reference.Statement.{statement}
 use Rattle.checking.proofs.resolver.variable_reference.Tie as tie

@@ -1,5 +1,5 @@
 -- `variables_of` meets its contract.
-use Rattle.checking.proofs.ScopeLaws.{variables-held}
+use Rattle.checking.proofs.steps.ScopeLaws.{variables-held}
 use borrow.Author.Needs.{needs}
 use Rattle.checking.proofs.resolver.variables_of.Statement.{statement}
 use Rattle.checking.proofs.resolver.variables_of.Tie as tie

@@ -1,5 +1,5 @@
 -- `rule_faults` meets its contract.
-use Rattle.checking.proofs.RuleWalks.{rule-found}
+use Rattle.checking.proofs.steps.RuleWalks.{rule-found}
 use borrow.Author.Needs.{needs}
 use Rattle.checking.proofs.rules.rule_faults.Statement.{statement}
 use Rattle.checking.proofs.rules.rule_faults.Tie as tie

@@ -1,5 +1,5 @@
 -- `entity_number` meets its contract.
-use Rattle.checking.proofs.DirectoryLaws.{entity-numbered}
+use Rattle.checking.proofs.laws.DirectoryLaws.{entity-numbered}
 use borrow.Author.Needs.{needs}
 use Rattle.checking.proofs.table.entity_number.Statement.{statement}
 use Rattle.checking.proofs.table.entity_number.Tie as tie

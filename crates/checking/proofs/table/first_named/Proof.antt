@@ -1,7 +1,7 @@
 -- `first_named` meets its contract: what is left of the items gives the same number as all of them.
 use Prim.Native.Nat.{_-_}
 use native.Mathlib.Omega.{arith}
-use Rattle.checking.proofs.DirectoryLaws.{Passed, passed-none, passed-all, passed-here, passed-on}
+use Rattle.checking.proofs.laws.DirectoryLaws.{Passed, passed-none, passed-all, passed-here, passed-on}
 use borrow.Author.Needs.{needs}
 use Rattle.checking.proofs.table.first_named.Statement.{statement}
 use Rattle.checking.proofs.table.first_named.Tie as tie

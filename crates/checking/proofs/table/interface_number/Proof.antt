@@ -1,5 +1,5 @@
 -- `interface_number` meets its contract.
-use Rattle.checking.proofs.DirectoryLaws.{interface-numbered}
+use Rattle.checking.proofs.laws.DirectoryLaws.{interface-numbered}
 use borrow.Author.Needs.{needs}
 use Rattle.checking.proofs.table.interface_number.Statement.{statement}
 use Rattle.checking.proofs.table.interface_number.Tie as tie

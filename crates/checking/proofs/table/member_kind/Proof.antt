@@ -1,5 +1,5 @@
 -- `member_kind` meets its contract.
-use Rattle.checking.proofs.DirectoryLaws.{kind-stands}
+use Rattle.checking.proofs.laws.DirectoryLaws.{kind-stands}
 use borrow.Author.Needs.{needs}
 use Rattle.checking.proofs.table.member_kind.Statement.{statement}
 use Rattle.checking.proofs.table.member_kind.Tie as tie

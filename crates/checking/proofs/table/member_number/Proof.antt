@@ -1,5 +1,5 @@
 -- `member_number` meets its contract.
-use Rattle.checking.proofs.DirectoryLaws.{no-interface-numbered, member-numbered}
+use Rattle.checking.proofs.laws.DirectoryLaws.{no-interface-numbered, member-numbered}
 use borrow.Author.Needs.{needs}
 use Rattle.checking.proofs.table.member_number.Statement.{statement}
 use Rattle.checking.proofs.table.member_number.Tie as tie

@@ -1,5 +1,5 @@
 -- `member_sort` meets its contract.
-use Rattle.checking.proofs.DirectoryLaws.{sort-stands}
+use Rattle.checking.proofs.laws.DirectoryLaws.{sort-stands}
 use borrow.Author.Needs.{needs}
 use Rattle.checking.proofs.table.member_sort.Statement.{statement}
 use Rattle.checking.proofs.table.member_sort.Tie as tie

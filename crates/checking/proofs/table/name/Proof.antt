@@ -1,5 +1,5 @@
 -- `name` meets its contract: where the text ends before the name does, `take` and `drop` end there too.
-use Rattle.checking.proofs.DirectoryLaws.{none-there, short-there, whole-there}
+use Rattle.checking.proofs.laws.DirectoryLaws.{none-there, short-there, whole-there}
 use borrow.Author.Needs.{needs}
 use Rattle.checking.proofs.table.name.Statement.{statement}
 use Rattle.checking.proofs.table.name.Tie as tie

@@ -1,6 +1,6 @@
 -- `same_name` meets its contract.
 use mathlib.Core.Path.{_∙_, ap₂}
-use Rattle.values.specs.Bytes.{same-bytes}
+use Rattle.values.specs.definitions.Bytes.{same-bytes}
 use borrow.Author.Needs.{needs}
 use Rattle.checking.proofs.table.same_name.Statement.{statement}
 use Rattle.checking.proofs.table.same_name.Tie as tie

@@ -3,7 +3,7 @@ use Prim.Native.Nat.{_-_, _≤_}
 use native.Mathlib.Omega.{arith}
 use mathlib.Core.Path.{_≡_, refl, _∙_}
 use lib.ListN.{length}
-use Rattle.cycles.proofs.BindingPuts.{
+use Rattle.cycles.proofs.steps.BindingPuts.{
   incomplete-few,
   bindings-complete,
   bindings-impossible,

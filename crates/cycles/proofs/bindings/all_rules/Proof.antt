@@ -3,8 +3,8 @@ use Prim.Native.Nat.{_-_, _≤_}
 use native.Mathlib.Omega.{arith}
 use mathlib.Core.Path.{_≡_, refl, sym, _∙_}
 use lib.ListN.{length, getD}
-use Rattle.cycles.specs.AllRules.{Ranges}
-use Rattle.cycles.proofs.BindingPuts.{Rules-left, rules-begin, rules-impossible, entities-impossible, rule-turns, rules-end}
+use Rattle.cycles.specs.contracts.AllRules.{Ranges}
+use Rattle.cycles.proofs.steps.BindingPuts.{Rules-left, rules-begin, rules-impossible, entities-impossible, rule-turns, rules-end}
 use borrow.Author.Needs.{needs}
 use Rattle.cycles.proofs.bindings.all_rules.Statement.{statement}
 use Rattle.cycles.proofs.bindings.all_rules.Tie as tie

@@ -3,7 +3,7 @@ use Prim.Native.Nat.{_≤_, _-_}
 use native.Mathlib.Omega.{arith}
 use mathlib.Core.Path.{_≡_, refl}
 use lib.ListN.{length, length-set}
-use Rattle.cycles.proofs.BindingPuts.{Ranges-before, range-put}
+use Rattle.cycles.proofs.steps.BindingPuts.{Ranges-before, range-put}
 use borrow.Author.Needs.{needs}
 use Rattle.cycles.proofs.bindings.find_ranges.Statement.{statement}
 use Rattle.cycles.proofs.bindings.find_ranges.Tie as tie

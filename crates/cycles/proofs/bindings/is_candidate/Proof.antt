@@ -1,7 +1,7 @@
 -- `is_candidate` meets its contract.
 use borrow.Author.Needs.{needs}
 use borrow.Author.Tests.{not-true, not-false}
-use Rattle.cycles.proofs.BindingPuts.{candidate-absent, candidate-present}
+use Rattle.cycles.proofs.steps.BindingPuts.{candidate-absent, candidate-present}
 use Rattle.cycles.proofs.bindings.is_candidate.Statement.{statement}
 use Rattle.cycles.proofs.bindings.is_candidate.Tie as tie
 

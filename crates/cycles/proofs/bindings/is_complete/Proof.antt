@@ -1,6 +1,6 @@
 -- `is_complete` meets its contract.
 use borrow.Author.Needs.{needs}
-use Rattle.cycles.proofs.BindingPuts.{complete-three, complete-counted}
+use Rattle.cycles.proofs.steps.BindingPuts.{complete-three, complete-counted}
 use Rattle.cycles.proofs.bindings.is_complete.Statement.{statement}
 use Rattle.cycles.proofs.bindings.is_complete.Tie as tie
 

@@ -3,8 +3,8 @@ use Prim.Native.Nat.{_≤_, _-_}
 use native.Mathlib.Omega.{arith}
 use mathlib.Core.Path.{_≡_, refl}
 use lib.ListN.{length, length-set}
-use Rattle.cycles.specs.Guards.{Marks-set}
-use Rattle.cycles.proofs.BindingPuts.{marks-more}
+use Rattle.cycles.specs.contracts.Guards.{Marks-set}
+use Rattle.cycles.proofs.steps.BindingPuts.{marks-more}
 use borrow.Author.Needs.{needs}
 use Rattle.cycles.proofs.bindings.mark_candidates.Statement.{statement}
 use Rattle.cycles.proofs.bindings.mark_candidates.Tie as tie

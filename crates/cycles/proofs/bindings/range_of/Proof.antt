@@ -3,8 +3,8 @@ use Prim.Native.Nat.{_≤_, _-_}
 use native.Mathlib.Omega.{arith}
 use mathlib.Core.Path.{_≡_, refl, sym}
 use borrow.Author.Tests.{not-true}
-use Rattle.cycles.specs.AllRules.{Ranged}
-use Rattle.cycles.proofs.BindingPuts.{range-begins, range-skips, range-takes}
+use Rattle.cycles.specs.contracts.AllRules.{Ranged}
+use Rattle.cycles.proofs.steps.BindingPuts.{range-begins, range-skips, range-takes}
 use borrow.Author.Needs.{needs}
 use Rattle.cycles.proofs.bindings.range_of.Statement.{statement}
 use Rattle.cycles.proofs.bindings.range_of.Tie as tie

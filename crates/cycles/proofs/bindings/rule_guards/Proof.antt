@@ -1,7 +1,7 @@
 -- `rule_guards` meets its contract: no guard is a guard of every rule.
 use mathlib.Core.Path.{sym}
 use borrow.Author.Needs.{needs}
-use Rattle.cycles.proofs.BindingPuts.{no-guards}
+use Rattle.cycles.proofs.steps.BindingPuts.{no-guards}
 use Rattle.cycles.proofs.bindings.rule_guards.Statement.{statement}
 use Rattle.cycles.proofs.bindings.rule_guards.Tie as tie
 use Rattle.cycles.proofs.bindings.rule_guards.Reads as reads

@@ -1,6 +1,6 @@
 -- `call` meets its contract.
 use borrow.Author.Needs.{needs}
-use Rattle.cycles.proofs.CallWrites.{call-is}
+use Rattle.cycles.proofs.steps.CallWrites.{call-is}
 use Rattle.cycles.proofs.calls.call.Statement.{statement}
 use Rattle.cycles.proofs.calls.call.Tie as tie
 

@@ -4,9 +4,9 @@ use mathlib.Core.Path.{_≡_, refl, _∙_}
 use native.Mathlib.Omega.{arith}
 use lib.ListN.{length}
 use borrow.Author.Needs.{needs}
-use Rattle.text.specs.Tokens.{COMMA}
-use Rattle.cycles.proofs.EvaluationLaws.{class-turn-falls}
-use Rattle.cycles.proofs.CallWrites.{Calls-loop, calls-begin, calls-stop, call-turns}
+use Rattle.text.specs.definitions.Tokens.{COMMA}
+use Rattle.cycles.proofs.steps.EvaluationLaws.{class-turn-falls}
+use Rattle.cycles.proofs.steps.CallWrites.{Calls-loop, calls-begin, calls-stop, call-turns}
 use Rattle.cycles.proofs.calls.further_calls.Statement.{statement}
 use Rattle.cycles.proofs.calls.further_calls.Tie as tie
 

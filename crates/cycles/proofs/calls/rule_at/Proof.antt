@@ -3,7 +3,7 @@ use mathlib.Core.Path.{_∙_}
 use native.Mathlib.Omega.{arith}
 use borrow.Author.Tests.{not-true, not-false}
 use borrow.Author.Needs.{needs}
-use Rattle.cycles.proofs.CallWrites.{rule-idle, rule-fires}
+use Rattle.cycles.proofs.steps.CallWrites.{rule-idle, rule-fires}
 use Rattle.cycles.proofs.calls.rule_at.Statement.{statement}
 use Rattle.cycles.proofs.calls.rule_at.Tie as tie
 

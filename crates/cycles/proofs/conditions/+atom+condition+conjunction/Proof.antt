@@ -5,13 +5,13 @@ use lib.ListN.{length}
 use borrow.Author.Needs.{needs}
 use borrow.Fn.Kinds.{In}
 use borrow.Fn.PlainCycle.{Measures, is, falls, and}
-use Rattle.text.specs.Tokens.{AND, OR}
-use Rattle.text.specs.Readers.{joined}
-use Rattle.text.specs.Grammar.{both-at, either-at, is-and, is-or, atom-reader, conjunction-reader, condition-reader}
-use Rattle.text.proofs.ConditionWalks.{atom-closed, conjunction-begins, condition-begins}
-use Rattle.cycles.specs.Evaluation.{Condition-loop}
-use Rattle.cycles.proofs.EvaluationLaws.{class-turn-falls}
-use Rattle.cycles.proofs.ConditionValues.{and-joins, or-joins, atom-is-clause, atom-inside, conditions-stop, condition-turns}
+use Rattle.text.specs.definitions.Tokens.{AND, OR}
+use Rattle.text.specs.definitions.Readers.{joined}
+use Rattle.text.specs.definitions.Grammar.{both-at, either-at, is-and, is-or, atom-reader, conjunction-reader, condition-reader}
+use Rattle.text.proofs.laws.ConditionWalks.{atom-closed, conjunction-begins, condition-begins}
+use Rattle.cycles.specs.contracts.Evaluation.{Condition-loop}
+use Rattle.cycles.proofs.steps.EvaluationLaws.{class-turn-falls}
+use Rattle.cycles.proofs.steps.ConditionValues.{and-joins, or-joins, atom-is-clause, atom-inside, conditions-stop, condition-turns}
 use Rattle.cycles.proofs.conditions.atom.Reads as atom
 use Rattle.cycles.proofs.conditions.atom.Kinds as atom-kinds
 use Rattle.cycles.proofs.conditions.+atom+condition+conjunction.Lts-atom as atom-lts

@@ -1,6 +1,6 @@
 -- `clause` meets its contract.
 use borrow.Author.Needs.{needs}
-use Rattle.cycles.proofs.ConditionValues.{clause-is}
+use Rattle.cycles.proofs.steps.ConditionValues.{clause-is}
 use Rattle.cycles.proofs.conditions.clause.Statement.{statement}
 use Rattle.cycles.proofs.conditions.clause.Tie as tie
 

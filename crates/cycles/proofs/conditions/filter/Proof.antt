@@ -1,6 +1,6 @@
 -- `filter` meets its contract.
 use borrow.Author.Needs.{needs}
-use Rattle.cycles.proofs.ConditionValues.{filter-is-none, filter-is-some}
+use Rattle.cycles.proofs.steps.ConditionValues.{filter-is-none, filter-is-some}
 use Rattle.cycles.proofs.conditions.filter.Statement.{statement}
 use Rattle.cycles.proofs.conditions.filter.Tie as tie
 

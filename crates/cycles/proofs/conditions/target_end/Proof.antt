@@ -1,6 +1,6 @@
 -- `target_end` meets its contract.
 use borrow.Author.Needs.{needs}
-use Rattle.cycles.proofs.ConditionValues.{target-is-bare, target-is-declared}
+use Rattle.cycles.proofs.steps.ConditionValues.{target-is-bare, target-is-declared}
 use Rattle.cycles.proofs.conditions.target_end.Statement.{statement}
 use Rattle.cycles.proofs.conditions.target_end.Tie as tie
 

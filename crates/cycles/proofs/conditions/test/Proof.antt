@@ -2,7 +2,7 @@
 use mathlib.Core.Path.{refl}
 use borrow.Author.Needs.{needs}
 use borrow.Author.Tests.{not-true, not-false}
-use Rattle.cycles.proofs.ConditionValues.{test-is-changed, test-is-unequal, test-is-equals}
+use Rattle.cycles.proofs.steps.ConditionValues.{test-is-changed, test-is-unequal, test-is-equals}
 use Rattle.cycles.proofs.conditions.test.Statement.{statement}
 use Rattle.cycles.proofs.conditions.test.Tie as tie
 

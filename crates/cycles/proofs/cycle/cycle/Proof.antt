@@ -1,7 +1,7 @@
 -- `cycle` meets its contract: the store that the rules see is put into arrays, with their writes, and the image is gathered.
 use native.Mathlib.Omega.{arith}
 use lib.ListN.{replicate}
-use Rattle.cycles.proofs.CycleMemoryLaws.{zeros-blank, cycle-impossible, cycled}
+use Rattle.cycles.proofs.steps.CycleMemoryLaws.{zeros-blank, cycle-impossible, cycled}
 use borrow.Author.Needs.{needs}
 use Rattle.cycles.proofs.cycle.cycle.Statement.{statement}
 use Rattle.cycles.proofs.cycle.cycle.Tie as tie

@@ -1,5 +1,5 @@
 -- `next_value` meets its contract.
-use Rattle.cycles.proofs.SeenLaws.{value-written, value-seen}
+use Rattle.cycles.proofs.steps.SeenLaws.{value-written, value-seen}
 use borrow.Author.Needs.{needs}
 use Rattle.cycles.proofs.cycle.next_value.Statement.{statement}
 use Rattle.cycles.proofs.cycle.next_value.Tie as tie

@@ -2,8 +2,8 @@
 use Prim.Native.Nat.{_*_, _-_, _≤_}
 use native.Mathlib.Omega.{arith}
 use mathlib.Core.Path.{_≡_}
-use Rattle.cycles.specs.CycleMemory.{next-value, Values-put}
-use Rattle.cycles.proofs.SeenLaws.{values-begin, values-next, next-still}
+use Rattle.cycles.specs.contracts.CycleMemory.{next-value, Values-put}
+use Rattle.cycles.proofs.steps.SeenLaws.{values-begin, values-next, next-still}
 use borrow.Author.Needs.{needs}
 use Rattle.cycles.proofs.cycle.put_next.Statement.{statement}
 use Rattle.cycles.proofs.cycle.put_next.Tie as tie

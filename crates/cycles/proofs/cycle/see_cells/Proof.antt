@@ -2,8 +2,8 @@
 use Prim.Native.Nat.{_*_, _-_, _≤_}
 use native.Mathlib.Omega.{arith}
 use mathlib.Core.Path.{_≡_}
-use Rattle.cycles.specs.CycleMemory.{seen-value, Values-put}
-use Rattle.cycles.proofs.SeenLaws.{values-begin, values-next}
+use Rattle.cycles.specs.contracts.CycleMemory.{seen-value, Values-put}
+use Rattle.cycles.proofs.steps.SeenLaws.{values-begin, values-next}
 use borrow.Author.Needs.{needs}
 use Rattle.cycles.proofs.cycle.see_cells.Statement.{statement}
 use Rattle.cycles.proofs.cycle.see_cells.Tie as tie

@@ -1,7 +1,7 @@
 -- `seen_value` meets its contract.
 use mathlib.Core.Path.{sym, _∙_}
 use borrow.Author.Tests.{not-true, not-false}
-use Rattle.cycles.proofs.SeenLaws.{value-read, value-stays, value-kept, value-left}
+use Rattle.cycles.proofs.steps.SeenLaws.{value-read, value-stays, value-kept, value-left}
 use borrow.Author.Needs.{needs}
 use Rattle.cycles.proofs.cycle.seen_value.Statement.{statement}
 use Rattle.cycles.proofs.cycle.seen_value.Tie as tie

@@ -1,6 +1,6 @@
 -- `bound` meets its contract.
 use borrow.Author.Needs.{needs}
-use Rattle.cycles.proofs.EvaluationLaws.{bound-entity, bound-first, bound-second, bound-third}
+use Rattle.cycles.proofs.steps.EvaluationLaws.{bound-entity, bound-first, bound-second, bound-third}
 use Rattle.cycles.proofs.evaluate.bound.Statement.{statement}
 use Rattle.cycles.proofs.evaluate.bound.Tie as tie
 

@@ -2,7 +2,7 @@
 use lib.Dec.{eqb}
 use lib.ListN.{getD}
 use borrow.Author.Needs.{needs}
-use Rattle.cycles.proofs.EvaluationLaws.{no-member, a-member}
+use Rattle.cycles.proofs.steps.EvaluationLaws.{no-member, a-member}
 use Rattle.cycles.proofs.evaluate.is_present_at.Statement.{statement}
 use Rattle.cycles.proofs.evaluate.is_present_at.Tie as tie
 

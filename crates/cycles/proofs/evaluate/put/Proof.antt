@@ -1,7 +1,7 @@
 -- `put` meets its contract.
 use borrow.Author.Tests.{not-true, not-false}
 use borrow.Author.Needs.{needs}
-use Rattle.cycles.proofs.EvaluationLaws.{put-nothing, put-missing, put-beyond, put-made}
+use Rattle.cycles.proofs.steps.EvaluationLaws.{put-nothing, put-missing, put-beyond, put-made}
 use Rattle.cycles.proofs.evaluate.put.Statement.{statement}
 use Rattle.cycles.proofs.evaluate.put.Tie as tie
 

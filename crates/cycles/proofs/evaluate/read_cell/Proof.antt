@@ -2,7 +2,7 @@
 use mathlib.Core.Path.{sym, _∙_}
 use borrow.Author.Tests.{not-true, not-false}
 use borrow.Author.Needs.{needs}
-use Rattle.cycles.proofs.EvaluationLaws.{read-absent, read-short, read-present}
+use Rattle.cycles.proofs.steps.EvaluationLaws.{read-absent, read-short, read-present}
 use Rattle.cycles.proofs.evaluate.read_cell.Statement.{statement}
 use Rattle.cycles.proofs.evaluate.read_cell.Tie as tie
 

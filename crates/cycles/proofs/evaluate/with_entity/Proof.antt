@@ -1,6 +1,6 @@
 -- `with_entity` meets its contract.
 use borrow.Author.Needs.{needs}
-use Rattle.cycles.proofs.BindingPuts.{added-first, added-second, added-third}
+use Rattle.cycles.proofs.steps.BindingPuts.{added-first, added-second, added-third}
 use Rattle.cycles.proofs.evaluate.with_entity.Statement.{statement}
 use Rattle.cycles.proofs.evaluate.with_entity.Tie as tie
 

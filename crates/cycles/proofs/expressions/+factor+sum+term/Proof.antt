@@ -5,11 +5,11 @@ use lib.ListN.{length}
 use borrow.Author.Needs.{needs}
 use borrow.Fn.Kinds.{In}
 use borrow.Fn.PlainCycle.{Measures, is, falls, and}
-use Rattle.text.specs.Readers.{joined}
-use Rattle.text.specs.Grammar.{apply-at, is-factor-operator, is-term-operator, factor-reader, term-reader, expression-reader}
-use Rattle.text.proofs.ExpressionWalks.{factor-closed, term-begins, expression-begins}
-use Rattle.cycles.specs.Evaluation.{Expression-loop}
-use Rattle.cycles.proofs.ExpressionValues.{
+use Rattle.text.specs.definitions.Readers.{joined}
+use Rattle.text.specs.definitions.Grammar.{apply-at, is-factor-operator, is-term-operator, factor-reader, term-reader, expression-reader}
+use Rattle.text.proofs.laws.ExpressionWalks.{factor-closed, term-begins, expression-begins}
+use Rattle.cycles.specs.contracts.Evaluation.{Expression-loop}
+use Rattle.cycles.proofs.steps.ExpressionValues.{
   factor-to-real,
   factor-inside,
   factor-negated,
@@ -19,7 +19,7 @@ use Rattle.cycles.proofs.ExpressionValues.{
   operators-stop,
   operator-turns,
 }
-use Rattle.cycles.proofs.EvaluationLaws.{turn-falls}
+use Rattle.cycles.proofs.steps.EvaluationLaws.{turn-falls}
 use Rattle.cycles.proofs.expressions.factor.Reads as factor
 use Rattle.cycles.proofs.expressions.factor.Kinds as factor-kinds
 use Rattle.cycles.proofs.expressions.+factor+sum+term.Lts-factor as factor-lts

@@ -1,6 +1,6 @@
 -- `expression` meets its contract.
 use borrow.Author.Needs.{needs}
-use Rattle.text.proofs.ExpressionWalks.{leaf-alone}
+use Rattle.text.proofs.laws.ExpressionWalks.{leaf-alone}
 use Rattle.cycles.proofs.expressions.expression.Statement.{statement}
 use Rattle.cycles.proofs.expressions.expression.Tie as tie
 

@@ -1,6 +1,6 @@
 -- `is_factor_operator` meets its contract.
 use mathlib.Core.Path.{refl}
-use Rattle.cycles.proofs.ExpressionValues.{factor-operator, other-factor-operator}
+use Rattle.cycles.proofs.steps.ExpressionValues.{factor-operator, other-factor-operator}
 use Rattle.cycles.proofs.expressions.is_factor_operator.Statement.{statement}
 use Rattle.cycles.proofs.expressions.is_factor_operator.Tie as tie
 

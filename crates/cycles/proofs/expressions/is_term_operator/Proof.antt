@@ -1,6 +1,6 @@
 -- `is_term_operator` meets its contract.
 use mathlib.Core.Path.{refl}
-use Rattle.cycles.proofs.ExpressionValues.{term-operator, other-term-operator}
+use Rattle.cycles.proofs.steps.ExpressionValues.{term-operator, other-term-operator}
 use Rattle.cycles.proofs.expressions.is_term_operator.Statement.{statement}
 use Rattle.cycles.proofs.expressions.is_term_operator.Tie as tie
 

@@ -1,7 +1,7 @@
 -- `leaf` meets its contract.
 use borrow.Author.Needs.{needs}
-use Rattle.text.proofs.ExpressionWalks.{leaf-end}
-use Rattle.cycles.proofs.ExpressionValues.{leaf-cell, leaf-is-true, leaf-is-false, leaf-is-whole, leaf-is-real, leaf-is-other}
+use Rattle.text.proofs.laws.ExpressionWalks.{leaf-end}
+use Rattle.cycles.proofs.steps.ExpressionValues.{leaf-cell, leaf-is-true, leaf-is-false, leaf-is-whole, leaf-is-real, leaf-is-other}
 use Rattle.cycles.proofs.expressions.leaf.Statement.{statement}
 use Rattle.cycles.proofs.expressions.leaf.Tie as tie
 

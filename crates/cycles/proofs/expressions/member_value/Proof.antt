@@ -1,8 +1,8 @@
 -- `member_value` meets its contract.
 use mathlib.Core.Path.{ap, _∙_}
 use borrow.Author.Needs.{needs}
-use Rattle.cycles.specs.Evaluation.{bound}
-use Rattle.cycles.proofs.ExpressionValues.{cell-same}
+use Rattle.cycles.specs.contracts.Evaluation.{bound}
+use Rattle.cycles.proofs.steps.ExpressionValues.{cell-same}
 use Rattle.cycles.proofs.expressions.member_value.Statement.{statement}
 use Rattle.cycles.proofs.expressions.member_value.Tie as tie
 

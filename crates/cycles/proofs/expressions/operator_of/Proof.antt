@@ -1,5 +1,5 @@
 -- `operator_of` meets its contract.
-use Rattle.cycles.proofs.ExpressionValues.{operator-plus, operator-minus, operator-times, operator-divide}
+use Rattle.cycles.proofs.steps.ExpressionValues.{operator-plus, operator-minus, operator-times, operator-divide}
 use Rattle.cycles.proofs.expressions.operator_of.Statement.{statement}
 use Rattle.cycles.proofs.expressions.operator_of.Tie as tie
 

@@ -5,7 +5,7 @@ use lib.Dec.{lit<}
 use mir.Syntax.{w64}
 use mir.Facts.{toZ-pos}
 use borrow.Author.Needs.{needs}
-use Rattle.values.specs.Value.{fitted}
+use Rattle.values.specs.definitions.Value.{fitted}
 use Rattle.cycles.proofs.expressions.whole_literal.Statement.{statement}
 use Rattle.cycles.proofs.expressions.whole_literal.Tie as tie
 

@@ -1,5 +1,5 @@
 -- `field_start` meets its contract: no mark stands from where the loop is to the field's end.
-use Rattle.cycles.proofs.FieldLaws.{Runs-from, runs-none, runs-more, starts-after-mark, starts-first}
+use Rattle.cycles.proofs.laws.FieldLaws.{Runs-from, runs-none, runs-more, starts-after-mark, starts-first}
 use borrow.Author.Needs.{needs}
 use Rattle.cycles.proofs.fields.field_start.Statement.{statement}
 use Rattle.cycles.proofs.fields.field_start.Tie as tie

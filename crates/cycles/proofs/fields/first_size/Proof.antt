@@ -2,7 +2,7 @@
 use mathlib.Core.Path.{sym}
 use native.Mathlib.Omega.{arith}
 use borrow.Author.Tests.{eq-eqb, ne-eqb}
-use Rattle.cycles.proofs.FieldLaws.{Fields-passed, none-passed, empty-passed, empty-size, first-passed, next-passed}
+use Rattle.cycles.proofs.laws.FieldLaws.{Fields-passed, none-passed, empty-passed, empty-size, first-passed, next-passed}
 use borrow.Author.Needs.{needs}
 use Rattle.cycles.proofs.fields.first_size.Statement.{statement}
 use Rattle.cycles.proofs.fields.first_size.Tie as tie

@@ -2,8 +2,8 @@
 use Prim.Native.Nat.{_-_}
 use mathlib.Core.Path.{_≡_, refl, sym, _∙_}
 use lib.ListN.{length, drop}
-use Rattle.cycles.specs.Fields.{has-byte}
-use Rattle.cycles.proofs.FieldLaws.{has-none, has-here, has-later}
+use Rattle.cycles.specs.definitions.Fields.{has-byte}
+use Rattle.cycles.proofs.laws.FieldLaws.{has-none, has-here, has-later}
 use borrow.Author.Needs.{needs}
 use Rattle.cycles.proofs.fields.has_byte.Statement.{statement}
 use Rattle.cycles.proofs.fields.has_byte.Tie as tie

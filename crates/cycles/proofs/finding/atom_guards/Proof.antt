@@ -1,5 +1,5 @@
 -- `atom_guards` meets its contract.
-use Rattle.cycles.proofs.GuardWalks.{atom-guards-clause, atom-guards-group}
+use Rattle.cycles.proofs.steps.GuardWalks.{atom-guards-clause, atom-guards-group}
 use borrow.Author.Needs.{needs}
 use Rattle.cycles.proofs.finding.atom_guards.Statement.{statement}
 use Rattle.cycles.proofs.finding.atom_guards.Tie as tie

@@ -1,5 +1,5 @@
 -- `call_guard` meets its contract.
-use Rattle.cycles.proofs.RuleGuards.{call-no-guard, call-a-guard}
+use Rattle.cycles.proofs.steps.RuleGuards.{call-no-guard, call-a-guard}
 use borrow.Author.Needs.{needs}
 use Rattle.cycles.proofs.finding.call_guard.Statement.{statement}
 use Rattle.cycles.proofs.finding.call_guard.Tie as tie

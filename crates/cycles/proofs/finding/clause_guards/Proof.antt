@@ -1,7 +1,7 @@
 -- `clause_guards` meets its contract.
 use mathlib.Core.Path.{_∙_}
 use native.Mathlib.Omega.{arith}
-use Rattle.cycles.proofs.GuardWalks.{clause-guards-are}
+use Rattle.cycles.proofs.steps.GuardWalks.{clause-guards-are}
 use borrow.Author.Needs.{needs}
 use Rattle.cycles.proofs.finding.clause_guards.Statement.{statement}
 use Rattle.cycles.proofs.finding.clause_guards.Tie as tie

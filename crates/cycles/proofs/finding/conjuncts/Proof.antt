@@ -3,9 +3,9 @@ use Prim.Native.Nat.{_-_}
 use mathlib.Core.Path.{_≡_, refl, _∙_}
 use native.Mathlib.Omega.{arith}
 use lib.ListN.{length}
-use Rattle.text.specs.Tokens.{AND}
-use Rattle.cycles.proofs.EvaluationLaws.{class-turn-falls}
-use Rattle.cycles.proofs.GuardWalks.{Conjuncts-turned, conjuncts-begin, conjuncts-stop, conjunct-turns}
+use Rattle.text.specs.definitions.Tokens.{AND}
+use Rattle.cycles.proofs.steps.EvaluationLaws.{class-turn-falls}
+use Rattle.cycles.proofs.steps.GuardWalks.{Conjuncts-turned, conjuncts-begin, conjuncts-stop, conjunct-turns}
 use borrow.Author.Needs.{needs}
 use Rattle.cycles.proofs.finding.conjuncts.Statement.{statement}
 use Rattle.cycles.proofs.finding.conjuncts.Tie as tie

@@ -1,5 +1,5 @@
 -- `filter_guard` meets its contract.
-use Rattle.cycles.proofs.GuardWalks.{filter-no-guard, filter-a-guard}
+use Rattle.cycles.proofs.steps.GuardWalks.{filter-no-guard, filter-a-guard}
 use borrow.Author.Needs.{needs}
 use Rattle.cycles.proofs.finding.filter_guard.Statement.{statement}
 use Rattle.cycles.proofs.finding.filter_guard.Tie as tie

@@ -1,7 +1,7 @@
 -- `find_guards` meets its contract.
 use mathlib.Core.Path.{_∙_}
 use native.Mathlib.Omega.{arith}
-use Rattle.cycles.proofs.RuleGuards.{no-guards, guards-are}
+use Rattle.cycles.proofs.steps.RuleGuards.{no-guards, guards-are}
 use borrow.Author.Needs.{needs}
 use Rattle.cycles.proofs.finding.find_guards.Statement.{statement}
 use Rattle.cycles.proofs.finding.find_guards.Tie as tie

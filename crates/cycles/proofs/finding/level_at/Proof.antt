@@ -1,6 +1,6 @@
 -- `level_at` meets its contract.
 use native.Mathlib.Omega.{arith}
-use Rattle.cycles.proofs.GuardPuts.{covered-at}
+use Rattle.cycles.proofs.steps.GuardPuts.{covered-at}
 use borrow.Author.Needs.{needs}
 use Rattle.cycles.proofs.finding.level_at.Statement.{statement}
 use Rattle.cycles.proofs.finding.level_at.Tie as tie

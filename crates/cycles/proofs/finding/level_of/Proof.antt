@@ -1,8 +1,8 @@
 -- `level_of` meets its contract. The invariant: the level covers the tokens before number i, and is at most 3.
 use Prim.Native.Nat.{_-_, _≤_}
 use native.Mathlib.Omega.{arith}
-use Rattle.cycles.specs.Guards.{Covered}
-use Rattle.cycles.proofs.GuardPuts.{covered-none, covered-fewer, covered-more, covered-append}
+use Rattle.cycles.specs.contracts.Guards.{Covered}
+use Rattle.cycles.proofs.steps.GuardPuts.{covered-none, covered-fewer, covered-more, covered-append}
 use borrow.Author.Needs.{needs}
 use Rattle.cycles.proofs.finding.level_of.Statement.{statement}
 use Rattle.cycles.proofs.finding.level_of.Tie as tie

@@ -2,7 +2,7 @@
 use mathlib.Core.Path.{refl}
 use native.Mathlib.Omega.{arith}
 use lib.ListN.{length-set}
-use Rattle.cycles.specs.Finding.{none-put, one-put}
+use Rattle.cycles.specs.contracts.Finding.{none-put, one-put}
 use borrow.Author.Needs.{needs}
 use Rattle.cycles.proofs.finding.put_guard.Statement.{statement}
 use Rattle.cycles.proofs.finding.put_guard.Tie as tie

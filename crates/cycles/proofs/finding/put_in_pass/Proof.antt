@@ -1,5 +1,5 @@
 -- `put_in_pass` meets its contract.
-use Rattle.cycles.proofs.GuardPuts.{nothing-put}
+use Rattle.cycles.proofs.steps.GuardPuts.{nothing-put}
 use borrow.Author.Needs.{needs}
 use Rattle.cycles.proofs.finding.put_in_pass.Statement.{statement}
 use Rattle.cycles.proofs.finding.put_in_pass.Tie as tie

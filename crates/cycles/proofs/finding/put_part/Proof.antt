@@ -1,6 +1,6 @@
 -- `put_part` meets its contract.
 use native.Mathlib.Omega.{arith}
-use Rattle.cycles.proofs.GuardPuts.{covered-more}
+use Rattle.cycles.proofs.steps.GuardPuts.{covered-more}
 use borrow.Author.Needs.{needs}
 use Rattle.cycles.proofs.finding.put_part.Statement.{statement}
 use Rattle.cycles.proofs.finding.put_part.Tie as tie

@@ -1,7 +1,7 @@
 -- `test_guards` meets its contract.
 use mathlib.Core.Path.{_∙_}
 use native.Mathlib.Omega.{arith}
-use Rattle.cycles.proofs.GuardWalks.{test-changed-guard, test-equals-guards}
+use Rattle.cycles.proofs.steps.GuardWalks.{test-changed-guard, test-equals-guards}
 use borrow.Author.Needs.{needs}
 use Rattle.cycles.proofs.finding.test_guards.Statement.{statement}
 use Rattle.cycles.proofs.finding.test_guards.Tie as tie

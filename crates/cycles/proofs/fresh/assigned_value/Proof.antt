@@ -2,7 +2,7 @@
 use Prim.Native.Nat.{_-_}
 use native.Mathlib.Omega.{arith}
 use lib.ListN.{length}
-use Rattle.cycles.proofs.FreshValues.{Assigning, assigning-begins, assigning-outside, assigning-ends, assigning-here, assigning-on}
+use Rattle.cycles.proofs.steps.FreshValues.{Assigning, assigning-begins, assigning-outside, assigning-ends, assigning-here, assigning-on}
 use borrow.Author.Needs.{needs}
 use Rattle.cycles.proofs.fresh.assigned_value.Statement.{statement}
 use Rattle.cycles.proofs.fresh.assigned_value.Tie as tie

@@ -1,6 +1,6 @@
 -- `fresh_value` meets its contract.
 use borrow.Author.Tests.{not-true, not-false}
-use Rattle.cycles.proofs.FreshValues.{value-none, value-assigned}
+use Rattle.cycles.proofs.steps.FreshValues.{value-none, value-assigned}
 use borrow.Author.Needs.{needs}
 use Rattle.cycles.proofs.fresh.fresh_value.Statement.{statement}
 use Rattle.cycles.proofs.fresh.fresh_value.Tie as tie

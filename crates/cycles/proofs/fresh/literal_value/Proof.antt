@@ -1,5 +1,5 @@
 -- `literal_value` meets its contract.
-use Rattle.cycles.proofs.LiteralValues.{literal-outside, literal-true, literal-false, literal-minus, literal-number}
+use Rattle.cycles.proofs.steps.LiteralValues.{literal-outside, literal-true, literal-false, literal-minus, literal-number}
 use borrow.Author.Needs.{needs}
 use Rattle.cycles.proofs.fresh.literal_value.Statement.{statement}
 use Rattle.cycles.proofs.fresh.literal_value.Tie as tie

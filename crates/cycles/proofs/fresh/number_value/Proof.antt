@@ -1,5 +1,5 @@
 -- `number_value` meets its contract.
-use Rattle.cycles.proofs.LiteralValues.{number-whole, number-real}
+use Rattle.cycles.proofs.steps.LiteralValues.{number-whole, number-real}
 use borrow.Author.Needs.{needs}
 use Rattle.cycles.proofs.fresh.number_value.Statement.{statement}
 use Rattle.cycles.proofs.fresh.number_value.Tie as tie

@@ -3,10 +3,10 @@ use Prim.Native.Nat.{_+_, _-_, _*_, _≤_}
 use native.Mathlib.Omega.{arith}
 use mathlib.Core.Path.{_≡_}
 use mathlib.Core.List.{_∷_}
-use Rattle.values.specs.Bytes.{low-first}
-use Rattle.cycles.specs.StateMemory.{Put}
-use Rattle.cycles.specs.FreshMemory.{blanks-of}
-use Rattle.cycles.proofs.PutLaws.{put-length, put-no-piece, put-piece}
+use Rattle.values.specs.definitions.Bytes.{low-first}
+use Rattle.cycles.specs.contracts.StateMemory.{Put}
+use Rattle.cycles.specs.contracts.FreshMemory.{blanks-of}
+use Rattle.cycles.proofs.laws.PutLaws.{put-length, put-no-piece, put-piece}
 use borrow.Author.Needs.{needs}
 use Rattle.cycles.proofs.fresh.put_blanks.Statement.{statement}
 use Rattle.cycles.proofs.fresh.put_blanks.Tie as tie

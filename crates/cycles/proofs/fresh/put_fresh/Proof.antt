@@ -1,6 +1,6 @@
 -- `put_fresh` meets its contract: the parts of the image are put one after another.
 use native.Mathlib.Omega.{arith}
-use Rattle.cycles.proofs.FreshImage.{fresh-impossible, fresh-put}
+use Rattle.cycles.proofs.steps.FreshImage.{fresh-impossible, fresh-put}
 use borrow.Author.Needs.{needs}
 use Rattle.cycles.proofs.fresh.put_fresh.Statement.{statement}
 use Rattle.cycles.proofs.fresh.put_fresh.Tie as tie

@@ -1,5 +1,5 @@
 -- `real_value` meets its contract.
-use Rattle.text.specs.Syntax.{literal-value}
+use Rattle.text.specs.definitions.Syntax.{literal-value}
 use borrow.Author.Needs.{needs}
 use Rattle.cycles.proofs.fresh.real_value.Statement.{statement}
 use Rattle.cycles.proofs.fresh.real_value.Tie as tie

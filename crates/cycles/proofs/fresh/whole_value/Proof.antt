@@ -2,9 +2,9 @@
 use Prim.Native.Nat.{_^_, _<_}
 use native.Mathlib.Omega.{arith}
 use mathlib.Core.Path.{ap, _∙_}
-use Rattle.values.specs.Value.{fitted}
-use Rattle.text.specs.Syntax.{literal-value}
-use Rattle.cycles.proofs.LiteralValues.{wide-is, minus-fits, minus-back}
+use Rattle.values.specs.definitions.Value.{fitted}
+use Rattle.text.specs.definitions.Syntax.{literal-value}
+use Rattle.cycles.proofs.steps.LiteralValues.{wide-is, minus-fits, minus-back}
 use borrow.Author.Needs.{needs}
 use Rattle.cycles.proofs.fresh.whole_value.Statement.{statement}
 use Rattle.cycles.proofs.fresh.whole_value.Tie as tie

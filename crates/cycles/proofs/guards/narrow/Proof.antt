@@ -3,8 +3,8 @@ use Prim.Native.Nat.{_-_}
 use native.Mathlib.Omega.{arith}
 use mathlib.Core.Path.{_≡_, refl, _∙_}
 use lib.ListN.{length}
-use Rattle.cycles.specs.Guards.{Narrowed}
-use Rattle.cycles.proofs.GuardLaws.{not-narrowed, narrowed}
+use Rattle.cycles.specs.contracts.Guards.{Narrowed}
+use Rattle.cycles.proofs.steps.GuardLaws.{not-narrowed, narrowed}
 use borrow.Author.Needs.{needs}
 use Rattle.cycles.proofs.guards.narrow.Statement.{statement}
 use Rattle.cycles.proofs.guards.narrow.Tie as tie

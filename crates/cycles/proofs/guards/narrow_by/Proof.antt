@@ -1,5 +1,5 @@
 -- `narrow_by` meets its contract: one law for each kind of guard.
-use Rattle.cycles.proofs.GuardLaws.{none-taken, taken-for, by-group, by-change, by-value-now, by-value-before}
+use Rattle.cycles.proofs.steps.GuardLaws.{none-taken, taken-for, by-group, by-change, by-value-now, by-value-before}
 use borrow.Author.Needs.{needs}
 use Rattle.cycles.proofs.guards.narrow_by.Statement.{statement}
 use Rattle.cycles.proofs.guards.narrow_by.Tie as tie

@@ -1,5 +1,5 @@
 -- `unmark_by_value` meets its contract.
-use Rattle.cycles.proofs.GuardLaws.{taken-for, held-fails, each-fails}
+use Rattle.cycles.proofs.steps.GuardLaws.{taken-for, held-fails, each-fails}
 use borrow.Author.Needs.{needs}
 use Rattle.cycles.proofs.guards.unmark_by_value.Statement.{statement}
 use Rattle.cycles.proofs.guards.unmark_by_value.Tie as tie

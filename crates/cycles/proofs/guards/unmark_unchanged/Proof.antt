@@ -3,8 +3,8 @@ use Prim.Native.Nat.{_+_, _-_}
 use native.Mathlib.Omega.{arith}
 use mathlib.Core.Path.{_≡_, refl}
 use lib.ListN.{length, length-set}
-use Rattle.cycles.specs.Failing.{Marks-taken, Unchanged}
-use Rattle.cycles.proofs.GuardLaws.{none-taken, mark-taken, unchanged-fails}
+use Rattle.cycles.specs.contracts.Failing.{Marks-taken, Unchanged}
+use Rattle.cycles.proofs.steps.GuardLaws.{none-taken, mark-taken, unchanged-fails}
 use borrow.Author.Needs.{needs}
 use Rattle.cycles.proofs.guards.unmark_unchanged.Statement.{statement}
 use Rattle.cycles.proofs.guards.unmark_unchanged.Tie as tie

@@ -3,8 +3,8 @@ use Prim.Native.Nat.{_+_, _-_}
 use native.Mathlib.Omega.{arith}
 use mathlib.Core.Path.{_≡_, refl}
 use lib.ListN.{length, length-set}
-use Rattle.cycles.specs.Failing.{Marks-taken, Value-fails}
-use Rattle.cycles.proofs.GuardLaws.{none-taken, mark-taken, worked-out-fails}
+use Rattle.cycles.specs.contracts.Failing.{Marks-taken, Value-fails}
+use Rattle.cycles.proofs.steps.GuardLaws.{none-taken, mark-taken, worked-out-fails}
 use borrow.Author.Needs.{needs}
 use Rattle.cycles.proofs.guards.unmark_worked_out.Statement.{statement}
 use Rattle.cycles.proofs.guards.unmark_worked_out.Tie as tie

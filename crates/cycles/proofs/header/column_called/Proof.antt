@@ -1,6 +1,6 @@
 -- `column_called` meets its contract: the parts of the name, from the last on.
 use native.Mathlib.Omega.{arith}
-use Rattle.cycles.proofs.ColumnReadLaws.{no-entity, presence-read, one-part, two-parts, three-parts, no-column-read, parts-read}
+use Rattle.cycles.proofs.laws.ColumnReadLaws.{no-entity, presence-read, one-part, two-parts, three-parts, no-column-read, parts-read}
 use borrow.Author.Needs.{needs}
 use Rattle.cycles.proofs.header.column_called.Statement.{statement}
 use Rattle.cycles.proofs.header.column_called.Tie as tie

@@ -1,5 +1,5 @@
 -- `event_column` meets its contract: each number that is found, or not, says what the file has.
-use Rattle.cycles.proofs.ColumnReadLaws.{no-owner, no-member, other-sort, event-read}
+use Rattle.cycles.proofs.laws.ColumnReadLaws.{no-owner, no-member, other-sort, event-read}
 use borrow.Author.Needs.{needs}
 use Rattle.cycles.proofs.header.event_column.Statement.{statement}
 use Rattle.cycles.proofs.header.event_column.Tie as tie

@@ -2,8 +2,8 @@
 use Prim.Native.Nat.{_≤_}
 use mathlib.Core.Path.{_≡_, refl, sym, _∙_}
 use native.Mathlib.Omega.{arith}
-use Rattle.cycles.specs.HeaderReads.{backwards, is-number-among}
-use Rattle.cycles.proofs.ColumnLaws.{among-here, among-before, among-none}
+use Rattle.cycles.specs.contracts.HeaderReads.{backwards, is-number-among}
+use Rattle.cycles.proofs.laws.ColumnLaws.{among-here, among-before, among-none}
 use borrow.Author.Needs.{needs}
 use Rattle.cycles.proofs.header.is_read.Statement.{statement}
 use Rattle.cycles.proofs.header.is_read.Tie as tie

@@ -3,7 +3,7 @@ use mathlib.Core.Path.{_≡_, refl}
 use mathlib.Core.List.{[], _∷_}
 use native.Mathlib.Omega.{arith}
 use lib.ListN.{length, length-set}
-use Rattle.cycles.proofs.HeaderLaws.{
+use Rattle.cycles.proofs.steps.HeaderLaws.{
   Header-going,
   header-begins,
   header-too-long,

@@ -1,5 +1,5 @@
 -- `cell_token` meets its contract.
-use Rattle.cycles.proofs.CellTokenLaws.{token-no-entity, token-no-interface, token-no-member, token-member}
+use Rattle.cycles.proofs.laws.CellTokenLaws.{token-no-entity, token-no-interface, token-no-member, token-member}
 use borrow.Author.Needs.{needs}
 use Rattle.cycles.proofs.image.cell_token.Statement.{statement}
 use Rattle.cycles.proofs.image.cell_token.Tie as tie

@@ -1,7 +1,7 @@
 -- `cells_fit` meets its contract: the cells before number i pass.
 use Prim.Native.Nat.{_-_}
 use borrow.Author.Tests.{not-true, not-false}
-use Rattle.cycles.proofs.StateTestLaws.{Cells-passed, cells-begin, cells-pass-end, cells-fail, cells-go-on}
+use Rattle.cycles.proofs.laws.StateTestLaws.{Cells-passed, cells-begin, cells-pass-end, cells-fail, cells-go-on}
 use borrow.Author.Needs.{needs}
 use Rattle.cycles.proofs.image.cells_fit.Statement.{statement}
 use Rattle.cycles.proofs.image.cells_fit.Tie as tie

@@ -1,5 +1,5 @@
 -- `fits` meets its contract: the test of each plane.
-use Rattle.cycles.specs.StateMemory.{fit-of}
+use Rattle.cycles.specs.contracts.StateMemory.{fit-of}
 use borrow.Author.Needs.{needs}
 use Rattle.cycles.proofs.image.fits.Statement.{statement}
 use Rattle.cycles.proofs.image.fits.Tie as tie

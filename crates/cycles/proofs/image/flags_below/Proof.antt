@@ -5,8 +5,8 @@ use mathlib.Core.Path.{_≡_, ap, _∙_}
 use lib.Dec.{ltb}
 use lib.ListN.{getD}
 use borrow.Author.Tests.{lt-ltb, le-ltb}
-use Rattle.cycles.specs.StateImage.{each, flags-below}
-use Rattle.cycles.proofs.TableLaws.{each-fails, each-goes-on, each-ends}
+use Rattle.cycles.specs.definitions.StateImage.{each, flags-below}
+use Rattle.cycles.proofs.laws.TableLaws.{each-fails, each-goes-on, each-ends}
 use borrow.Author.Needs.{needs}
 use Rattle.cycles.proofs.image.flags_below.Statement.{statement}
 use Rattle.cycles.proofs.image.flags_below.Tie as tie

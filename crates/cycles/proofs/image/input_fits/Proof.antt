@@ -1,7 +1,7 @@
 -- `input_fits` meets its contract: each answer is the test of no member, or of whatever member has tokens of these classes.
 use mathlib.Core.Path.{sym, _∙_}
-use Rattle.cycles.specs.StateImage.{input-fits-in}
-use Rattle.cycles.proofs.StateTestLaws.{no-token-tested, token-tested, input-blank, input-event, input-none}
+use Rattle.cycles.specs.definitions.StateImage.{input-fits-in}
+use Rattle.cycles.proofs.laws.StateTestLaws.{no-token-tested, token-tested, input-blank, input-event, input-none}
 use borrow.Author.Needs.{needs}
 use Rattle.cycles.proofs.image.input_fits.Statement.{statement}
 use Rattle.cycles.proofs.image.input_fits.Tie as tie

@@ -1,6 +1,6 @@
 -- `is_blank_cell` meets its contract.
 use borrow.Author.Tests.{ne-eqb}
-use Rattle.cycles.specs.StateImage.{is-blank-cell}
+use Rattle.cycles.specs.definitions.StateImage.{is-blank-cell}
 use Rattle.cycles.proofs.image.is_blank_cell.Statement.{statement}
 use Rattle.cycles.proofs.image.is_blank_cell.Tie as tie
 

@@ -3,9 +3,9 @@ use Prim.Native.Nat.{_<_}
 use native.Mathlib.Omega.{arith}
 use borrow.Author.Tests.{lt-ltb, ne-eqb}
 use Rattle.values.specs.declared.Kind.the-variants.{Wholes, Bools}
-use Rattle.checking.specs.Directory.{kind-class}
-use Rattle.cycles.specs.StateImage.{is-set-cell}
-use Rattle.cycles.proofs.StateTestLaws.{kind-tested, kind-left}
+use Rattle.checking.specs.contracts.Directory.{kind-class}
+use Rattle.cycles.specs.definitions.StateImage.{is-set-cell}
+use Rattle.cycles.proofs.laws.StateTestLaws.{kind-tested, kind-left}
 use borrow.Author.Needs.{needs}
 use Rattle.cycles.proofs.image.is_set_cell.Statement.{statement}
 use Rattle.cycles.proofs.image.is_set_cell.Tie as tie

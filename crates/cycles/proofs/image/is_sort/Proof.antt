@@ -1,5 +1,5 @@
 -- `is_sort` meets its contract.
-use Rattle.cycles.proofs.CellTokenLaws.{no-token-no-sort, sort-by-class}
+use Rattle.cycles.proofs.laws.CellTokenLaws.{no-token-no-sort, sort-by-class}
 use borrow.Author.Needs.{needs}
 use Rattle.cycles.proofs.image.is_sort.Statement.{statement}
 use Rattle.cycles.proofs.image.is_sort.Tie as tie

@@ -2,7 +2,7 @@
 use native.Mathlib.Omega.{arith}
 use mathlib.Core.Path.{sym, _∙_}
 use borrow.Author.Tests.{not-true, not-false}
-use Rattle.cycles.proofs.StateTestLaws.{
+use Rattle.cycles.proofs.laws.StateTestLaws.{
   previous-room,
   inputs-begin,
   inputs-room,

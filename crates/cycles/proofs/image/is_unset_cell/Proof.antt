@@ -1,6 +1,6 @@
 -- `is_unset_cell` meets its contract.
 use borrow.Author.Tests.{ne-eqb}
-use Rattle.cycles.specs.StateImage.{is-unset-cell}
+use Rattle.cycles.specs.definitions.StateImage.{is-unset-cell}
 use Rattle.cycles.proofs.image.is_unset_cell.Statement.{statement}
 use Rattle.cycles.proofs.image.is_unset_cell.Tie as tie
 

@@ -1,6 +1,6 @@
 -- `is_value_cell` meets its contract.
 use mathlib.Core.Path.{sym, _∙_}
-use Rattle.cycles.proofs.StateTestLaws.{value-unset, value-set}
+use Rattle.cycles.proofs.laws.StateTestLaws.{value-unset, value-set}
 use borrow.Author.Needs.{needs}
 use Rattle.cycles.proofs.image.is_value_cell.Statement.{statement}
 use Rattle.cycles.proofs.image.is_value_cell.Tie as tie

@@ -1,9 +1,9 @@
 -- `put_state` meets its contract: the parts are put one after another.
 use native.Mathlib.Omega.{arith}
 use mathlib.Core.Path.{refl}
-use Rattle.values.specs.Bytes.{low-first}
-use Rattle.cycles.proofs.PutLaws.{put-said, put-next, put-same}
-use Rattle.cycles.proofs.GatheredLaws.{gathered-parts, gathered-put}
+use Rattle.values.specs.definitions.Bytes.{low-first}
+use Rattle.cycles.proofs.laws.PutLaws.{put-said, put-next, put-same}
+use Rattle.cycles.proofs.laws.GatheredLaws.{gathered-parts, gathered-put}
 use borrow.Author.Needs.{needs}
 use Rattle.cycles.proofs.image.put_state.Statement.{statement}
 use Rattle.cycles.proofs.image.put_state.Tie as tie

@@ -1,7 +1,7 @@
 -- `store_fits` meets its contract: each answer is the test of no member, or of whatever member has tokens of these classes.
 use borrow.Author.Tests.{not-true, not-false}
-use Rattle.cycles.specs.StateImage.{store-fits}
-use Rattle.cycles.proofs.StateTestLaws.{no-token-tested, token-tested, store-any, store-attribute, store-other}
+use Rattle.cycles.specs.definitions.StateImage.{store-fits}
+use Rattle.cycles.proofs.laws.StateTestLaws.{no-token-tested, token-tested, store-any, store-attribute, store-other}
 use borrow.Author.Needs.{needs}
 use Rattle.cycles.proofs.image.store_fits.Statement.{statement}
 use Rattle.cycles.proofs.image.store_fits.Tie as tie

@@ -1,6 +1,6 @@
 -- `in_turn` meets its contract.
 use borrow.Author.Tests.{eq-eqb, ne-eqb, le-leb, lt-leb}
-use Rattle.cycles.specs.Line.{in-turn}
+use Rattle.cycles.specs.definitions.Line.{in-turn}
 use borrow.Author.Needs.{needs}
 use Rattle.cycles.proofs.judge.in_turn.Statement.{statement}
 use Rattle.cycles.proofs.judge.in_turn.Tie as tie

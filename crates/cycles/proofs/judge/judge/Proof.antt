@@ -1,6 +1,6 @@
 -- `judge` meets its contract.
 use borrow.Author.Tests.{not-true, not-false}
-use Rattle.cycles.proofs.JudgeLaws.{judged-absent, judged-out-of-turn, judged-new, judged-resent, judged-other}
+use Rattle.cycles.proofs.laws.JudgeLaws.{judged-absent, judged-out-of-turn, judged-new, judged-resent, judged-other}
 use borrow.Author.Needs.{needs}
 use Rattle.cycles.proofs.judge.judge.Statement.{statement}
 use Rattle.cycles.proofs.judge.judge.Tie as tie

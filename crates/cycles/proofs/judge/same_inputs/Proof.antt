@@ -1,6 +1,6 @@
 -- `same_inputs` meets its contract.
 use native.Mathlib.Omega.{arith}
-use Rattle.cycles.proofs.JudgeLaws.{both-same, first-differs}
+use Rattle.cycles.proofs.laws.JudgeLaws.{both-same, first-differs}
 use borrow.Author.Needs.{needs}
 use Rattle.cycles.proofs.judge.same_inputs.Statement.{statement}
 use Rattle.cycles.proofs.judge.same_inputs.Tie as tie

@@ -1,6 +1,6 @@
 -- `takes_cell` meets its contract.
 use borrow.Author.Tests.{eq-eqb, ne-eqb}
-use Rattle.cycles.specs.Judging.{takes-cell}
+use Rattle.cycles.specs.contracts.Judging.{takes-cell}
 use borrow.Author.Needs.{needs}
 use Rattle.cycles.proofs.judge.takes_cell.Statement.{statement}
 use Rattle.cycles.proofs.judge.takes_cell.Tie as tie

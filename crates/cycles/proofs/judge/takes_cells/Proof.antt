@@ -2,10 +2,10 @@
 use mathlib.Core.Path.{_≡_, ap, _∙_}
 use Prim.Native.Nat.{_-_, _*_, _≤_}
 use native.Mathlib.Omega.{arith}
-use Rattle.cycles.specs.StateImage.{each}
-use Rattle.cycles.specs.Judging.{takes-cell}
-use Rattle.cycles.proofs.TableLaws.{each-ends}
-use Rattle.cycles.proofs.JudgeLaws.{call-fails, call-passes}
+use Rattle.cycles.specs.definitions.StateImage.{each}
+use Rattle.cycles.specs.contracts.Judging.{takes-cell}
+use Rattle.cycles.proofs.laws.TableLaws.{each-ends}
+use Rattle.cycles.proofs.laws.JudgeLaws.{call-fails, call-passes}
 use borrow.Author.Needs.{needs}
 use Rattle.cycles.proofs.judge.takes_cells.Statement.{statement}
 use Rattle.cycles.proofs.judge.takes_cells.Tie as tie

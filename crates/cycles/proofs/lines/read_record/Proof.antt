@@ -1,6 +1,6 @@
 -- `read_record` meets its contract.
 use borrow.Author.Needs.{needs}
-use Rattle.cycles.proofs.LineReadLaws.{too-many-entities, record-without-number, record-got, record-ill-formed}
+use Rattle.cycles.proofs.steps.LineReadLaws.{too-many-entities, record-without-number, record-got, record-ill-formed}
 use Rattle.cycles.proofs.lines.read_record.Statement.{statement}
 use Rattle.cycles.proofs.lines.read_record.Tie as tie
 

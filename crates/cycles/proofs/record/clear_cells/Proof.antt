@@ -5,8 +5,8 @@ use mathlib.Core.Option.{none}
 use Prim.Native.Nat.{ℕ, _-_, _*_, _≤_}
 use native.Mathlib.Omega.{arith}
 use lib.ListN.{length, drop}
-use Rattle.cycles.specs.StateImage.{table, input-bytes}
-use Rattle.cycles.proofs.TableLaws.{table-fill}
+use Rattle.cycles.specs.definitions.StateImage.{table, input-bytes}
+use Rattle.cycles.proofs.laws.TableLaws.{table-fill}
 use borrow.Author.Needs.{needs}
 use Rattle.cycles.proofs.record.clear_cells.Statement.{statement}
 use Rattle.cycles.proofs.record.clear_cells.Tie as tie

@@ -1,5 +1,5 @@
 -- `kind_of` meets its contract.
-use Rattle.cycles.proofs.RecordLaws.{whole-class, bool-class, real-class}
+use Rattle.cycles.proofs.laws.RecordLaws.{whole-class, bool-class, real-class}
 use Rattle.cycles.proofs.record.kind_of.Statement.{statement}
 use Rattle.cycles.proofs.record.kind_of.Tie as tie
 

@@ -1,5 +1,5 @@
 -- `presence_byte` meets its contract.
-use Rattle.cycles.specs.Record.{as-truth}
+use Rattle.cycles.specs.definitions.Record.{as-truth}
 use borrow.Author.Needs.{needs}
 use Rattle.cycles.proofs.record.presence_byte.Statement.{statement}
 use Rattle.cycles.proofs.record.presence_byte.Tie as tie

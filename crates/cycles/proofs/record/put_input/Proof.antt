@@ -1,7 +1,7 @@
 -- `put_input` meets its contract: the column's number says its place.
 use native.Mathlib.Omega.{arith}
 use lib.ListN.{length-set}
-use Rattle.cycles.proofs.InputLaws.{presence-is-put, event-is-put}
+use Rattle.cycles.proofs.steps.InputLaws.{presence-is-put, event-is-put}
 use borrow.Author.Needs.{needs}
 use Rattle.cycles.proofs.record.put_input.Statement.{statement}
 use Rattle.cycles.proofs.record.put_input.Tie as tie

@@ -4,7 +4,7 @@ use Prim.Native.Nat.{_-_}
 use native.Mathlib.Omega.{arith}
 use lib.ListN.{length}
 use borrow.Author.Tests.{not-true, not-false}
-use Rattle.cycles.proofs.ValuesLaws.{Values-going, values-begin, values-end, values-ill-formed, values-too-few, values-next}
+use Rattle.cycles.proofs.steps.ValuesLaws.{Values-going, values-begin, values-end, values-ill-formed, values-too-few, values-next}
 use borrow.Author.Needs.{needs}
 use Rattle.cycles.proofs.record.read_values.Statement.{statement}
 use Rattle.cycles.proofs.record.read_values.Tie as tie

@@ -1,6 +1,6 @@
 -- `record_number` meets its contract.
 use mathlib.Core.Path.{sym, _∙_}
-use Rattle.cycles.proofs.RecordLaws.{record-too-long, record-feeds, record-none, record-numbered}
+use Rattle.cycles.proofs.laws.RecordLaws.{record-too-long, record-feeds, record-none, record-numbered}
 use borrow.Author.Needs.{needs}
 use Rattle.cycles.proofs.record.record_number.Statement.{statement}
 use Rattle.cycles.proofs.record.record_number.Tie as tie

@@ -4,7 +4,7 @@ use native.Mathlib.Omega.{arith}
 use mathlib.Core.Path.{_∙_}
 use lib.ListN.{length-set}
 use borrow.Author.Tests.{not-true, not-false}
-use Rattle.cycles.proofs.RowPuts.{name-below, name-none, name-no-room, name-put}
+use Rattle.cycles.proofs.laws.RowPuts.{name-below, name-none, name-no-room, name-put}
 use borrow.Author.Needs.{needs}
 use Rattle.cycles.proofs.rows.put_name.Statement.{statement}
 use Rattle.cycles.proofs.rows.put_name.Tie as tie

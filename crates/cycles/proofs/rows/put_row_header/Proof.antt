@@ -3,7 +3,7 @@ use Prim.Native.Nat.{_-_, _≤_}
 use native.Mathlib.Omega.{arith}
 use mathlib.Core.Path.{_∙_}
 use lib.ListN.{length-set}
-use Rattle.cycles.proofs.RowPuts.{Names-so-far, names-begin, names-next, header-impossible, header-end}
+use Rattle.cycles.proofs.laws.RowPuts.{Names-so-far, names-begin, names-next, header-impossible, header-end}
 use borrow.Author.Needs.{needs}
 use Rattle.cycles.proofs.rows.put_row_header.Statement.{statement}
 use Rattle.cycles.proofs.rows.put_row_header.Tie as tie

@@ -1,4 +1,4 @@
-use Rattle.engine.proofs.BenchLaws.{bench-put}
+use Rattle.engine.proofs.laws.BenchLaws.{bench-put}
 use borrow.Author.Needs.{needs}
 use Rattle.engine.proofs.bench.put_bench.Statement.{statement}
 use Rattle.engine.proofs.bench.put_bench.Tie as tie

@@ -1,4 +1,4 @@
-use Rattle.engine.proofs.BenchLaws.{text-none, text-held}
+use Rattle.engine.proofs.laws.BenchLaws.{text-none, text-held}
 use borrow.Author.Needs.{needs}
 use Rattle.engine.proofs.bench.text_of.Statement.{statement}
 use Rattle.engine.proofs.bench.text_of.Tie as tie

@@ -1,6 +1,6 @@
 -- `settle` meets its contract: by what was judged.
 use native.Mathlib.Omega.{arith}
-use Rattle.engine.proofs.LineLaws.{settled-impossible, settled-refused, settled-resent, settled-new}
+use Rattle.engine.proofs.laws.LineLaws.{settled-impossible, settled-refused, settled-resent, settled-new}
 use borrow.Author.Needs.{needs}
 use Rattle.engine.proofs.line.settle.Statement.{statement}
 use Rattle.engine.proofs.line.settle.Tie as tie

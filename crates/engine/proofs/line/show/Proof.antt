@@ -1,7 +1,7 @@
 -- `show` meets its contract.
 use native.Mathlib.Omega.{arith}
 use lib.ListN.{length-drop, length-take}
-use Rattle.engine.proofs.LineLaws.{shown-impossible, shown}
+use Rattle.engine.proofs.laws.LineLaws.{shown-impossible, shown}
 use borrow.Author.Needs.{needs}
 use Rattle.engine.proofs.line.show.Statement.{statement}
 use Rattle.engine.proofs.line.show.Tie as tie

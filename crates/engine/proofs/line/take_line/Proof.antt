@@ -1,7 +1,7 @@
 -- `take_line` meets its contract.
 use native.Mathlib.Omega.{arith}
 use borrow.Author.Tests.{not-true, not-false}
-use Rattle.engine.proofs.LineLaws.{line-no-state, line-no-header, line-taken}
+use Rattle.engine.proofs.laws.LineLaws.{line-no-state, line-no-header, line-taken}
 use borrow.Author.Needs.{needs}
 use Rattle.engine.proofs.line.take_line.Statement.{statement}
 use Rattle.engine.proofs.line.take_line.Tie as tie

@@ -1,5 +1,5 @@
 -- `take_record` meets its contract.
-use Rattle.engine.proofs.LineLaws.{record-refused, record-settled}
+use Rattle.engine.proofs.laws.LineLaws.{record-refused, record-settled}
 use borrow.Author.Needs.{needs}
 use Rattle.engine.proofs.line.take_record.Statement.{statement}
 use Rattle.engine.proofs.line.take_record.Tie as tie

@@ -1,4 +1,4 @@
-use Rattle.engine.proofs.ServingLaws.{answer-refused, answer-row}
+use Rattle.engine.proofs.laws.ServingLaws.{answer-refused, answer-row}
 use borrow.Author.Needs.{needs}
 use Rattle.engine.proofs.serve.answer.Statement.{statement}
 use Rattle.engine.proofs.serve.answer.Tie as tie

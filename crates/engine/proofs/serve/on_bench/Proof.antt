@@ -1,5 +1,5 @@
 use borrow.Author.Tests.{not-true, not-false}
-use Rattle.engine.proofs.ServingLaws.{room-of, serves-as, check-served, fresh-served, line-served, header-served, row-no-state, row-served}
+use Rattle.engine.proofs.laws.ServingLaws.{room-of, serves-as, check-served, fresh-served, line-served, header-served, row-no-state, row-served}
 use borrow.Author.Needs.{needs}
 use Rattle.engine.proofs.serve.on_bench.Statement.{statement}
 use Rattle.engine.proofs.serve.on_bench.Tie as tie

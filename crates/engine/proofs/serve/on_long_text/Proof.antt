@@ -1,5 +1,5 @@
 use native.Mathlib.Omega.{arith}
-use Rattle.checking.proofs.CheckLaws.{room-for-all}
+use Rattle.checking.proofs.laws.CheckLaws.{room-for-all}
 use borrow.Author.Needs.{needs}
 use Rattle.engine.proofs.serve.on_long_text.Statement.{statement}
 use Rattle.engine.proofs.serve.on_long_text.Tie as tie

@@ -1,5 +1,5 @@
 use native.Mathlib.Omega.{arith}
-use Rattle.engine.proofs.ServingLaws.{enough-room}
+use Rattle.engine.proofs.laws.ServingLaws.{enough-room}
 use borrow.Author.Needs.{needs}
 use Rattle.engine.proofs.serve.on_short_text.Statement.{statement}
 use Rattle.engine.proofs.serve.on_short_text.Tie as tie

@@ -1,5 +1,5 @@
 use native.Mathlib.Omega.{arith}
-use Rattle.engine.proofs.ServingLaws.{checked-room, refused-text, accepted-rows, accepted-length, rows-fit, accepted-text}
+use Rattle.engine.proofs.laws.ServingLaws.{checked-room, refused-text, accepted-rows, accepted-length, rows-fit, accepted-text}
 use borrow.Author.Needs.{needs}
 use Rattle.engine.proofs.serve.on_text.Statement.{statement}
 use Rattle.engine.proofs.serve.on_text.Tie as tie

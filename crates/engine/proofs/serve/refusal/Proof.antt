@@ -1,5 +1,5 @@
-use Rattle.checking.specs.CheckedBench.{checked-answer}
-use Rattle.engine.specs.Serving.{refusal}
+use Rattle.checking.specs.contracts.CheckedBench.{checked-answer}
+use Rattle.engine.specs.contracts.Serving.{refusal}
 use borrow.Author.Needs.{needs}
 use Rattle.engine.proofs.serve.refusal.Statement.{statement}
 use Rattle.engine.proofs.serve.refusal.Tie as tie

@@ -1,5 +1,5 @@
 -- `put_line` meets its contract.
-use Rattle.replay.proofs.LineLaws.{stood-as, put-as, nothing-put}
+use Rattle.replay.proofs.steps.LineLaws.{stood-as, put-as, nothing-put}
 use borrow.Author.Needs.{needs}
 use Rattle.replay.proofs.rows.put_line.Statement.{statement}
 use Rattle.replay.proofs.rows.put_line.Tie as tie

@@ -2,8 +2,8 @@
 use native.Mathlib.Omega.{arith}
 use lib.ListN.{length-set}
 use mathlib.Core.List.{[], _∷_}
-use Rattle.cycles.proofs.PutLaws.{put-said, put-next}
-use Rattle.replay.proofs.LineLaws.{refusal-most, names-refused-put, names-short, names-put}
+use Rattle.cycles.proofs.laws.PutLaws.{put-said, put-next}
+use Rattle.replay.proofs.steps.LineLaws.{refusal-most, names-refused-put, names-short, names-put}
 use borrow.Author.Needs.{needs}
 use Rattle.replay.proofs.rows.put_names.Statement.{statement}
 use Rattle.replay.proofs.rows.put_names.Tie as tie

@@ -1,6 +1,6 @@
 -- `is_between` meets its contract.
 use borrow.Author.Tests.{le-leb, lt-leb}
-use Rattle.text.specs.Bytes.{between}
+use Rattle.text.specs.definitions.Bytes.{between}
 use Rattle.text.proofs.bytes.is_between.Statement.{statement}
 use Rattle.text.proofs.bytes.is_between.Tie as tie
 

@@ -1,6 +1,6 @@
 -- `is_blank` meets its contract.
 use borrow.Author.Tests.{eq-eqb, ne-eqb}
-use Rattle.text.specs.Bytes.{is-blank}
+use Rattle.text.specs.definitions.Bytes.{is-blank}
 use borrow.Author.Needs.{needs}
 use Rattle.text.proofs.bytes.is_blank.Statement.{statement}
 use Rattle.text.proofs.bytes.is_blank.Tie as tie

@@ -1,6 +1,6 @@
 -- `is_comment_byte` meets its contract.
 use mathlib.Core.Path.{sym, _∙_}
-use Rattle.text.specs.Bytes.{is-comment-byte}
+use Rattle.text.specs.definitions.Bytes.{is-comment-byte}
 use borrow.Author.Needs.{needs}
 use Rattle.text.proofs.bytes.is_comment_byte.Statement.{statement}
 use Rattle.text.proofs.bytes.is_comment_byte.Tie as tie

@@ -1,5 +1,5 @@
 -- `is_digit` meets its contract.
-use Rattle.text.specs.Bytes.{is-digit}
+use Rattle.text.specs.definitions.Bytes.{is-digit}
 use borrow.Author.Needs.{needs}
 use Rattle.text.proofs.bytes.is_digit.Statement.{statement}
 use Rattle.text.proofs.bytes.is_digit.Tie as tie

@@ -1,6 +1,6 @@
 -- `is_letter` meets its contract.
 use mathlib.Core.Path.{sym, _∙_}
-use Rattle.text.specs.Bytes.{is-letter}
+use Rattle.text.specs.definitions.Bytes.{is-letter}
 use borrow.Author.Needs.{needs}
 use Rattle.text.proofs.bytes.is_letter.Statement.{statement}
 use Rattle.text.proofs.bytes.is_letter.Tie as tie

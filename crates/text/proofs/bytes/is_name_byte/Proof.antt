@@ -1,6 +1,6 @@
 -- `is_name_byte` meets its contract.
 use mathlib.Core.Path.{sym, _∙_}
-use Rattle.text.specs.Bytes.{is-name-byte}
+use Rattle.text.specs.definitions.Bytes.{is-name-byte}
 use borrow.Author.Needs.{needs}
 use Rattle.text.proofs.bytes.is_name_byte.Statement.{statement}
 use Rattle.text.proofs.bytes.is_name_byte.Tie as tie

@@ -1,7 +1,7 @@
 -- `mark_class` meets its contract.
 use mathlib.Core.Path.{refl}
-use Rattle.text.specs.Tokens.{class-in, marks}
-use Rattle.text.proofs.FixedLaws.{mark-at, not-mark}
+use Rattle.text.specs.definitions.Tokens.{class-in, marks}
+use Rattle.text.proofs.laws.FixedLaws.{mark-at, not-mark}
 use Rattle.text.proofs.bytes.mark_class.Statement.{statement}
 use Rattle.text.proofs.bytes.mark_class.Tie as tie
 

@@ -6,12 +6,12 @@ use lib.ListN.{length}
 use borrow.Author.Needs.{needs}
 use borrow.Fn.Kinds.{In}
 use borrow.Fn.PlainCycle.{Measures, is, falls, and}
-use Rattle.text.specs.Grammar.{both-at, either-at, atom-reader, conjunction-reader, condition-reader}
-use Rattle.text.specs.ParseAnswers.{classes-from, is-class}
-use Rattle.text.specs.Readers.{joined}
-use Rattle.text.specs.Tokens.{AND, OR}
-use Rattle.text.proofs.CodeGrammarLaws.{some-condition, atom-halts, atom-lacks, atom-opens}
-use Rattle.text.proofs.CodeReaderLaws.{seen-less, Going, begins, chain-answers, joined-answers, stops, goes-on, chain-left, turn-less}
+use Rattle.text.specs.definitions.Grammar.{both-at, either-at, atom-reader, conjunction-reader, condition-reader}
+use Rattle.text.specs.contracts.ParseAnswers.{classes-from, is-class}
+use Rattle.text.specs.definitions.Readers.{joined}
+use Rattle.text.specs.definitions.Tokens.{AND, OR}
+use Rattle.text.proofs.laws.CodeGrammarLaws.{some-condition, atom-halts, atom-lacks, atom-opens}
+use Rattle.text.proofs.laws.CodeReaderLaws.{seen-less, Going, begins, chain-answers, joined-answers, stops, goes-on, chain-left, turn-less}
 use Rattle.text.proofs.grammar.atom.Reads as atom
 use Rattle.text.proofs.grammar.atom.Kinds as atom-kinds
 use Rattle.text.proofs.grammar.+atom+condition+conjunction.Lts-atom as atom-lts

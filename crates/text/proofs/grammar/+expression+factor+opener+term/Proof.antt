@@ -6,12 +6,12 @@ use lib.ListN.{length}
 use borrow.Author.Needs.{needs}
 use borrow.Fn.Kinds.{In}
 use borrow.Fn.PlainCycle.{Measures, is, falls, and}
-use Rattle.text.specs.Grammar.{apply-at, opener-reader, factor-reader, term-reader, expression-reader}
-use Rattle.text.specs.ParseAnswers.{classes-from, is-either}
-use Rattle.text.specs.Readers.{joined}
-use Rattle.text.specs.Tokens.{ROUND-OPEN, ROUND-CLOSE, PLUS, MINUS, TIMES, DIVIDE}
-use Rattle.text.proofs.CodeGrammarLaws.{some-expression, factor-name, factor-unsigned, factor-halts, factor-opens}
-use Rattle.text.proofs.CodeReaderLaws.{
+use Rattle.text.specs.definitions.Grammar.{apply-at, opener-reader, factor-reader, term-reader, expression-reader}
+use Rattle.text.specs.contracts.ParseAnswers.{classes-from, is-either}
+use Rattle.text.specs.definitions.Readers.{joined}
+use Rattle.text.specs.definitions.Tokens.{ROUND-OPEN, ROUND-CLOSE, PLUS, MINUS, TIMES, DIVIDE}
+use Rattle.text.proofs.laws.CodeGrammarLaws.{some-expression, factor-name, factor-unsigned, factor-halts, factor-opens}
+use Rattle.text.proofs.laws.CodeReaderLaws.{
   and-then-answers,
   and-give-answers,
   expect-answers,

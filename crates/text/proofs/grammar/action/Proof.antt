@@ -1,9 +1,9 @@
 -- `action` meets its contract.
 use borrow.Author.Needs.{needs}
 use Rattle.values.specs.declared.Kind.the-variants.{Wholes}
-use Rattle.text.specs.Grammar.{action-after}
-use Rattle.text.specs.Tokens.{NAME, ROUND-OPEN, ROUND-CLOSE}
-use Rattle.text.proofs.CodeReaderLaws.{and-then-answers, expect-answers, give-answers}
+use Rattle.text.specs.definitions.Grammar.{action-after}
+use Rattle.text.specs.definitions.Tokens.{NAME, ROUND-OPEN, ROUND-CLOSE}
+use Rattle.text.proofs.laws.CodeReaderLaws.{and-then-answers, expect-answers, give-answers}
 use Rattle.text.proofs.grammar.action.Statement.{statement}
 use Rattle.text.proofs.grammar.action.Tie as tie
 

@@ -1,8 +1,8 @@
 -- `any_token` meets its contract.
 use mathlib.Core.Path.{refl}
 use borrow.Author.Needs.{needs}
-use Rattle.text.specs.ParseAnswers.{any-token}
-use Rattle.text.proofs.CodeReaderLaws.{refused-answers, none-answers, any-token-answers}
+use Rattle.text.specs.contracts.ParseAnswers.{any-token}
+use Rattle.text.proofs.laws.CodeReaderLaws.{refused-answers, none-answers, any-token-answers}
 use Rattle.text.proofs.grammar.any_token.Statement.{statement}
 use Rattle.text.proofs.grammar.any_token.Tie as tie
 

@@ -1,8 +1,8 @@
 -- `assignment` meets its contract.
 use borrow.Author.Needs.{needs}
-use Rattle.text.specs.Grammar.{assignment-after}
-use Rattle.text.specs.Tokens.{EQUALS}
-use Rattle.text.proofs.CodeReaderLaws.{and-give-answers, expect-answers}
+use Rattle.text.specs.definitions.Grammar.{assignment-after}
+use Rattle.text.specs.definitions.Tokens.{EQUALS}
+use Rattle.text.proofs.laws.CodeReaderLaws.{and-give-answers, expect-answers}
 use Rattle.text.proofs.grammar.assignment.Statement.{statement}
 use Rattle.text.proofs.grammar.assignment.Tie as tie
 

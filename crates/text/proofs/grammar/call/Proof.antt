@@ -1,9 +1,9 @@
 -- `call` meets its contract.
 use borrow.Author.Needs.{needs}
-use Rattle.text.specs.Grammar.{call-reader}
-use Rattle.text.specs.Tokens.{NAME, ACTION, ON, ROUND-OPEN, ROUND-CLOSE}
-use Rattle.text.proofs.CodeGrammarLaws.{some-expression, some-target}
-use Rattle.text.proofs.CodeReaderLaws.{and-then-answers, and-give-answers, expect-answers}
+use Rattle.text.specs.definitions.Grammar.{call-reader}
+use Rattle.text.specs.definitions.Tokens.{NAME, ACTION, ON, ROUND-OPEN, ROUND-CLOSE}
+use Rattle.text.proofs.laws.CodeGrammarLaws.{some-expression, some-target}
+use Rattle.text.proofs.laws.CodeReaderLaws.{and-then-answers, and-give-answers, expect-answers}
 use Rattle.text.proofs.grammar.call.Statement.{statement}
 use Rattle.text.proofs.grammar.call.Tie as tie
 

@@ -1,11 +1,11 @@
 -- `calls` meets its contract.
 use lib.ListN.{length}
 use borrow.Author.Needs.{needs}
-use Rattle.text.specs.Grammar.{call-after}
-use Rattle.text.specs.ParseAnswers.{classes-from, is-class}
-use Rattle.text.specs.Readers.{added}
-use Rattle.text.specs.Tokens.{COMMA}
-use Rattle.text.proofs.CodeReaderLaws.{Going, begins, many-answers, added-answers, stops, goes-on, turn-less}
+use Rattle.text.specs.definitions.Grammar.{call-after}
+use Rattle.text.specs.contracts.ParseAnswers.{classes-from, is-class}
+use Rattle.text.specs.definitions.Readers.{added}
+use Rattle.text.specs.definitions.Tokens.{COMMA}
+use Rattle.text.proofs.laws.CodeReaderLaws.{Going, begins, many-answers, added-answers, stops, goes-on, turn-less}
 use Rattle.text.proofs.grammar.calls.Statement.{statement}
 use Rattle.text.proofs.grammar.calls.Tie as tie
 

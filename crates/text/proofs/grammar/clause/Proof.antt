@@ -1,10 +1,10 @@
 -- `clause` meets its contract.
 use mathlib.Core.Option.{none}
 use borrow.Author.Needs.{needs}
-use Rattle.text.specs.Grammar.{clause-reader}
-use Rattle.text.specs.Tokens.{NAME, EVENT, FROM, VALUE}
-use Rattle.text.proofs.CodeGrammarLaws.{some-target}
-use Rattle.text.proofs.CodeReaderLaws.{and-then-answers, and-give-answers, expect-answers}
+use Rattle.text.specs.definitions.Grammar.{clause-reader}
+use Rattle.text.specs.definitions.Tokens.{NAME, EVENT, FROM, VALUE}
+use Rattle.text.proofs.laws.CodeGrammarLaws.{some-target}
+use Rattle.text.proofs.laws.CodeReaderLaws.{and-then-answers, and-give-answers, expect-answers}
 use Rattle.text.proofs.grammar.clause.Statement.{statement}
 use Rattle.text.proofs.grammar.clause.Tie as tie
 

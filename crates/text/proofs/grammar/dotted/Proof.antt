@@ -1,8 +1,8 @@
 -- `dotted` meets its contract.
 use borrow.Author.Needs.{needs}
-use Rattle.text.specs.Grammar.{member-reader}
-use Rattle.text.specs.Tokens.{NAME, DOT}
-use Rattle.text.proofs.CodeReaderLaws.{expect-answers, give-answers}
+use Rattle.text.specs.definitions.Grammar.{member-reader}
+use Rattle.text.specs.definitions.Tokens.{NAME, DOT}
+use Rattle.text.proofs.laws.CodeReaderLaws.{expect-answers, give-answers}
 use Rattle.text.proofs.grammar.dotted.Statement.{statement}
 use Rattle.text.proofs.grammar.dotted.Tie as tie
 

@@ -1,9 +1,9 @@
 -- `entity` meets its contract.
 use mathlib.Core.List.{[]}
 use borrow.Author.Needs.{needs}
-use Rattle.text.specs.Grammar.{entity-after}
-use Rattle.text.specs.Tokens.{NAME, BRACE-OPEN, BRACE-CLOSE, COLON}
-use Rattle.text.proofs.CodeReaderLaws.{and-then-answers, expect-answers, give-answers}
+use Rattle.text.specs.definitions.Grammar.{entity-after}
+use Rattle.text.specs.definitions.Tokens.{NAME, BRACE-OPEN, BRACE-CLOSE, COLON}
+use Rattle.text.proofs.laws.CodeReaderLaws.{and-then-answers, expect-answers, give-answers}
 use Rattle.text.proofs.grammar.entity.Statement.{statement}
 use Rattle.text.proofs.grammar.entity.Tie as tie
 

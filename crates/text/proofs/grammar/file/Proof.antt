@@ -1,9 +1,9 @@
 -- `file` meets its contract.
 use mathlib.Core.List.{[]}
 use borrow.Author.Needs.{needs}
-use Rattle.text.specs.Grammar.{file-reader}
-use Rattle.text.specs.Tokens.{RULES, END}
-use Rattle.text.proofs.CodeReaderLaws.{and-then-answers, expect-answers, give-answers}
+use Rattle.text.specs.definitions.Grammar.{file-reader}
+use Rattle.text.specs.definitions.Tokens.{RULES, END}
+use Rattle.text.proofs.laws.CodeReaderLaws.{and-then-answers, expect-answers, give-answers}
 use Rattle.text.proofs.grammar.file.Statement.{statement}
 use Rattle.text.proofs.grammar.file.Tie as tie
 

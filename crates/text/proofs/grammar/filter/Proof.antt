@@ -1,9 +1,9 @@
 -- `filter` meets its contract.
 use mathlib.Core.Path.{refl}
 use borrow.Author.Needs.{needs}
-use Rattle.text.specs.Grammar.{filter-reader}
-use Rattle.text.specs.Tokens.{NAME, EQUALS}
-use Rattle.text.proofs.CodeReaderLaws.{and-give-answers, expect-answers, give-answers, chosen-answers, if-not-answers}
+use Rattle.text.specs.definitions.Grammar.{filter-reader}
+use Rattle.text.specs.definitions.Tokens.{NAME, EQUALS}
+use Rattle.text.proofs.laws.CodeReaderLaws.{and-give-answers, expect-answers, give-answers, chosen-answers, if-not-answers}
 use Rattle.text.proofs.grammar.filter.Statement.{statement}
 use Rattle.text.proofs.grammar.filter.Tie as tie
 

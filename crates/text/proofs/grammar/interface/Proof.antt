@@ -1,10 +1,10 @@
 -- `interface` meets its contract.
 use mathlib.Core.List.{[]}
 use borrow.Author.Needs.{needs}
-use Rattle.text.specs.Grammar.{interface-after}
-use Rattle.text.specs.Syntax.{attribute, event}
-use Rattle.text.specs.Tokens.{NAME, BRACE-OPEN, BRACE-CLOSE}
-use Rattle.text.proofs.CodeReaderLaws.{and-then-answers, expect-answers, give-answers}
+use Rattle.text.specs.definitions.Grammar.{interface-after}
+use Rattle.text.specs.definitions.Syntax.{attribute, event}
+use Rattle.text.specs.definitions.Tokens.{NAME, BRACE-OPEN, BRACE-CLOSE}
+use Rattle.text.proofs.laws.CodeReaderLaws.{and-then-answers, expect-answers, give-answers}
 use Rattle.text.proofs.grammar.interface.Statement.{statement}
 use Rattle.text.proofs.grammar.interface.Tie as tie
 

@@ -1,7 +1,7 @@
 -- `is_unsigned` meets its contract.
 use mathlib.Core.Path.{sym, ap}
 use borrow.Author.Tests.{ne-eqb}
-use Rattle.text.specs.ParseAnswers.{is-unsigned}
+use Rattle.text.specs.contracts.ParseAnswers.{is-unsigned}
 use Rattle.text.proofs.grammar.is_unsigned.Statement.{statement}
 use Rattle.text.proofs.grammar.is_unsigned.Tie as tie
 

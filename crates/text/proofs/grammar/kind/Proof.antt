@@ -1,9 +1,9 @@
 -- `kind` meets its contract.
 use mathlib.Core.Path.{refl}
 use borrow.Author.Needs.{needs}
-use Rattle.text.specs.Grammar.{kind-reader}
-use Rattle.text.specs.Tokens.{REAL}
-use Rattle.text.proofs.CodeReaderLaws.{expect-answers, give-answers, chosen-answers, if-not-answers}
+use Rattle.text.specs.definitions.Grammar.{kind-reader}
+use Rattle.text.specs.definitions.Tokens.{REAL}
+use Rattle.text.proofs.laws.CodeReaderLaws.{expect-answers, give-answers, chosen-answers, if-not-answers}
 use Rattle.text.proofs.grammar.kind.Statement.{statement}
 use Rattle.text.proofs.grammar.kind.Tie as tie
 

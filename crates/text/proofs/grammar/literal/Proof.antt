@@ -2,8 +2,8 @@
 use mathlib.Core.Bool.{true, false}
 use mathlib.Core.Path.{refl}
 use borrow.Author.Needs.{needs}
-use Rattle.text.specs.Grammar.{literal-reader}
-use Rattle.text.proofs.CodeReaderLaws.{give-answers, chosen-answers, if-not-answers}
+use Rattle.text.specs.definitions.Grammar.{literal-reader}
+use Rattle.text.proofs.laws.CodeReaderLaws.{give-answers, chosen-answers, if-not-answers}
 use Rattle.text.proofs.grammar.literal.Statement.{statement}
 use Rattle.text.proofs.grammar.literal.Tie as tie
 

@@ -1,8 +1,8 @@
 -- `member` meets its contract.
 use borrow.Author.Needs.{needs}
-use Rattle.text.specs.Grammar.{member-after}
-use Rattle.text.specs.Tokens.{NAME, COLON}
-use Rattle.text.proofs.CodeReaderLaws.{and-give-answers, expect-answers}
+use Rattle.text.specs.definitions.Grammar.{member-after}
+use Rattle.text.specs.definitions.Tokens.{NAME, COLON}
+use Rattle.text.proofs.laws.CodeReaderLaws.{and-give-answers, expect-answers}
 use Rattle.text.proofs.grammar.member.Statement.{statement}
 use Rattle.text.proofs.grammar.member.Tie as tie
 

@@ -1,11 +1,11 @@
 -- `members` meets its contract.
 use lib.ListN.{length}
 use borrow.Author.Needs.{needs}
-use Rattle.text.specs.Grammar.{member-after}
-use Rattle.text.specs.ParseAnswers.{classes-from, is-class}
-use Rattle.text.specs.Readers.{added}
-use Rattle.text.specs.Syntax.{Sort, attribute}
-use Rattle.text.proofs.CodeReaderLaws.{some-token, Going, begins, many-answers, added-answers, stops, goes-on, turn-less}
+use Rattle.text.specs.definitions.Grammar.{member-after}
+use Rattle.text.specs.contracts.ParseAnswers.{classes-from, is-class}
+use Rattle.text.specs.definitions.Readers.{added}
+use Rattle.text.specs.definitions.Syntax.{Sort, attribute}
+use Rattle.text.proofs.laws.CodeReaderLaws.{some-token, Going, begins, many-answers, added-answers, stops, goes-on, turn-less}
 use Rattle.text.proofs.grammar.members.Statement.{statement}
 use Rattle.text.proofs.grammar.members.Tie as tie
 

@@ -1,8 +1,8 @@
 -- `next_is` meets its contract.
 use mathlib.Core.Path.{sym, ap}
 use borrow.Author.Needs.{needs}
-use Rattle.text.specs.ParseAnswers.{first-passes, is-class}
-use Rattle.text.proofs.CodeReaderLaws.{refused-left, none-left, some-left}
+use Rattle.text.specs.contracts.ParseAnswers.{first-passes, is-class}
+use Rattle.text.proofs.laws.CodeReaderLaws.{refused-left, none-left, some-left}
 use Rattle.text.proofs.grammar.next_is.Statement.{statement}
 use Rattle.text.proofs.grammar.next_is.Tie as tie
 

@@ -2,8 +2,8 @@
 use mathlib.Core.Path.{sym, ap}
 use borrow.Author.Needs.{needs}
 use borrow.Author.Tests.{eq-eqb, ne-eqb}
-use Rattle.text.specs.ParseAnswers.{first-passes, is-either}
-use Rattle.text.proofs.CodeReaderLaws.{refused-left, none-left, some-left}
+use Rattle.text.specs.contracts.ParseAnswers.{first-passes, is-either}
+use Rattle.text.proofs.laws.CodeReaderLaws.{refused-left, none-left, some-left}
 use Rattle.text.proofs.grammar.next_is_either.Statement.{statement}
 use Rattle.text.proofs.grammar.next_is_either.Tie as tie
 

@@ -1,9 +1,9 @@
 -- `number` meets its contract.
 use mathlib.Core.Path.{refl}
 use borrow.Author.Needs.{needs}
-use Rattle.text.specs.Grammar.{number-reader}
-use Rattle.text.specs.Tokens.{REAL-NUMBER}
-use Rattle.text.proofs.CodeReaderLaws.{expect-answers, give-answers, chosen-answers, if-not-answers}
+use Rattle.text.specs.definitions.Grammar.{number-reader}
+use Rattle.text.specs.definitions.Tokens.{REAL-NUMBER}
+use Rattle.text.proofs.laws.CodeReaderLaws.{expect-answers, give-answers, chosen-answers, if-not-answers}
 use Rattle.text.proofs.grammar.number.Statement.{statement}
 use Rattle.text.proofs.grammar.number.Tie as tie
 

@@ -1,6 +1,6 @@
 -- `parse` meets its contract.
 use borrow.Author.Needs.{needs}
-use Rattle.text.proofs.CodeGrammarLaws.{file-refused, file-left, file-whole}
+use Rattle.text.proofs.laws.CodeGrammarLaws.{file-refused, file-left, file-whole}
 use Rattle.text.proofs.grammar.parse.Statement.{statement}
 use Rattle.text.proofs.grammar.parse.Tie as tie
 

@@ -1,7 +1,7 @@
 -- `refused` meets its contract.
 use borrow.Author.Needs.{needs}
-use Rattle.text.specs.ParseAnswers.{refused-at}
-use Rattle.text.proofs.CodeReaderLaws.{refused-stays}
+use Rattle.text.specs.contracts.ParseAnswers.{refused-at}
+use Rattle.text.proofs.laws.CodeReaderLaws.{refused-stays}
 use Rattle.text.proofs.grammar.refused.Statement.{statement}
 use Rattle.text.proofs.grammar.refused.Tie as tie
 

@@ -1,10 +1,10 @@
 -- `rule` meets its contract.
 use mathlib.Core.List.{[]}
 use borrow.Author.Needs.{needs}
-use Rattle.text.specs.Grammar.{rule-after}
-use Rattle.text.specs.Tokens.{TRIGGER, END}
-use Rattle.text.proofs.CodeGrammarLaws.{some-condition, some-call}
-use Rattle.text.proofs.CodeReaderLaws.{and-then-answers, expect-answers, give-answers}
+use Rattle.text.specs.definitions.Grammar.{rule-after}
+use Rattle.text.specs.definitions.Tokens.{TRIGGER, END}
+use Rattle.text.proofs.laws.CodeGrammarLaws.{some-condition, some-call}
+use Rattle.text.proofs.laws.CodeReaderLaws.{and-then-answers, expect-answers, give-answers}
 use Rattle.text.proofs.grammar.rule.Statement.{statement}
 use Rattle.text.proofs.grammar.rule.Tie as tie
 

@@ -1,9 +1,9 @@
 -- `target` meets its contract.
 use mathlib.Core.Path.{refl}
 use borrow.Author.Needs.{needs}
-use Rattle.text.specs.Grammar.{target-reader}
-use Rattle.text.specs.Tokens.{NAME}
-use Rattle.text.proofs.CodeReaderLaws.{expect-answers, give-answers, chosen-answers, if-not-answers}
+use Rattle.text.specs.definitions.Grammar.{target-reader}
+use Rattle.text.specs.definitions.Tokens.{NAME}
+use Rattle.text.proofs.laws.CodeReaderLaws.{expect-answers, give-answers, chosen-answers, if-not-answers}
 use Rattle.text.proofs.grammar.target.Statement.{statement}
 use Rattle.text.proofs.grammar.target.Tie as tie
 

@@ -1,9 +1,9 @@
 -- `test` meets its contract.
 use mathlib.Core.Path.{refl}
 use borrow.Author.Needs.{needs}
-use Rattle.text.specs.Grammar.{test-reader}
-use Rattle.text.specs.Tokens.{EQUALS}
-use Rattle.text.proofs.CodeReaderLaws.{and-give-answers, expect-answers, give-answers, chosen-answers, if-not-answers}
+use Rattle.text.specs.definitions.Grammar.{test-reader}
+use Rattle.text.specs.definitions.Tokens.{EQUALS}
+use Rattle.text.proofs.laws.CodeReaderLaws.{and-give-answers, expect-answers, give-answers, chosen-answers, if-not-answers}
 use Rattle.text.proofs.grammar.test.Statement.{statement}
 use Rattle.text.proofs.grammar.test.Tie as tie
 

@@ -1,8 +1,8 @@
 -- `token` meets its contract.
 use mathlib.Core.Path.{refl}
 use borrow.Author.Needs.{needs}
-use Rattle.text.specs.Readers.{expect, give}
-use Rattle.text.proofs.CodeReaderLaws.{refused-answers, none-answers, token-answers, other-answers}
+use Rattle.text.specs.definitions.Readers.{expect, give}
+use Rattle.text.proofs.laws.CodeReaderLaws.{refused-answers, none-answers, token-answers, other-answers}
 use Rattle.text.proofs.grammar.token.Statement.{statement}
 use Rattle.text.proofs.grammar.token.Tie as tie
 

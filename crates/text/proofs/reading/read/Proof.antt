@@ -1,6 +1,6 @@
 -- `read` meets its contract: `settled` answers for the text and the columns that `lex` left.
 use mathlib.Core.Path.{refl}
-use Rattle.text.proofs.SyntaxLaws.{lexed-rows}
+use Rattle.text.proofs.laws.SyntaxLaws.{lexed-rows}
 use borrow.Author.Needs.{needs}
 use Rattle.text.proofs.reading.read.Statement.{statement}
 use Rattle.text.proofs.reading.read.Tie as tie

@@ -1,6 +1,6 @@
 -- `settled` meets its contract: one law for each answer.
 use native.Mathlib.Omega.{arith}
-use Rattle.text.proofs.SyntaxLaws.{count-rows, settles-long, settles-short, settles-bad, settles-file, settles-unfit, settles-ended}
+use Rattle.text.proofs.laws.SyntaxLaws.{count-rows, settles-long, settles-short, settles-bad, settles-file, settles-unfit, settles-ended}
 use borrow.Author.Needs.{needs}
 use Rattle.text.proofs.reading.settled.Statement.{statement}
 use Rattle.text.proofs.reading.settled.Tie as tie

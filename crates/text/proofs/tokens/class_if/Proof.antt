@@ -1,6 +1,6 @@
 -- `class_if` meets its contract.
 use mathlib.Core.Path.{sym, _∙_}
-use Rattle.text.proofs.FixedLaws.{class-first, class-later}
+use Rattle.text.proofs.laws.FixedLaws.{class-first, class-later}
 use borrow.Author.Needs.{needs}
 use Rattle.text.proofs.tokens.class_if.Statement.{statement}
 use Rattle.text.proofs.tokens.class_if.Tie as tie

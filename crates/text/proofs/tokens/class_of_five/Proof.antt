@@ -1,9 +1,9 @@
 -- `class_of_five` meets its contract: one word after another, the last of the list first.
 use mathlib.Core.List.{[]}
 use denote.Ref.{now}
-use Rattle.text.specs.Tokens.{reserved}
-use Rattle.text.specs.TokenTable.{of-length}
-use Rattle.text.proofs.FixedLaws.{class-nothing}
+use Rattle.text.specs.definitions.Tokens.{reserved}
+use Rattle.text.specs.contracts.TokenTable.{of-length}
+use Rattle.text.proofs.laws.FixedLaws.{class-nothing}
 use borrow.Author.Needs.{needs}
 use Rattle.text.proofs.tokens.class_of_five.Statement.{statement}
 use Rattle.text.proofs.tokens.class_of_five.Tie as tie

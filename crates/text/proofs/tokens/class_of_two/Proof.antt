@@ -1,7 +1,7 @@
 -- `class_of_two` meets its contract.
 use mathlib.Core.List.{[]}
 use denote.Ref.{now}
-use Rattle.text.proofs.FixedLaws.{class-nothing}
+use Rattle.text.proofs.laws.FixedLaws.{class-nothing}
 use borrow.Author.Needs.{needs}
 use Rattle.text.proofs.tokens.class_of_two.Statement.{statement}
 use Rattle.text.proofs.tokens.class_of_two.Tie as tie

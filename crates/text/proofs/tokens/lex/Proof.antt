@@ -4,9 +4,9 @@ use Prim.Native.Nat.{_-_}
 use native.Mathlib.Omega.{arith}
 use lib.ListN.{length}
 use denote.Ref.{now}
-use Rattle.text.specs.TokenTable.{columns-of}
-use Rattle.text.proofs.IntoColumnsLaws.{lacks-classes, lacks-offsets, lacks-lengths, lacks-values, too-long-lexes, no-room-lexes}
-use Rattle.text.proofs.LexLaws.{Going, going-start, going-gap, Storable, found-storable, going-found, going-bad, going-end}
+use Rattle.text.specs.contracts.TokenTable.{columns-of}
+use Rattle.text.proofs.laws.IntoColumnsLaws.{lacks-classes, lacks-offsets, lacks-lengths, lacks-values, too-long-lexes, no-room-lexes}
+use Rattle.text.proofs.steps.LexLaws.{Going, going-start, going-gap, Storable, found-storable, going-found, going-bad, going-end}
 use borrow.Author.Needs.{needs}
 use Rattle.text.proofs.tokens.lex.Statement.{statement}
 use Rattle.text.proofs.tokens.lex.Tie as tie

@@ -1,6 +1,6 @@
 -- `name_at` meets its contract.
 use denote.Ref.{now}
-use Rattle.text.proofs.ItemLaws.{name-part-long, name-part}
+use Rattle.text.proofs.laws.ItemLaws.{name-part-long, name-part}
 use borrow.Author.Needs.{needs}
 use Rattle.text.proofs.tokens.name_at.Statement.{statement}
 use Rattle.text.proofs.tokens.name_at.Tie as tie

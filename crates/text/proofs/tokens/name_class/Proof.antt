@@ -1,9 +1,9 @@
 -- `name_class` meets its contract: words of another length are never met.
 use mathlib.Core.Path.{_∙_}
 use denote.Ref.{now}
-use Rattle.text.specs.Tokens.{reserved}
-use Rattle.text.specs.TokenTable.{of-length}
-use Rattle.text.proofs.FixedLaws.{reserved-of, not-reserved}
+use Rattle.text.specs.definitions.Tokens.{reserved}
+use Rattle.text.specs.contracts.TokenTable.{of-length}
+use Rattle.text.proofs.laws.FixedLaws.{reserved-of, not-reserved}
 use borrow.Author.Needs.{needs}
 use Rattle.text.proofs.tokens.name_class.Statement.{statement}
 use Rattle.text.proofs.tokens.name_class.Tie as tie

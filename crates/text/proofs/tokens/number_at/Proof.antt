@@ -5,9 +5,9 @@ use native.Mathlib.Omega.{arith}
 use lib.ListN.{drop, length-drop}
 use lib.Seq.{length-take-le}
 use denote.Ref.{now}
-use Rattle.text.specs.TokenTable.{part}
-use Rattle.text.proofs.DigitRunLaws.{scanned-is, scanned-not}
-use Rattle.text.proofs.ItemLaws.{number-part-long, number-part-large, number-part-real, number-part-whole, number-part-last}
+use Rattle.text.specs.contracts.TokenTable.{part}
+use Rattle.text.proofs.laws.DigitRunLaws.{scanned-is, scanned-not}
+use Rattle.text.proofs.laws.ItemLaws.{number-part-long, number-part-large, number-part-real, number-part-whole, number-part-last}
 use borrow.Author.Needs.{needs}
 use Rattle.text.proofs.tokens.number_at.Statement.{statement}
 use Rattle.text.proofs.tokens.number_at.Tie as tie

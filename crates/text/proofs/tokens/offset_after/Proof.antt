@@ -1,6 +1,6 @@
 -- `offset_after` meets its contract: it is the offset after the answer of `token_at`.
 use mathlib.Core.Path.{sym, _∙_}
-use Rattle.text.proofs.StepLaws.{after-answer}
+use Rattle.text.proofs.steps.StepLaws.{after-answer}
 use borrow.Author.Needs.{needs}
 use Rattle.text.proofs.tokens.offset_after.Statement.{statement}
 use Rattle.text.proofs.tokens.offset_after.Tie as tie

@@ -5,9 +5,9 @@ use native.Mathlib.Omega.{arith}
 use lib.ListN.{length, drop}
 use denote.Ref.{now}
 use borrow.Author.Tests.{not-true, not-false}
-use Rattle.text.specs.Bytes.{run}
-use Rattle.text.specs.TokenTable.{goes-on}
-use Rattle.text.proofs.RunLaws.{run-past, run-stop, run-step}
+use Rattle.text.specs.definitions.Bytes.{run}
+use Rattle.text.specs.contracts.TokenTable.{goes-on}
+use Rattle.text.proofs.laws.RunLaws.{run-past, run-stop, run-step}
 use borrow.Author.Needs.{needs}
 use Rattle.text.proofs.tokens.run_end.Statement.{statement}
 use Rattle.text.proofs.tokens.run_end.Tie as tie

@@ -2,7 +2,7 @@
 use mathlib.Core.Path.{sym, _∙_}
 use native.Mathlib.Omega.{arith}
 use denote.Ref.{now}
-use Rattle.text.proofs.StepLaws.{at-end, blank-at, comment-at, name-at, digits-at, number-at, mark-at, nothing-at}
+use Rattle.text.proofs.steps.StepLaws.{at-end, blank-at, comment-at, name-at, digits-at, number-at, mark-at, nothing-at}
 use borrow.Author.Needs.{needs}
 use Rattle.text.proofs.tokens.token_at.Statement.{statement}
 use Rattle.text.proofs.tokens.token_at.Tie as tie

@@ -1,8 +1,8 @@
 -- `end_of` meets its contract.
 use native.Mathlib.Omega.{arith}
 use borrow.Author.Needs.{needs}
-use Rattle.text.proofs.CodeReaderLaws.{refused-stays}
-use Rattle.text.proofs.EndLaws.{refused-ends, next-same}
+use Rattle.text.proofs.laws.CodeReaderLaws.{refused-stays}
+use Rattle.text.proofs.steps.EndLaws.{refused-ends, next-same}
 use Rattle.text.proofs.walks.end_of.Statement.{statement}
 use Rattle.text.proofs.walks.end_of.Tie as tie
 

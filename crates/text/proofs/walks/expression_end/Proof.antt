@@ -1,7 +1,7 @@
 -- `expression_end` meets its contract.
 use borrow.Author.Needs.{needs}
-use Rattle.text.proofs.ExpressionWalks.{leaf-alone}
-use Rattle.text.proofs.EndLaws.{walk-ends}
+use Rattle.text.proofs.laws.ExpressionWalks.{leaf-alone}
+use Rattle.text.proofs.steps.EndLaws.{walk-ends}
 use Rattle.text.proofs.walks.expression_end.Statement.{statement}
 use Rattle.text.proofs.walks.expression_end.Tie as tie
 

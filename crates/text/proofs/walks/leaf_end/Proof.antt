@@ -1,8 +1,8 @@
 -- `leaf_end` meets its contract.
 use mathlib.Core.Path.{sym, _∙_}
 use borrow.Author.Needs.{needs}
-use Rattle.text.proofs.ExpressionWalks.{member-walk, leaf-member, leaf-token}
-use Rattle.text.proofs.EndLaws.{walk-ends}
+use Rattle.text.proofs.laws.ExpressionWalks.{member-walk, leaf-member, leaf-token}
+use Rattle.text.proofs.steps.EndLaws.{walk-ends}
 use Rattle.text.proofs.walks.leaf_end.Statement.{statement}
 use Rattle.text.proofs.walks.leaf_end.Tie as tie
 

@@ -1,6 +1,6 @@
 -- `parsed_end` meets its contract.
 use borrow.Author.Needs.{needs}
-use Rattle.text.proofs.EndLaws.{answer-ends}
+use Rattle.text.proofs.steps.EndLaws.{answer-ends}
 use Rattle.text.proofs.walks.parsed_end.Statement.{statement}
 use Rattle.text.proofs.walks.parsed_end.Tie as tie
 

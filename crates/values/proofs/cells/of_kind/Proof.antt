@@ -3,8 +3,8 @@ use mathlib.Core.Path.{_≡_}
 use mathlib.Core.List.{[], _∷_}
 use mathlib.Core.Bool.{false}
 use Rattle.values.specs.declared.Kind.{Kind}
-use Rattle.values.specs.Storable.{of-kind}
-use Rattle.values.proofs.Variants.{by-kind, unset-of-kind}
+use Rattle.values.specs.definitions.Storable.{of-kind}
+use Rattle.values.proofs.laws.Variants.{by-kind, unset-of-kind}
 use borrow.Author.Needs.{needs}
 use Rattle.values.proofs.cells.of_kind.Statement.{statement}
 use Rattle.values.proofs.cells.of_kind.Tie as tie

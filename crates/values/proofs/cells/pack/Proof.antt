@@ -7,9 +7,9 @@ use lib.Ieee.{isNan}
 use lib.Ieee.Bits.{is-false}
 use mir.Syntax.{w32}
 use mir.Val.{SFits}
-use Rattle.values.specs.Cells.{raised}
-use Rattle.values.proofs.WholeLaws.{widen-fits, raise-wide, raised-lt, unsigned-wide, unsigned-fits, unsigned-is}
-use Rattle.values.proofs.RealLaws.{no-nan, nan-only}
+use Rattle.values.specs.definitions.Cells.{raised}
+use Rattle.values.proofs.laws.WholeLaws.{widen-fits, raise-wide, raised-lt, unsigned-wide, unsigned-fits, unsigned-is}
+use Rattle.values.proofs.laws.RealLaws.{no-nan, nan-only}
 use borrow.Author.Needs.{needs}
 use Rattle.values.proofs.cells.pack.Statement.{statement}
 use Rattle.values.proofs.cells.pack.Tie as tie

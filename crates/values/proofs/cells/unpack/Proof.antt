@@ -2,9 +2,9 @@
 use mathlib.Core.Path.{sym, ap, _∙_}
 use borrow.Author.Tests.{lt-ltb, le-ltb, ne-eqb}
 use Rattle.values.specs.declared.Value.the-variants.{Whole}
-use Rattle.values.specs.Cells.{unpacked}
-use Rattle.values.proofs.WholeLaws.{lower-is, lowered-mag, narrow-wide, narrow-fits, narrow-is}
-use Rattle.values.proofs.RealLaws.{finite-no-nan}
+use Rattle.values.specs.definitions.Cells.{unpacked}
+use Rattle.values.proofs.laws.WholeLaws.{lower-is, lowered-mag, narrow-wide, narrow-fits, narrow-is}
+use Rattle.values.proofs.laws.RealLaws.{finite-no-nan}
 use borrow.Author.Needs.{needs}
 use Rattle.values.proofs.cells.unpack.Statement.{statement}
 use Rattle.values.proofs.cells.unpack.Tie as tie

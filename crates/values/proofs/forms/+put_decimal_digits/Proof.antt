@@ -7,8 +7,8 @@ use lib.ListN.{length-set}
 use denote.Ref.{now}
 use borrow.Fn.Kinds.{In}
 use borrow.Fn.PlainCycle.{Measures, is, falls, and}
-use Rattle.values.specs.Forms.{decimal-digits, digit-byte}
-use Rattle.values.proofs.DigitLaws.{decimal-none, decimal-last, decimal-more, last-room, last-put}
+use Rattle.values.specs.definitions.Forms.{decimal-digits, digit-byte}
+use Rattle.values.proofs.laws.DigitLaws.{decimal-none, decimal-last, decimal-more, last-room, last-put}
 use Rattle.values.proofs.forms.put_decimal_digits.Reads as put-decimal-digits
 use Rattle.values.proofs.forms.put_decimal_digits.Kinds as put-decimal-digits-kinds
 use Rattle.values.proofs.forms.+put_decimal_digits.Lts-put_decimal_digits as put-decimal-digits-lts

@@ -7,8 +7,8 @@ use lib.ListN.{length-set}
 use denote.Ref.{now}
 use borrow.Fn.Kinds.{In}
 use borrow.Fn.PlainCycle.{Measures, is, falls, and}
-use Rattle.values.specs.Forms.{hexadecimal, digit-byte}
-use Rattle.values.proofs.DigitLaws.{hexadecimal-none, hexadecimal-more, last-room, last-put}
+use Rattle.values.specs.definitions.Forms.{hexadecimal, digit-byte}
+use Rattle.values.proofs.laws.DigitLaws.{hexadecimal-none, hexadecimal-more, last-room, last-put}
 use Rattle.values.proofs.forms.put_hexadecimal.Reads as put-hexadecimal
 use Rattle.values.proofs.forms.put_hexadecimal.Kinds as put-hexadecimal-kinds
 use Rattle.values.proofs.forms.+put_hexadecimal.Lts-put_hexadecimal as put-hexadecimal-lts

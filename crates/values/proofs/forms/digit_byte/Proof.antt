@@ -1,6 +1,6 @@
 -- `digit_byte` meets its contract.
 use borrow.Author.Tests.{lt-ltb, le-ltb}
-use Rattle.values.specs.Forms.{digit-byte}
+use Rattle.values.specs.definitions.Forms.{digit-byte}
 use borrow.Author.Needs.{needs}
 use Rattle.values.proofs.forms.digit_byte.Statement.{statement}
 use Rattle.values.proofs.forms.digit_byte.Tie as tie

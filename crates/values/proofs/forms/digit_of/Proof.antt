@@ -2,7 +2,7 @@
 use native.Mathlib.Omega.{arith}
 use lib.Dec.{lit<}
 use borrow.Author.Tests.{lt-ltb, le-ltb, le-leb, lt-leb}
-use Rattle.values.specs.Forms.{digit-of}
+use Rattle.values.specs.definitions.Forms.{digit-of}
 use borrow.Author.Needs.{needs}
 use Rattle.values.proofs.forms.digit_of.Statement.{statement}
 use Rattle.values.proofs.forms.digit_of.Tie as tie

@@ -1,6 +1,6 @@
 -- `finite_real` meets its contract.
 use mathlib.Core.Path.{sym, _∙_}
-use Rattle.values.proofs.RealLaws.{finite-no-nan}
+use Rattle.values.proofs.laws.RealLaws.{finite-no-nan}
 use borrow.Author.Needs.{needs}
 use Rattle.values.proofs.forms.finite_real.Statement.{statement}
 use Rattle.values.proofs.forms.finite_real.Tie as tie

@@ -4,8 +4,8 @@ use mathlib.Core.Bool.{true, false}
 use lib.ListN.{length, getD, drop, length-drop, drop-of-length-le}
 use denote.Ref.{now}
 use borrow.Author.Tests.{eq-eqb, ne-eqb}
-use Rattle.values.specs.Forms.{led}
-use Rattle.values.proofs.DigitLaws.{first-left, led-one, led-long, led-by, two-left}
+use Rattle.values.specs.definitions.Forms.{led}
+use Rattle.values.proofs.laws.DigitLaws.{first-left, led-one, led-long, led-by, two-left}
 use borrow.Author.Needs.{needs}
 use Rattle.values.proofs.forms.magnitude.Statement.{statement}
 use Rattle.values.proofs.forms.magnitude.Tie as tie

@@ -4,7 +4,7 @@ use lib.IntN.{ℤ}
 use borrow.Author.Tests.{le-leb, lt-leb, ne-eqb}
 use Rattle.values.specs.declared.Value.the-variants.{Whole}
 use Rattle.values.specs.declared.Field.the-variants.{Given}
-use Rattle.values.proofs.WholeLaws.{negative-is, neg-small, narrow-wide, narrow-fits, narrow-is}
+use Rattle.values.proofs.laws.WholeLaws.{negative-is, neg-small, narrow-wide, narrow-fits, narrow-is}
 use borrow.Author.Needs.{needs}
 use Rattle.values.proofs.forms.negative_whole.Statement.{statement}
 use Rattle.values.proofs.forms.negative_whole.Tie as tie

@@ -4,7 +4,7 @@ use lib.Ieee.Bits.{is-false}
 use mir.Syntax.{w32}
 use mir.Val.{SFits}
 use mir.Facts.{toZ-ofZ}
-use Rattle.values.proofs.RealLaws.{no-nan, nan-only}
+use Rattle.values.proofs.laws.RealLaws.{no-nan, nan-only}
 use borrow.Author.Needs.{needs}
 use Rattle.values.proofs.forms.put_value.Statement.{statement}
 use Rattle.values.proofs.forms.put_value.Tie as tie

@@ -8,8 +8,8 @@ use lib.Dec.{lit<}
 use lib.IntN.{pos, natAbs, _-ℤ_}
 use lib.Signed.{ltZ, natAbs-le}
 use lib.ListN.{length-set}
-use Rattle.values.proofs.WholeLaws.{widened, widened-is, widen-fits, unsigned-wide, unsigned-fits, unsigned-is}
-use Rattle.values.proofs.DigitLaws.{text-negative, text-unsigned, zero-minus, not-negative}
+use Rattle.values.proofs.laws.WholeLaws.{widened, widened-is, widen-fits, unsigned-wide, unsigned-fits, unsigned-is}
+use Rattle.values.proofs.laws.DigitLaws.{text-negative, text-unsigned, zero-minus, not-negative}
 use borrow.Author.Needs.{needs}
 use Rattle.values.proofs.forms.put_whole.Statement.{statement}
 use Rattle.values.proofs.forms.put_whole.Tie as tie

@@ -1,7 +1,7 @@
 -- `read_event` meets its contract.
 use mathlib.Core.Path.{_≡_, sym, _∙_}
 use denote.Ref.{now}
-use Rattle.values.specs.Forms.{kind-field, event-field}
+use Rattle.values.specs.definitions.Forms.{kind-field, event-field}
 use borrow.Author.Needs.{needs}
 use Rattle.values.proofs.forms.read_event.Statement.{statement}
 use Rattle.values.proofs.forms.read_event.Tie as tie

@@ -3,7 +3,7 @@ use mathlib.Core.Path.{ap, _∙_}
 use lib.ListN.{length}
 use denote.Ref.{now}
 use borrow.Author.Tests.{eq-eqb, ne-eqb}
-use Rattle.values.specs.Forms.{finite-real}
+use Rattle.values.specs.definitions.Forms.{finite-real}
 use borrow.Author.Needs.{needs}
 use Rattle.values.proofs.forms.read_real.Statement.{statement}
 use Rattle.values.proofs.forms.read_real.Tie as tie

@@ -3,8 +3,8 @@ use mathlib.Core.Path.{sym, ap, _∙_}
 use lib.ListN.{getD}
 use denote.Ref.{now}
 use borrow.Author.Tests.{eq-eqb, ne-eqb}
-use Rattle.values.specs.Forms.{unsigned-whole, negative-whole}
-use Rattle.values.proofs.DigitLaws.{empty-malformed}
+use Rattle.values.specs.definitions.Forms.{unsigned-whole, negative-whole}
+use Rattle.values.proofs.laws.DigitLaws.{empty-malformed}
 use borrow.Author.Needs.{needs}
 use Rattle.values.proofs.forms.read_whole.Statement.{statement}
 use Rattle.values.proofs.forms.read_whole.Tie as tie

@@ -5,8 +5,8 @@ use native.Mathlib.Omega.{arith}
 use lib.ListN.{length, drop, drop-of-length-le}
 use lib.Pow.{pow-pos}
 use denote.Ref.{now}
-use Rattle.values.specs.Forms.{scanned}
-use Rattle.values.proofs.DigitLaws.{scan-step, scan-stop, scan-bound, scan-fits}
+use Rattle.values.specs.definitions.Forms.{scanned}
+use Rattle.values.proofs.laws.DigitLaws.{scan-step, scan-stop, scan-bound, scan-fits}
 use borrow.Author.Needs.{needs}
 use Rattle.values.proofs.forms.scan.Statement.{statement}
 use Rattle.values.proofs.forms.scan.Tie as tie

@@ -6,8 +6,8 @@ use mir.Val.{SFits}
 use mir.Facts.{toZ-ofZ}
 use Rattle.values.specs.declared.Value.{Value}
 use Rattle.values.specs.declared.Value.the-variants.{Unset}
-use Rattle.values.specs.Value.{as-real}
-use Rattle.values.proofs.Variants.{by-variant}
+use Rattle.values.specs.definitions.Value.{as-real}
+use Rattle.values.proofs.laws.Variants.{by-variant}
 use borrow.Author.Needs.{needs}
 use Rattle.values.proofs.operators.as_real.Statement.{statement}
 use Rattle.values.proofs.operators.as_real.Tie as tie

@@ -1,7 +1,7 @@
 -- `differ` meets its contract.
 use mathlib.Core.Path.{sym, ap, _∙_}
 use mathlib.Core.Bool.{not}
-use Rattle.values.proofs.Variants.{differ-set, differ-unset}
+use Rattle.values.proofs.laws.Variants.{differ-set, differ-unset}
 use borrow.Author.Needs.{needs}
 use Rattle.values.proofs.operators.differ.Statement.{statement}
 use Rattle.values.proofs.operators.differ.Tie as tie

@@ -5,9 +5,9 @@ use mathlib.Core.Bool.{false}
 use mir.Syntax.{w32}
 use mir.Val.{SFits}
 use Rattle.values.specs.declared.Value.{Value}
-use Rattle.values.specs.Value.{equals-whole, equals-truth, equals-real}
-use Rattle.values.proofs.Variants.{by-variant}
-use Rattle.values.proofs.WholeLaws.{same-by-bits}
+use Rattle.values.specs.definitions.Value.{equals-whole, equals-truth, equals-real}
+use Rattle.values.proofs.laws.Variants.{by-variant}
+use Rattle.values.proofs.laws.WholeLaws.{same-by-bits}
 use borrow.Author.Needs.{needs}
 use Rattle.values.proofs.operators.equal.Statement.{statement}
 use Rattle.values.proofs.operators.equal.Tie as tie

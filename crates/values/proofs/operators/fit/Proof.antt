@@ -5,8 +5,8 @@ use lib.Signed.{mag}
 use mir.Facts.{toZ-ofZ}
 use borrow.Author.Tests.{lt-ltb}
 use Rattle.values.specs.declared.Value.the-variants.{Whole}
-use Rattle.values.specs.Value.{fitted}
-use Rattle.values.proofs.WholeLaws.{too-low, too-high, in-range, narrow-fits, narrow-is}
+use Rattle.values.specs.definitions.Value.{fitted}
+use Rattle.values.proofs.laws.WholeLaws.{too-low, too-high, in-range, narrow-fits, narrow-is}
 use Rattle.values.proofs.operators.fit.Statement.{statement}
 use Rattle.values.proofs.operators.fit.Tie as tie
 

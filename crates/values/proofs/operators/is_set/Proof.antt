@@ -3,8 +3,8 @@ use mathlib.Core.Path.{_≡_, refl}
 use mathlib.Core.List.{[], _∷_}
 use mathlib.Core.Bool.{true}
 use Rattle.values.specs.declared.Value.{Value}
-use Rattle.values.specs.Value.{is-set}
-use Rattle.values.proofs.Variants.{by-variant}
+use Rattle.values.specs.definitions.Value.{is-set}
+use Rattle.values.proofs.laws.Variants.{by-variant}
 use borrow.Author.Needs.{needs}
 use Rattle.values.proofs.operators.is_set.Statement.{statement}
 use Rattle.values.proofs.operators.is_set.Tie as tie

@@ -6,9 +6,9 @@ use mir.Syntax.{w32}
 use mir.Val.{SFits}
 use Rattle.values.specs.declared.Value.{Value}
 use Rattle.values.specs.declared.Value.the-variants.{Unset}
-use Rattle.values.specs.Value.{fitted, negated}
-use Rattle.values.proofs.Variants.{by-variant}
-use Rattle.values.proofs.WholeLaws.{widen-fits, op-fits, op-is, from-zero, from-zero-mag}
+use Rattle.values.specs.definitions.Value.{fitted, negated}
+use Rattle.values.proofs.laws.Variants.{by-variant}
+use Rattle.values.proofs.laws.WholeLaws.{widen-fits, op-fits, op-is, from-zero, from-zero-mag}
 use borrow.Author.Needs.{needs}
 use Rattle.values.proofs.operators.negate.Statement.{statement}
 use Rattle.values.proofs.operators.negate.Tie as tie

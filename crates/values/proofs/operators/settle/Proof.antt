@@ -3,8 +3,8 @@ use mathlib.Core.Path.{sym, _∙_}
 use mathlib.Core.Bool.{true, false}
 use lib.Dec.{T}
 use lib.Ieee.{binary64, fits}
-use Rattle.values.specs.Value.{settled}
-use Rattle.values.proofs.RealLaws.{no-nan, nan-only, settled-by-bits}
+use Rattle.values.specs.definitions.Value.{settled}
+use Rattle.values.proofs.laws.RealLaws.{no-nan, nan-only, settled-by-bits}
 use borrow.Author.Needs.{needs}
 use Rattle.values.proofs.operators.settle.Statement.{statement}
 use Rattle.values.proofs.operators.settle.Tie as tie

@@ -4,8 +4,8 @@ use lib.IntN.{_+ℤ_, _-ℤ_, _*ℤ_}
 use lib.Signed.{quotZ}
 use native.Mathlib.Omega.{arith}
 use mir.Facts.{toZ-ofZ}
-use Rattle.values.specs.Value.{fitted}
-use Rattle.values.proofs.WholeLaws.{widen-fits, op-fits, op-is, add-mag, sub-mag, mul-mag, quot-mag, zero-is, zero-not}
+use Rattle.values.specs.definitions.Value.{fitted}
+use Rattle.values.proofs.laws.WholeLaws.{widen-fits, op-fits, op-is, add-mag, sub-mag, mul-mag, quot-mag, zero-is, zero-not}
 use borrow.Author.Needs.{needs}
 use Rattle.values.proofs.operators.whole_op.Statement.{statement}
 use Rattle.values.proofs.operators.whole_op.Tie as tie

@@ -5,8 +5,8 @@ use native.Mathlib.Nat.{add-zero}
 use native.Mathlib.Omega.{arith}
 use lib.ListN.{length, getD, drop, length-set, drop-of-length-le}
 use denote.Ref.{now}
-use Rattle.values.specs.Bytes.{overwritten}
-use Rattle.values.proofs.ByteLaws.{overwritten-step}
+use Rattle.values.specs.definitions.Bytes.{overwritten}
+use Rattle.values.proofs.laws.ByteLaws.{overwritten-step}
 use Rattle.values.proofs.slices.put_bytes.Statement.{statement}
 use Rattle.values.proofs.slices.put_bytes.Tie as tie
 

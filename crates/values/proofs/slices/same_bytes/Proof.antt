@@ -4,8 +4,8 @@ use Prim.Native.Nat.{_-_}
 use native.Mathlib.Omega.{arith}
 use lib.ListN.{length, drop}
 use denote.Ref.{now}
-use Rattle.values.specs.Bytes.{same-bytes}
-use Rattle.values.proofs.ByteLaws.{same-step, same-stop, same-short, same-end}
+use Rattle.values.specs.definitions.Bytes.{same-bytes}
+use Rattle.values.proofs.laws.ByteLaws.{same-step, same-stop, same-short, same-end}
 use Rattle.values.proofs.slices.same_bytes.Statement.{statement}
 use Rattle.values.proofs.slices.same_bytes.Tie as tie
 

@@ -1,0 +1,21 @@
+-- Laws about definitions and about the forms of memory that contracts speak of: crates above may cite them.
+pub mod WithinCounts
+pub mod VerdictLaws
+pub mod LookUpLaws
+pub mod AcceptedLaws
+pub mod CheckedExpressions
+pub mod CheckedFile
+pub mod FaultLaws
+pub mod DirectoryLaws
+pub mod ReadingVerdict
+pub mod RuleSpots
+pub mod LeastLaws
+pub mod CountBounds
+pub mod WalkedFaults
+pub mod SequenceLaws
+pub mod EntityTokens
+pub mod AssignmentLaws
+pub mod KindCodes
+pub mod CalledLaws
+pub mod CheckLaws
+pub mod FaultCodes

@@ -1,0 +1,26 @@
+-- Steps of the proofs of functions: for this crate alone.
+pub mod CountScanLaws
+pub mod CountLaws
+pub mod ColumnCountLaws
+pub mod PlaceLaws
+pub mod PlacedLaws
+pub mod BuildLaws
+pub mod DirectoryParts
+pub mod RepeatedLaws
+pub mod InterfaceLaws
+pub mod LinkLaws
+pub mod BodyLaws
+pub mod UnsetLaws
+pub mod EntityLaws
+pub mod CheckedParts
+pub mod RuleNames
+pub mod RuleVariables
+pub mod MeaningLaws
+pub mod RuleWalks
+pub mod RulesLaws
+pub mod JudgedLaws
+pub mod EntityNameLaws
+pub mod ReferenceLaws
+pub mod ResolvedNames
+pub mod ScopeLaws
+pub mod ResolutionLaws

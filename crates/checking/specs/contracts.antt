@@ -1,0 +1,19 @@
+-- What inner functions promise, and the forms of their memory: nobody has to believe these.
+pub mod Directory
+pub mod FoundFaults
+pub mod DirectoryReads
+pub mod CountScan
+pub mod CountChecked
+pub mod ClassSearch
+pub mod TokenPlaces
+pub mod DirectoryItems
+pub mod Sequences
+pub mod DeclarationWalk
+pub mod RuleWalk
+pub mod RuleParts
+pub mod Called
+pub mod CheckedBench
+pub mod FileWalk
+pub mod CheckSteps
+pub mod Resolution
+pub mod Resolving

@@ -1,0 +1,8 @@
+-- What document 01 speaks of: the definitions that a reader has to believe.
+pub mod Faults
+pub mod Scope
+pub mod CountFaults
+pub mod NameFaults
+pub mod KindFaults
+pub mod Verdict
+pub mod Admitted

@@ -1,0 +1,180 @@
+-- Two runs of the total machine on a closed set of entities: what the others read never reaches the set.
+use Prim.Native.Nat.{ℕ}
+use mathlib.Core.Path.{_≡_, refl, sym, ap, ap₂, _∙_}
+use mathlib.Core.Bool.{Bool, true, false, _&&_, and-false}
+use mathlib.Core.List.{List, [], _∷_, _++_, flatMap}
+use mathlib.Core.Option.{Option, none, some}
+use mathlib.Core.Logic.{_⊎_, inl, inr}
+use lib.Dec.{T, eqb}
+use borrow.Author.Tests.{ne-eqb}
+use Rattle.values.specs.definitions.Bytes.{same-bytes}
+use Rattle.values.specs.declared.Value.{Value}
+use Rattle.values.specs.declared.Value.the-variants.{Unset}
+use Rattle.values.specs.definitions.Value.{is-set}
+use Rattle.text.specs.definitions.Syntax.{Call, Rule, File}
+use Rattle.checking.specs.definitions.Scope.{Variable, variables}
+use Rattle.cycles.specs.definitions.Store.{Store, State, Line}
+use Rattle.cycles.specs.definitions.Spots.{Spot, spots, numbered}
+use Rattle.cycles.specs.definitions.Evaluate.{
+  is-present-at,
+  value,
+  filter-holds,
+  holds,
+  call-writes,
+  writes-if,
+  binding-writes,
+}
+use Rattle.cycles.specs.definitions.Reference.{Write, written-if}
+use Rattle.cycles.specs.definitions.Bindings.{number-if, candidates, bindings, rule-writes, all-writes}
+use Rattle.cycles.specs.definitions.Cycle.{seen, after-writes, cycle, follow}
+use Rattle.cycles.specs.definitions.ClosedSet.{Among, here, there, is-of, can-be, Reads-inside, Closed}
+use Rattle.cycles.proofs.laws.AmongLaws.{All-in, all-in-cons, one-passes-or-none, numbered-at, all-in-flatMap, flatMap-same}
+use Rattle.cycles.specs.contracts.AllRules.{Binds}
+use Rattle.cycles.proofs.laws.BindingLaws.{bindings-bind, meant-can-be, can-be-inside, Spot-in, spots-in}
+use Rattle.cycles.proofs.laws.FollowLaws.{follow-resent, follow-new}
+use Rattle.cycles.proofs.laws.Agreement.{Stores-agree, States-agree, Lines-agree, binding-writes-agree}
+
+-- candidates and bindings, where the set has every entity of the variables' interfaces
+module _ (f : File) (S : ℕ → Type 0) (s t : Store) (g : Stores-agree S s t) where
+  candidates-agree : (i : List ℕ) → ((e : ℕ) → T (is-of f i e) → S e) → candidates f s i ≡ candidates f t i
+  unfolding candidates is-of
+  candidates-agree i h =
+      flatMap-same (λ e. number-if (s .present (e .number) && same-bytes (e .item .interface .bytes) i) (e .number))
+      (λ e. number-if (t .present (e .number) && same-bytes (e .item .interface .bytes) i) (e .number)) (numbered 0 (f .entities))
+      (λ e a. ap (λ b. number-if b (e .number)) (and-agree (s .present (e .number)) (t .present (e .number)) (same-bytes (e .item .interface .bytes) i)
+      (λ p. g .presence (e .number) (h (e .number) (rw (numbered-at (f .entities) e a) p)))))
+    where
+      and-agree : (a b c : Bool) → (T c → a ≡ b) → (a && c) ≡ (b && c)
+      and-agree a b true p = ap (λ x. x && true) (p tt)
+      and-agree a b false p = and-false a ∙ sym (and-false b)
+
+  bindings-agree : (vs : List Variable) → ((v : Variable) (e : ℕ) → Among v vs → T (is-of f (v .interface .bytes) e) → S e) → bindings f s vs ≡ bindings f t vs
+  unfolding bindings
+  bindings-agree [] h = refl
+  bindings-agree (v ∷ vs) h =
+      rw (candidates-agree (v .interface .bytes) (λ e. h v e here), bindings-agree vs (λ w e a. h w e (there a)))
+
+-- a rule that reads inside the set
+module _ (f : File) (S : ℕ → Type 0) (now previous now′ previous′ : Store) (g : Stores-agree S now now′) (h : Stores-agree S previous previous′) where
+  rule-writes-agree : (r : Rule) → Reads-inside f S r → rule-writes f now previous r ≡ rule-writes f now′ previous′ r
+  unfolding rule-writes
+  rule-writes-agree r i =
+      rw (bindings-agree f S now now′ g (variables r) (i .ranged))
+      (flatMap-same (λ b. binding-writes (spots f (variables r) b) now previous r) (λ b. binding-writes (spots f (variables r) b) now′ previous′ r)
+      (bindings f now′ (variables r))
+      (λ b a. binding-writes-agree S (spots f (variables r) b) now previous now′ previous′ g h r
+      (λ n c m. spots-in f (variables r) b (n .bytes) m S
+      (λ e q. can-be-inside f S r i n c e (meant-can-be f (variables r) b (bindings-bind f now′ (variables r) b a) (n .bytes) e q)))))
+
+-- no write of the list is to the entity
+abbrev Misses : ℕ → List Write → Type 0
+Misses e ws = All-in ws (λ w. eqb (w .entity) e ≡ false)
+
+-- so its cells stay
+missed-stays : (e m : ℕ) (ws : List Write) → Misses e ws → (v : Value) → after-writes ws e m v ≡ v
+unfolding after-writes
+missed-stays e m [] h v = refl
+missed-stays e m (w ∷ ws) h v = rw (h w here) (missed-stays e m ws (λ x a. h x (there a)) v)
+
+written-if-in : (P : ℕ → Type 0) (b : Bool) (o : Option Spot) (v : Value) → Spot-in P o → All-in (written-if b o v) (λ w. P (w .entity))
+unfolding written-if
+written-if-in P false o v h = λ w a. elim a [ ]
+written-if-in P true none v h = λ w a. elim a [ ]
+written-if-in P true (some p) v h =
+    all-in-cons (record { entity = p .entity; member = p .member; value = v }) [] (λ w. P (w .entity)) h (λ w a. elim a [ ])
+
+writes-if-in : (P : Write → Type 0) (b : Bool) (ws : List Write) → All-in ws P → All-in (writes-if b ws) P
+unfolding writes-if
+writes-if-in P true ws h = h
+writes-if-in P false ws h = λ w a. elim a [ ]
+
+-- a call whose target cannot be the entity
+call-misses : (f : File) (vs : List Variable) (b : List ℕ) → Binds f vs b → (now : Store) (e : ℕ) (c : Call)
+    → can-be f vs (c .target .name .bytes) e ≡ false → Misses e (call-writes (spots f vs b) now c)
+unfolding call-writes
+call-misses f vs b binds now e c h =
+    let sp = spots f vs b in
+    let p = sp (c .target .name .bytes) (c .action .bytes) in
+    let v = value sp now (c .parameter) in
+    written-if-in (λ n. eqb n e ≡ false) (is-present-at now p && (filter-holds sp now (c .target) (c .filter) && is-set v)) p v
+    (spots-in f vs b (c .target .name .bytes) (c .action .bytes) (λ n. eqb n e ≡ false)
+    (λ n q. ne-eqb n e (λ same. rw h at (rw same at (meant-can-be f vs b binds (c .target .name .bytes) n q)))))
+
+-- a rule with no call whose target can be the entity
+rule-misses : (f : File) (now previous : Store) (r : Rule) (e : ℕ) → All-in (r .calls) (λ c. can-be f (variables r) (c .target .name .bytes) e ≡ false)
+    → Misses e (rule-writes f now previous r)
+unfolding rule-writes binding-writes
+rule-misses f now previous r e h =
+    all-in-flatMap (λ b. binding-writes (spots f (variables r) b) now previous r) (bindings f now (variables r)) (λ w. eqb (w .entity) e ≡ false)
+    (λ b i. writes-if-in (λ w. eqb (w .entity) e ≡ false) (holds (spots f (variables r) b) now previous (r .condition))
+    (flatMap (call-writes (spots f (variables r) b) now) (r .calls))
+    (all-in-flatMap (call-writes (spots f (variables r) b) now) (r .calls) (λ w. eqb (w .entity) e ≡ false)
+    (λ c a. call-misses f (variables r) b (bindings-bind f now (variables r) b i) now e c (h c a))))
+
+after-append : (xs ys : List Write) (e m : ℕ) (v : Value) → after-writes (xs ++ ys) e m v ≡ after-writes ys e m (after-writes xs e m v)
+unfolding after-writes
+after-append [] ys e m v = refl
+after-append (x ∷ xs) ys e m v = after-append xs ys e m _
+
+-- lists of writes of which each part leaves the same in a cell
+after-flatMap : {A : Type 0} (g h : A → List Write) (e m : ℕ) (xs : List A)
+    → All-in xs (λ x. (v : Value) → after-writes (g x) e m v ≡ after-writes (h x) e m v)
+    → (v : Value) → after-writes (flatMap g xs) e m v ≡ after-writes (flatMap h xs) e m v
+unfolding flatMap
+after-flatMap g h e m [] p v = refl
+after-flatMap g h e m (x ∷ xs) p v =
+    after-append (g x) (flatMap g xs) e m v
+    ∙ after-flatMap g h e m xs (λ y a. p y (there a)) (after-writes (g x) e m v)
+    ∙ ap (after-writes (flatMap h xs) e m) (p x here v)
+    ∙ sym (after-append (h x) (flatMap h xs) e m v)
+
+module _ (f : File) (S : ℕ → Type 0) (closed : Closed f S) where
+  -- the cells of the set's entities after the writes of all rules
+  writes-agree : (now previous now′ previous′ : Store) → Stores-agree S now now′ → Stores-agree S previous previous′
+      → (e m : ℕ) → S e → (v : Value) → after-writes (all-writes f now previous) e m v ≡ after-writes (all-writes f now′ previous′) e m v
+  unfolding all-writes
+  writes-agree now previous now′ previous′ g h e m i =
+      after-flatMap (rule-writes f now previous) (rule-writes f now′ previous′) e m (f .rules)
+      (λ r a. one-rule r a (one-passes-or-none (λ c. can-be f (variables r) (c .target .name .bytes) e) (r .calls)))
+    where
+      one-rule : (r : Rule) → Among r (f .rules)
+          → ((c : Call) × Among c (r .calls) × T (can-be f (variables r) (c .target .name .bytes) e))
+          ⊎ All-in (r .calls) (λ c. can-be f (variables r) (c .target .name .bytes) e ≡ false)
+          → (v : Value) → after-writes (rule-writes f now previous r) e m v ≡ after-writes (rule-writes f now′ previous′ r) e m v
+      one-rule r a (inl (c, b, t)) v =
+          ap (λ ws. after-writes ws e m v) (rule-writes-agree f S now previous now′ previous′ g h r (closed .rules r c e a b i t))
+      one-rule r a (inr p) v =
+          missed-stays e m (rule-writes f now previous r) (rule-misses f now previous r e p) v
+          ∙ sym (missed-stays e m (rule-writes f now′ previous′ r) (rule-misses f now′ previous′ r e p) v)
+
+  seen-agree : (s t : Store) (k l : Line) → Stores-agree S s t → Lines-agree S k l → Stores-agree S (seen f s (k .inputs)) (seen f t (l .inputs))
+  unfolding seen
+  seen-agree s t k l g h = record {
+    presence = λ e i. rw (h .presence e i, g .presence e i);
+    cells = λ e m i. rw (h .given e m i, h .presence e i, g .presence e i, g .cells e m i);
+  }
+
+  cycle-apart : (s t : State) (k l : Line) → States-agree S s t → Lines-agree S k l → States-agree S (cycle f s k) (cycle f t l)
+  unfolding cycle
+  cycle-apart s t k l g h =
+      let n = seen-agree (s .now) (t .now) k l (g .now) h in
+      record {
+        now = record {
+          presence = n .presence;
+          cells = λ e m i. rw (
+            writes-agree (seen f (s .now) (k .inputs)) (s .previous) (seen f (t .now) (l .inputs)) (t .previous) n (g .previous) e m i Unset,
+            n .cells e m i,
+          );
+        };
+        previous = n;
+        last = h .number;
+      }
+
+-- a line for each of two runs, alike on the set
+pub follow-apart : (f : File) (S : ℕ → Type 0) → Closed f S → (s t : State) (k l : Line) → States-agree S s t → Lines-agree S k l
+    → States-agree S (follow f s k) (follow f t l)
+follow-apart f S closed s t k l g h = go (eqb (k .number) (s .last)) refl (sym (ap₂ eqb (h .number) (g .last)))
+  where
+    go : (b : Bool) → eqb (k .number) (s .last) ≡ b → eqb (l .number) (t .last) ≡ eqb (k .number) (s .last) → States-agree S (follow f s k) (follow f t l)
+    go true e d = rw (follow-resent f s k e, follow-resent f t l (d ∙ e)) g
+    go false e d = rw (follow-new f s k e, follow-new f t l (d ∙ e)) (cycle-apart f S closed s t k l g h)

@@ -1,0 +1,348 @@
+-- Fields put into a row or into its header one by one, and all of them.
+use Prim.Native.Nat.{ℕ, suc, _+_, _-_, _*_, _/_, _%_, _≤_, _<_}
+use native.Mathlib.Omega.{arith}
+use mathlib.Core.Path.{_≡_, refl, sym, ap, ap₂, _∙_}
+use mathlib.Core.Bool.{Bool, true, false, cond, true≢false}
+use mathlib.Core.List.{List, [], _∷_, _++_}
+use mathlib.Core.Option.{Option, none, some}
+use lib.Dec.{ltb}
+use lib.IntN.{ℤ, pos, negsuc}
+use lib.Ieee.{isNan, toBits, binary64}
+use lib.ListN.{length, getD, getElem?, set, drop, length-set, length-take, List·getD-eq-default}
+use borrow.Author.Tests.{ltb-true, ltb-false}
+use lib.Seq.{append-snoc}
+use Rattle.values.specs.declared.Value.{Value}
+use Rattle.values.specs.declared.Value.the-variants.{Whole, Truth, Real, Unset}
+use Rattle.values.specs.declared.Kind.{Kind}
+use Rattle.values.specs.declared.Kind.the-variants.{Wholes, Bools, Reals}
+use Rattle.values.specs.definitions.Bytes.{overwritten}
+use Rattle.values.specs.definitions.Cells.{cell-at}
+use Rattle.values.specs.definitions.Forms.{hexadecimal, decimal, whole-text, printed, dash}
+use Rattle.values.proofs.laws.DigitLaws.{decimal-length, hexadecimal-length}
+use Rattle.text.specs.definitions.Tokens.{Token, tokens, tokens-of}
+use Rattle.text.specs.definitions.Syntax.{Member, Entity, File}
+use Rattle.text.proofs.laws.SpotLaws.{stands-drop}
+use Rattle.text.proofs.laws.TokenFacts.{token-in-text}
+use Rattle.checking.specs.contracts.DirectoryReads.{Few}
+use Rattle.checking.specs.definitions.Scope.{member-of, is-action}
+use Rattle.checking.specs.definitions.Verdict.{name-if-found}
+use Rattle.checking.specs.contracts.Directory.{name-in, Columns-of, kind-class, Bench}
+use Rattle.checking.proofs.laws.DirectoryLaws.{number-below, number-inside, named-bytes}
+use Rattle.cycles.specs.definitions.Store.{State}
+use Rattle.cycles.specs.definitions.Spots.{Spot}
+use Rattle.cycles.specs.definitions.Cycle.{is-sort}
+use Rattle.cycles.specs.definitions.Row.{action-fields, row-header, row}
+use Rattle.cycles.specs.definitions.StateImage.{table, entity-count}
+use Rattle.cycles.specs.contracts.CellTokens.{Member-at, Token-of, Cell-token, Sort-test}
+use Rattle.cycles.specs.contracts.StateMemory.{Put}
+use Rattle.cycles.specs.contracts.RowMemory.{
+  field-of,
+  field-at,
+  fired-field,
+  name-field,
+  Fired-put,
+  Short-names,
+  Name-put,
+  Now-in,
+  Row-put,
+  Header-put,
+}
+use Rattle.cycles.proofs.laws.TableLaws.{table-same}
+use Rattle.cycles.proofs.laws.CellTokenLaws.{few-within, action-class, member-told, entity-told}
+use Rattle.cycles.proofs.laws.PutLaws.{put-none, put-said, put-byte, put-next, put-same, put-piece, put-no-piece, put-in-front}
+use Rattle.cycles.proofs.laws.RowFields.{fields-table}
+
+-- ---- a field by its member
+
+module _ (field : Spot → List ℕ) (e m : ℕ) where
+  no-field : (o : Option Member) → false ≡ is-sort is-action o → [] ≡ field-of field e m o
+  unfolding field-of is-sort
+  no-field none h = refl
+  no-field (some x) h = rw (← h, field-of)
+
+  a-field : (o : Option Member) → true ≡ is-sort is-action o
+      → (x : Member) × (o ≡ some x) × (32 ∷ field (record { entity = e; member = m; what = x }) ≡ field-of field e m o)
+  unfolding field-of is-sort
+  a-field none h = absurd (true≢false h)
+  a-field (some x) h = (x, refl, rw (← h, field-of))
+
+  same-field : (other : Spot → List ℕ) (o : Option Member)
+      → ((x : Member) → o ≡ some x → field (record { entity = e; member = m; what = x }) ≡ other (record { entity = e; member = m; what = x }))
+      → field-of field e m o ≡ field-of other e m o
+  unfolding field-of
+  same-field other none h = refl
+  same-field other (some x) h = go (is-action (x .sort)) refl
+    where
+      go : (b : Bool) → is-action (x .sort) ≡ b → field-of field e m (some x) ≡ field-of other e m (some x)
+      go true q = rw (q, field-of) (ap (λ (l : List ℕ). 32 ∷ l) (h x refl))
+      go false q = rw (q, field-of)
+
+-- ---- lengths
+
+pub decimal-most : (n : ℕ) → length (decimal n) ≤ 10
+decimal-most n = decimal-length 10 n
+
+pub printed-most : (v : Value) → length (printed v) ≤ 16
+printed-most (Whole z) = go z
+  where
+    go : (z : ℤ) → length (whole-text z) ≤ 16
+    go (pos n) = let h = decimal-most n in omega arith
+    go (negsuc n) = let h = decimal-most (suc n) in omega arith
+printed-most (Truth true) = omega arith
+printed-most (Truth false) = omega arith
+printed-most (Real x) = go (isNan x)
+  where
+    go : (t : Bool) → length (cond t dash (hexadecimal 16 (toBits binary64 x))) ≤ 16
+    go true = omega arith
+    go false = omega (arith, hexadecimal-length 16 (toBits binary64 x))
+printed-most Unset = omega arith
+
+-- is the member of cell number i an action?
+action-told : {text classes offsets lengths d : List ℕ} {i token : ℕ} → Cell-token d i token → {b : Bool} → Sort-test classes token 6 b
+    → (w : Bench text classes offsets lengths d) → Few (w .file) → b ≡ is-sort is-action (member-of (w .file) (i / 12) (i % 12))
+action-told {text} {classes} {offsets} {lengths} {i = i} t a w c =
+    a .is text offsets lengths (member-of (w .file) (i / 12) (i % 12)) (t .is text classes offsets lengths w c) is-action action-class
+
+-- ---- a row
+
+module _ {classes d cells : List ℕ} {i token : ℕ} (t : Cell-token d i token) {b : Bool} (a : Sort-test classes token 6 b) where
+  pub fired-none : b ≡ false → (l : List ℕ) (at : ℕ) → Fired-put classes d cells i l at l at
+  unfolding field-at
+  fired-none e l at = record {
+    short = omega arith;
+    is = λ text offsets lengths w c.
+        let o = member-of (w .file) (i / 12) (i % 12) in
+        put-same (put-none l at)
+        (no-field (fired-field cells) (i / 12) (i % 12) o (sym e ∙ action-told t a w c));
+  }
+
+  pub fired-put : b ≡ true → {v : Value} → v ≡ cell-at cells i → (l : List ℕ) (at : ℕ) {m : List ℕ} {r : ℕ}
+      → (r ≡ at + 1 + length (printed v)) × (m ≡ overwritten (set l at 32) (at + 1) (printed v))
+      → Fired-put classes d cells i l at m r
+  unfolding field-at
+  fired-put e {v} q l at p = record {
+    short = let n = p .0 in let h = printed-most v in omega arith;
+    is = λ text offsets lengths w c.
+        let o = member-of (w .file) (i / 12) (i % 12) in
+        let n : i ≡ i / 12 * 12 + i % 12 = omega arith in
+        put-same (put-next (put-byte l at 32) (put-said (printed v) p))
+        (ap (λ (u : Value). 32 ∷ printed u) (q ∙ ap (cell-at cells) n)
+        ∙ a-field (fired-field cells) (i / 12) (i % 12) o (sym e ∙ action-told t a w c) .2);
+  }
+
+-- a field from a state
+abbrev now-field : State → Spot → List ℕ
+now-field s p = printed (s .now .cell (p .entity) (p .member))
+
+row-is : (f : File) (s : State) → row f s ≡ decimal (s .last) ++ action-fields f (now-field s)
+unfolding row
+row-is f s = refl
+
+fields-agree : (f : File) (s : State) (cells : List ℕ) → Now-in f s cells → (j : ℕ) → field-at f (fired-field cells) j ≡ field-at f (now-field s) j
+unfolding field-at
+fields-agree f s cells h j =
+    let e = j / 12 in
+    let m = j % 12 in
+    same-field (fired-field cells) e m (now-field s) (member-of f e m) (λ x q. ap printed (sym (h e m x q)))
+
+-- the fields of the first i cells
+pub record Fired-so-far (classes d cells before : List ℕ) (from i : ℕ) (after : List ℕ) (at : ℕ) : Type 0 where
+  pub same : length after ≡ length before
+  pub short : at ≤ from + 17 * i
+  pub is : (text offsets lengths : List ℕ) (w : Bench text classes offsets lengths d) → Few (w .file)
+      → Put (table (field-at (w .file) (fired-field cells)) 0 i) before from after at
+
+module _ {classes d cells : List ℕ} where
+  pub fired-begin : (l : List ℕ) (at : ℕ) → Fired-so-far classes d cells l at 0 l at
+  fired-begin l at = record {
+    same = refl;
+    short = omega arith;
+    is = λ text offsets lengths w c. put-no-piece (field-at (w .file) (fired-field cells)) l at;
+  }
+
+  pub fired-next : {l m k : List ℕ} {from i at r : ℕ} → Fired-so-far classes d cells l from i m at → length k ≡ length m
+      → Fired-put classes d cells i m at k r → Fired-so-far classes d cells l from (i + 1) k r
+  fired-next {i = i} p e q = record {
+    same = e ∙ p .same;
+    short = let h = p .short in let g = q .short in omega arith;
+    is = λ text offsets lengths w c. put-piece (field-at (w .file) (fired-field cells)) i (p .is text offsets lengths w c) (q .is text offsets lengths w c);
+  }
+
+  module _ {n : ℕ} (e : n ≡ getD d 1 0) where
+    pub row-impossible : 32 < n → {last : ℕ} {l m : List ℕ} → Row-put classes d cells last l m 0
+    row-impossible h = record {
+      short = omega arith;
+      is = λ text offsets lengths w c. let q = w .directory .entities in absurd (omega (arith, c .entities));
+    }
+
+    -- the number, and the fields of all cells
+    pub row-end : {last from at i : ℕ} {a l m : List ℕ} → (from ≡ 0 + length (decimal last)) × (l ≡ overwritten a 0 (decimal last))
+        → Fired-so-far classes d cells l from i m at → i ≤ 12 * n → 12 * n ≤ i → n ≤ 32 → 32768 ≤ length a → Row-put classes d cells last a m at
+    row-end {last} {from} {at} {i} {a} p q g h few big = record {
+      short = let low = decimal-most last in let high = q .short in let end = p .0 in omega arith;
+      is = λ text offsets lengths w c s k cs.
+          let f = w .file in
+          let z = w .directory .entities in
+          let all : i ≡ 12 * entity-count f = omega arith in
+          let low = decimal-most last in
+          let high = q .short in
+          let end = p .0 in
+          put-in-front
+          (put-same (put-next (put-said (decimal last) p) (q .is text offsets lengths w c))
+          (ap₂ (λ (x y : List ℕ). x ++ y) (ap decimal (sym k))
+          (ap (table (field-at f (fired-field cells)) 0) all
+          ∙ table-same (field-at f (fired-field cells)) (field-at f (now-field s)) 0 (12 * entity-count f) (λ j x y. fields-agree f s cells cs j)
+          ∙ sym (fields-table f (few-within f c) (now-field s)))
+          ∙ sym (row-is f s)))
+          (omega arith);
+    }
+
+-- ---- the header
+
+-- a name is no longer than its column says
+pub name-below : (text offsets lengths : List ℕ) {xs : List ℕ} (p : ℕ) → xs ≡ name-in text offsets lengths p → getD lengths p 0 < 256 → length xs < 256
+name-below text offsets lengths p e h =
+    let n = length-take (getD lengths p 0) (drop (getD offsets p 0) text) in
+    rw (e, n) (omega arith)
+
+-- the tokens of a text have short names
+pub short-names : {text classes offsets lengths : List ℕ} {ts : List Token} → tokens-of text ≡ tokens ts → Columns-of text classes offsets lengths ts
+    → Short-names text classes offsets lengths
+short-names {text} {offsets = offsets} {lengths = lengths} {ts = ts} lexed columns i h = go (number-inside ts i (omega (arith, columns .count)))
+  where
+    go : (t : Token) × (getElem? ts i ≡ some t) → length (name-in text offsets lengths i) ≤ 24
+    go (t, s) = rw (← columns .bytes i t s) (token-in-text text ts lexed i t (drop (suc i) ts) (stands-drop ts i s) .at-most-24)
+
+-- a token of a class that is not 0 is in the table
+token-inside : (l : List ℕ) (i : ℕ) {c : ℕ} → getD l i 0 ≡ c → 0 < c → i < length l
+token-inside l i e h = go (ltb i (length l)) refl
+  where
+    go : (b : Bool) → ltb i (length l) ≡ b → i < length l
+    go true q = ltb-true i (length l) q
+    go false q = let z = List·getD-eq-default l 0 (ltb-false i (length l) q) in absurd (omega arith)
+
+kind-positive : (k : Kind) → 0 < kind-class k
+unfolding kind-class
+kind-positive Wholes = omega arith
+kind-positive Bools = omega arith
+kind-positive Reals = omega arith
+
+module _ {text classes offsets lengths d : List ℕ} {i token : ℕ} (t : Cell-token d i token) {b : Bool} (a : Sort-test classes token 6 b) where
+  pub name-none : b ≡ false → (l : List ℕ) (at : ℕ) → at ≤ length l → Name-put text classes offsets lengths d i l at l at
+  unfolding field-at
+  name-none e l at h = record {
+    within = h;
+    is = λ w c s g.
+        let o = member-of (w .file) (i / 12) (i % 12) in (
+          omega arith,
+          put-same (put-none l at)
+              (no-field (name-field (w .file)) (i / 12) (i % 12) o
+              (sym e ∙ action-told t a w c)),
+        );
+  }
+
+  module _ (e : b ≡ true) {entity : ℕ} (q : entity ≡ getD d (227 + i / 12) 0) {xs ys : List ℕ}
+      (first : xs ≡ name-in text offsets lengths (entity + 1)) (second : ys ≡ name-in text offsets lengths (token + 1)) where
+    -- the two names, and that they are short
+    names : (w : Bench text classes offsets lengths d) → Few (w .file) → Short-names text classes offsets lengths
+        → (32 ∷ (xs ++ 46 ∷ ys) ≡ field-at (w .file) (name-field (w .file)) i) × (length xs ≤ 24) × (length ys ≤ 24)
+    unfolding field-at name-if-found
+    names w c s = with-member (a-field (name-field (w .file)) (i / 12) (i % 12) o (sym e ∙ action-told t a w c))
+      where
+        o : Option Member
+        o = member-of (w .file) (i / 12) (i % 12)
+
+        token-is : Token-of text classes offsets lengths token o
+        token-is = t .is text classes offsets lengths w c
+
+        Names : Type 0
+        Names = (32 ∷ (xs ++ 46 ∷ ys) ≡ field-at (w .file) (name-field (w .file)) i) × (length xs ≤ 24) × (length ys ≤ 24)
+
+        with-both : (x : Member) → Member-at text classes offsets lengths token x
+            → 32 ∷ name-field (w .file) (record { entity = i / 12; member = i % 12; what = x }) ≡ field-of (name-field (w .file)) (i / 12) (i % 12) o
+            → (y : Entity) × (getElem? (w .file .entities) (i / 12) ≡ some y) → Names
+        with-both x m g (y, found) =
+            let named = w .directory .entity-name (i / 12) y found in
+            let all = w .columns .count in
+            let low = number-below (w .tokens) (getD d (227 + i / 12) 0 + 1) (named .stands) in
+            let high = token-inside classes (token + 3) (m .kind) (kind-positive (x .kind)) in (
+              ap₂ (λ (u v : List ℕ). 32 ∷ (u ++ 46 ∷ v))
+                  (first ∙ ap (λ (n : ℕ). name-in text offsets lengths (n + 1)) q ∙ named-bytes w named ∙ ap name-if-found (sym found))
+                  (second ∙ m .name)
+                  ∙ g,
+              rw first (s (entity + 1) (omega arith)),
+              rw second (s (token + 1) (omega arith)),
+            )
+
+        with-member : (x : Member) × (o ≡ some x)
+            × (32 ∷ name-field (w .file) (record { entity = i / 12; member = i % 12; what = x }) ≡ field-of (name-field (w .file)) (i / 12) (i % 12) o) → Names
+        with-member (x, k, g) = with-both x (member-told token-is k) g (entity-told (w .file) (i / 12) (i % 12) k)
+
+    pub name-no-room : (l : List ℕ) (at : ℕ) → at ≤ length l → length l - at < length xs + length ys + 2 → Name-put text classes offsets lengths d i l at l at
+    name-no-room l at h g = record { within = h; is = λ w c s k. let n = names w c s in absurd (omega (arith, n .1, n .2)) }
+
+    pub name-put : (l : List ℕ) (at : ℕ) → at ≤ length l → length xs + length ys + 2 ≤ length l - at → {m k : List ℕ} {dot r : ℕ}
+        → (dot ≡ at + 1 + length xs) × (m ≡ overwritten (set l at 32) (at + 1) xs)
+        → (r ≡ dot + 1 + length ys) × (k ≡ overwritten (set m dot 46) (dot + 1) ys)
+        → Name-put text classes offsets lengths d i l at k r
+    name-put l at h g {m} {k} {dot} {r} u v = record {
+      within = omega (arith, u .0, v .0);
+      is = λ w c s z.
+          let n = names w c s in (
+            omega (arith, u .0, v .0, n .1, n .2),
+            put-same (put-next (put-next (put-next (put-byte l at 32) (put-said xs u)) (put-byte m dot 46)) (put-said ys v))
+                (ap (_∷_ 32) (append-snoc xs 46 ys) ∙ n .0),
+          );
+    }
+
+-- the names of the first i cells
+pub record Names-so-far (text classes offsets lengths d before : List ℕ) (from i : ℕ) (after : List ℕ) (at : ℕ) : Type 0 where
+  pub same : length after ≡ length before
+  pub within : at ≤ length after
+  pub is : (w : Bench text classes offsets lengths d) → Few (w .file) → Short-names text classes offsets lengths
+      → (at ≤ from + 50 * i) × Put (table (field-at (w .file) (name-field (w .file))) 0 i) before from after at
+
+module _ {text classes offsets lengths d : List ℕ} where
+  pub names-begin : (l : List ℕ) (at : ℕ) → at ≤ length l → Names-so-far text classes offsets lengths d l at 0 l at
+  names-begin l at h = record {
+    same = refl;
+    within = h;
+    is = λ w c s. (omega arith, put-no-piece (field-at (w .file) (name-field (w .file))) l at);
+  }
+
+  pub names-next : {l m k : List ℕ} {from i at r : ℕ} → Names-so-far text classes offsets lengths d l from i m at → length k ≡ length m
+      → from + 50 * (i + 1) ≤ length l → Name-put text classes offsets lengths d i m at k r
+      → Names-so-far text classes offsets lengths d l from (i + 1) k r
+  names-next {i = i} p e g q = record {
+    same = e ∙ p .same;
+    within = let h = q .within in omega arith;
+    is = λ w c s.
+        let (h, x) = p .is w c s in
+        let z = p .same in
+        let (k, y) = q .is w c s (omega arith) in
+        (omega arith, put-piece (field-at (w .file) (name-field (w .file))) i x y);
+  }
+
+  module _ {n : ℕ} (e : n ≡ getD d 1 0) where
+    pub header-impossible : 32 < n → {l m : List ℕ} {r : ℕ} → Header-put text classes offsets lengths d l m r
+    header-impossible h = record {
+      short = λ w c s. let q = w .directory .entities in absurd (omega (arith, c .entities));
+      is = λ w c. let q = w .directory .entities in absurd (omega (arith, c .entities));
+    }
+
+    pub header-end : {at i : ℕ} (a : List ℕ) {m : List ℕ} → Names-so-far text classes offsets lengths d (set a 0 110) 1 i m at
+        → i ≤ 12 * n → 12 * n ≤ i → Header-put text classes offsets lengths d a m at
+    unfolding row-header
+    header-end {at} {i} a q g h = record {
+      short = λ w c s. let z = w .directory .entities in let high = q .is w c s .0 in omega (arith, c .entities);
+      is = λ w c s.
+          let f = w .file in
+          let z = w .directory .entities in
+          let all : i ≡ 12 * entity-count f = omega arith in
+          let long = q .same ∙ length-set a 0 110 in
+          let high = q .within in
+          put-in-front
+          (put-same (put-next (put-byte a 0 110) (q .is w c s .1))
+          (ap (_∷_ 110) (ap (table (field-at f (name-field f)) 0) all ∙ sym (fields-table f (few-within f c) (name-field f)))))
+          (omega arith);
+    }

@@ -1,0 +1,24 @@
+-- Steps of the proofs of functions: for this crate alone.
+pub mod EvaluationLaws
+pub mod ExpressionValues
+pub mod ConditionValues
+pub mod AvoidLaws
+pub mod CallWrites
+pub mod ResolvedLaws
+pub mod LiteralValues
+pub mod FreshValues
+pub mod FreshImage
+pub mod HeaderLaws
+pub mod InputLaws
+pub mod ValuesLaws
+pub mod LineReadLaws
+pub mod AreaLaws
+pub mod SeenLaws
+pub mod CycleMemoryLaws
+pub mod CandidateLaws
+pub mod BindingWrites
+pub mod BindingPuts
+pub mod GuardLaws
+pub mod GuardPuts
+pub mod GuardWalks
+pub mod RuleGuards

@@ -1,0 +1,247 @@
+-- The writes of calls and of a rule, by a walk over their tokens: one law for each place where the walk returns, and three for its loop.
+use Prim.Native.Nat.{ℕ, _+_, _/_, _%_, _<_, _≤_}
+use mathlib.Core.Path.{_≡_, refl, sym, ap, ap₂, _∙_}
+use mathlib.Core.List.{List, [], _∷_, _++_, flatMap, append-nil, append-assoc}
+use mathlib.Core.Bool.{Bool, true, false, _&&_}
+use mathlib.Core.Logic.{inr}
+use mathlib.Core.Option.{Option}
+use native.Mathlib.Omega.{arith}
+use lib.Dec.{ltb, eqb}
+use lib.ListN.{length, getD, drop}
+use borrow.Author.Tests.{eqb-true, eqb-false}
+use Rattle.values.specs.declared.Value.{Value}
+use Rattle.values.specs.definitions.Value.{is-set}
+use Rattle.text.specs.definitions.Tokens.{Token, NAME, ACTION, TRIGGER, ON, END, ROUND-OPEN, ROUND-CLOSE, COMMA}
+use Rattle.text.specs.definitions.Syntax.{Expression, Target, Filter, Condition, Call, Rule}
+use Rattle.text.specs.definitions.Readers.{Parse, read, unfit-after, Parser, shift, give, expect, and-then, added, many}
+use Rattle.text.specs.definitions.Grammar.{
+  name-of,
+  expression-reader,
+  target-reader,
+  filter-reader,
+  condition-reader,
+  call-reader,
+  call-after,
+  rule-after,
+}
+use Rattle.text.specs.definitions.Syntax.{OPENERS}
+use Rattle.text.specs.contracts.Walks.{nth-token, Rows, Stands, Steps, Means, meant, vain, Means-at, Looping}
+use Rattle.text.proofs.laws.ReaderLaws.{and-then-reads, and-then-refuses}
+use Rattle.text.proofs.laws.TreeLaws.{Makes, give-makes, expect-makes, any-makes, and-then-makes}
+use Rattle.text.proofs.laws.WalkLaws.{stands, next-steps, give-means, expect-means, then-means, walk-in, walk-yields, many-begins, many-turns, many-stops}
+use Rattle.text.proofs.laws.ConditionWalks.{rule-walk}
+use Rattle.cycles.specs.declared.evaluate.Binding.{Binding}
+use Rattle.cycles.specs.definitions.Evaluate.{value, filter-holds, call-writes, binding-writes}
+use Rattle.cycles.specs.definitions.Reference.{written-if}
+use Rattle.cycles.specs.contracts.Evaluation.{
+  bound,
+  Locates,
+  In-store,
+  puts,
+  Put,
+  Target-walk,
+  in-store-rows,
+  Expression-walk,
+  Filter-walk,
+  call-yields,
+  Call-walk,
+  calls-yields,
+  Calls-walk,
+  Condition-walk,
+  Rule-puts,
+}
+use Rattle.cycles.proofs.steps.EvaluationLaws.{puts-append, present-located, called-at, filtered-at, target-named}
+use Rattle.cycles.proofs.steps.ConditionValues.{in-now}
+use Rattle.cycles.proofs.steps.AvoidLaws.{expression-no-on}
+
+-- ---- one call
+
+abbrev call-of : Token → Token → Token → Expression → Target → Option Filter → Call
+call-of start name opener a t f = record { at = start .at; action = name-of name; open-at = opener .at; parameter = a; target = t; filter = f }
+
+-- what was read yields what follows from its being read, too
+means-with : {classes : List ℕ} (w : Rows classes) {A R : Type 0} {yields : A → R → Type 0} {v : R} {next at : ℕ} (has : A → Type 0) (r : Parser A)
+    → Means-at w yields r at v next → ((a : A) (n : ℕ) → r (drop at (w .tokens)) ≡ read a n → next ≡ at + n → has a)
+    → Means-at w (λ (a : A) (v : R). yields a v × has a) r at v next
+means-with w {A} {R} {yields} {v} {next} {at} has r m f = go (r (drop at (w .tokens))) refl m
+  where
+    go : (p : Parse A) → r (drop at (w .tokens)) ≡ p → Means (w .high) yields v next at p → Means (w .high) (λ (a : A) (v : R). yields a v × has a) v next at p
+    go (read a n) e (meant y q) = meant (λ k. (y k, f a n e q)) q
+    go (unfit-after n) e vain = vain
+
+-- the `on` at number k is the first after an `action` at number i, if the expression between p and q has none
+first-on : (classes : List ℕ) {i n o p q k : ℕ} → n ≡ i + 1 → o ≡ n + 1 → p ≡ o + 1 → k ≡ q + 1
+    → getD classes n 0 ≡ NAME → getD classes o 0 ≡ ROUND-OPEN → ((j : ℕ) → p ≤ j → j < q → getD classes j 0 ≡ ON → ⊥) → getD classes q 0 ≡ ROUND-CLOSE
+    → (j : ℕ) → i < j → j < k → getD classes j 0 ≡ ON → ⊥
+first-on classes {i} {n} {o} {p} {q} {k} a b c d en eo inside eq j g h z = by-name (eqb j n) refl
+  where
+    other : {m : ℕ} (x : ℕ) → j ≡ m → getD classes m 0 ≡ x → x ≡ ON
+    other x e f = sym f ∙ ap (λ m. getD classes m 0) (sym e) ∙ z
+
+    by-close : (t : Bool) → eqb j q ≡ t → (j ≡ n → ⊥) → (j ≡ o → ⊥) → ⊥
+    by-close true e u v = let y = other ROUND-CLOSE (eqb-true j q e) eq in omega arith
+    by-close false e u v = let y = eqb-false j q e in inside j (omega arith) (omega arith) z
+
+    by-open : (t : Bool) → eqb j o ≡ t → (j ≡ n → ⊥) → ⊥
+    by-open true e u = let y = other ROUND-OPEN (eqb-true j o e) eo in omega arith
+    by-open false e u = by-close (eqb j q) refl u (eqb-false j o e)
+
+    by-name : (t : Bool) → eqb j n ≡ t → ⊥
+    by-name true e = let y = other NAME (eqb-true j n e) en in omega arith
+    by-name false e = by-open (eqb j o) refl (eqb-false j n e)
+
+module _ {classes values refs : List ℕ} {b : Binding} {flags cells : List ℕ} {area after : List ℕ} where
+  made-is : (c : In-store classes values refs b flags cells) (k : Call) {e m : ℕ} {v : Value} {d f g h made : Bool}
+      → Locates (c .rule .count) (c .rule .spots (k .target .name .bytes) (k .action .bytes)) e m
+      → v ≡ value (c .rule .spots) (c .store) (k .parameter) → f ≡ filter-holds (c .rule .spots) (c .store) (k .target) (k .filter)
+      → d ≡ (ltb m 12 && eqb (getD flags e 0) 1) → g ≡ is-set v → h ≡ (f && g) → made ≡ (d && h) → Put area made e m v after
+      → after ≡ puts area (call-writes (c .rule .spots) (c .store) k)
+  unfolding call-writes
+  made-is c k l ev ef ed eg eh em put =
+      let p = c .rule .spots (k .target .name .bytes) (k .action .bytes) in
+      put .written (c .rule .count) p (c .rule .few) l
+      ∙ ap (puts area) (ap₂ (λ d v. written-if d p v)
+      (em ∙ ap₂ _&&_ (ed ∙ present-located (c .stored) l) (eh ∙ ap₂ _&&_ ef (eg ∙ ap is-set ev))) ev)
+
+  pub call-is : {at name opener i j on owner k next r e m : ℕ} {v : Value} {d f g h made : Bool}
+      → Steps (length classes) at name → Steps (length classes) name opener → Steps (length classes) opener i
+      → Expression-walk classes values refs b flags cells (expression-reader OPENERS) i v j → Steps (length classes) j on
+      → Steps (length classes) on owner → r ≡ getD refs owner 0 % 256 → e ≡ bound b r → Target-walk classes owner k
+      → Filter-walk classes values refs b flags cells e (filter-reader OPENERS) k f next
+      → d ≡ (ltb m 12 && eqb (getD flags e 0) 1) → g ≡ is-set v → h ≡ (f && g) → made ≡ (d && h) → m ≡ getD refs name 0 / 256 → Put area made e m v after
+      → Call-walk classes values refs b flags cells area call-reader at after next
+  unfolding call-reader call-writes name-of
+  call-is {at} {name} {opener} {i} {j} {on} {owner} {k} {next} {r} {e} {m} {v} {made = made} s₁ s₂ s₃ x s₄ s₅ er ee t f ed eg eh em eref put = record {
+    onward = omega (arith, s₁ .onward, s₂ .onward, s₃ .onward, x .onward, s₄ .onward, s₅ .onward, t .onward, f .onward);
+    means = λ c l.
+        expect-means (c .rule .rows) _ ACTION _ s₁ λ h₁ e₁.
+        expect-means (c .rule .rows) _ NAME _ s₂ λ h₂ e₂.
+        expect-means (c .rule .rows) _ ROUND-OPEN _ s₃ λ h₃ e₃.
+        then-means (c .rule .rows) _ (expression-reader OPENERS) _
+        (means-with (c .rule .rows) (λ a. (n : ℕ) → i ≤ n → n < j → getD classes n 0 ≡ ON → ⊥) (expression-reader OPENERS)
+        (x .means c (omega (arith, s₁ .onward, s₂ .onward, s₃ .onward)))
+        (λ a n q u z p w. expression-no-on (c .rule .rows) OPENERS i q z p (omega arith))) λ a y.
+        expect-means (c .rule .rows) _ ROUND-CLOSE _ s₄ λ h₄ e₄.
+        expect-means (c .rule .rows) _ ON _ s₅ λ h₅ e₅.
+        then-means (c .rule .rows) _ target-reader _
+        (t .means (c .rule .rows) (omega (arith, s₁ .onward, s₂ .onward, s₃ .onward, x .onward, s₄ .onward, s₅ .onward))) λ u q.
+        then-means (c .rule .rows) _ (filter-reader OPENERS) _
+        (f .means c (omega (arith, s₁ .onward, s₂ .onward, s₃ .onward, x .onward, s₄ .onward, s₅ .onward, t .onward))) λ p z.
+        give-means (c .rule .rows) _ _ (λ w.
+        let ew = ee ∙ ap (bound b) er in
+        let placed = q (omega (arith, f .onward)) in
+        let inner = y (omega (arith, s₄ .onward, s₅ .onward, t .onward, f .onward)) in
+        let start : Stands (c .rule .rows) at ACTION =
+        stands l (omega arith) h₁ e₁ s₁ (omega (arith, s₂ .onward, s₃ .onward, x .onward, s₄ .onward, s₅ .onward, t .onward, f .onward)) w in
+        let named : Stands (c .rule .rows) name NAME =
+        stands l (omega (arith, s₁ .onward)) h₂ e₂ s₂ (omega (arith, s₃ .onward, x .onward, s₄ .onward, s₅ .onward, t .onward, f .onward)) w in
+        let word : Stands (c .rule .rows) on ON =
+        stands l (omega (arith, s₁ .onward, s₂ .onward, s₃ .onward, x .onward, s₄ .onward)) h₅ e₅ s₅ (omega (arith, t .onward, f .onward)) w in
+        let later : at < on = omega (arith, s₁ .steps h₁, s₂ .onward, s₃ .onward, x .onward, s₄ .onward) in
+        let located : Locates (c .rule .count) (c .rule .spots (u .name .bytes) (nth-token (c .rule .rows .tokens) name .bytes)) e m =
+        rw (placed .named, ew, eref)
+        (called-at (c .rule) s₁ s₅ start named word (target-named (placed .shape)) later
+        (first-on classes (s₁ .steps h₁) (s₂ .steps h₂) (s₃ .steps h₃) (s₄ .steps h₄) e₂ e₃ (inner .1) e₄)) in
+        let tokens = c .rule .rows .tokens in
+        made-is c (call-of (nth-token tokens at) (nth-token tokens name) (nth-token tokens opener) a u p) located (inner .0) (z w .filters u (record {
+          owns = λ g o. filtered-at (c .rule) (inr word) (s₅ .steps h₅) (placed .shape) (placed .named) ew g o;
+        })) ed eg eh em put) refl;
+  }
+
+-- ---- further calls
+
+flatMap-more : {A B : Type 0} (f : A → List B) (xs : List A) (a : A) → flatMap f (xs ++ a ∷ []) ≡ flatMap f xs ++ f a
+unfolding flatMap
+flatMap-more f [] a = append-nil (f a)
+flatMap-more f (x ∷ xs) a = ap (λ l. f x ++ l) (flatMap-more f xs a) ∙ sym (append-assoc (f x) (flatMap f xs) (f a))
+
+abbrev pub Calls-loop : List ℕ → List ℕ → List ℕ → Binding → List ℕ → List ℕ → List ℕ → ℕ → List ℕ → ℕ → Type 0
+Calls-loop classes values refs b flags cells area at v i =
+    Looping (in-store-rows classes values refs b flags cells) (calls-yields classes values refs b flags cells area) (many COMMA call-after) (λ d. eqb d COMMA)
+    (added call-after) at v i
+
+module _ {classes values refs : List ℕ} {b : Binding} {flags cells : List ℕ} (area : List ℕ) {at : ℕ} where
+  pub calls-begin : Calls-loop classes values refs b flags cells area at area at
+  unfolding flatMap puts
+  calls-begin =
+      many-begins (in-store-rows classes values refs b flags cells) (call-yields classes values refs b flags cells area)
+      (calls-yields classes values refs b flags cells area) COMMA call-after at (λ c. refl)
+
+  module _ {v : List ℕ} {i class : ℕ} (g : Calls-loop classes values refs b flags cells area at v i) (is : class ≡ getD classes i 0) where
+    pub calls-stop : (class ≡ COMMA → ⊥) → Calls-walk classes values refs b flags cells area (many COMMA call-after) at v i
+    calls-stop n =
+        many-stops (in-store-rows classes values refs b flags cells) (call-yields classes values refs b flags cells area)
+        (calls-yields classes values refs b flags cells area) COMMA call-after g (λ q. n (is ∙ q))
+
+    pub call-turns : class ≡ COMMA → {j n : ℕ} {u : List ℕ} → Steps (length classes) i j → Call-walk classes values refs b flags cells v call-reader j u n
+        → Calls-loop classes values refs b flags cells area at u n
+    unfolding call-after
+    call-turns q s h =
+        many-turns (in-store-rows classes values refs b flags cells) (call-yields classes values refs b flags cells v)
+        (calls-yields classes values refs b flags cells area) COMMA call-after g (omega arith) (sym is ∙ q) s (h .onward)
+        (λ c l. h .means c (omega (arith, s .onward)))
+        (λ c xs a p y z. z ∙ ap (λ l. puts l (call-writes (c .rule .spots) (c .store) a)) y
+        ∙ sym (puts-append area (flatMap (call-writes (c .rule .spots) (c .store)) xs) (call-writes (c .rule .spots) (c .store) a))
+        ∙ ap (puts area) (sym (flatMap-more (call-writes (c .rule .spots) (c .store)) xs a)))
+
+-- ---- a rule
+
+shift-read : {A : Type 0} (n : ℕ) (p : Parse A) {a : A} {m : ℕ} → shift n p ≡ read a m → (k : ℕ) × (p ≡ read a k) × (m ≡ n + k)
+unfolding shift
+shift-read n (read b k) {a} {m} h =
+    let e : b ≡ a = cc in
+    let f : n + k ≡ m = cc in
+    (k, ap (λ c. read c k) e, sym f)
+shift-read n (unfit-after k) h = let z : _≡_ {A = ℕ} 0 1 = cc in absurd (omega arith)
+
+-- a rule that was read begins with its condition
+pub rule-condition : (start : Token) (ts : List Token) {r : Rule} {n : ℕ} → rule-after start ts ≡ read r n
+    → (k : ℕ) × (condition-reader OPENERS ts ≡ read (r .condition) k) × (k ≤ n)
+unfolding rule-after
+rule-condition start ts {r} {n} h = go (condition-reader OPENERS ts) refl
+  where
+    any : Token → Type 0
+    any t = Unit {0}
+
+    rest : Condition → Parser Rule
+    rest c =
+        expect TRIGGER λ t. and-then call-reader λ first. and-then (many COMMA call-after) λ others.
+        expect END λ u. give (record { at = start .at; condition = c; calls = first ∷ others })
+
+    of-condition : (c : Condition) → Makes any (rest c) (λ r. r .condition ≡ c)
+    of-condition c = expect-makes any TRIGGER _ λ t p. and-then-makes any _ (any-makes any call-reader) λ x q.
+        and-then-makes any _ (any-makes any (many COMMA call-after)) λ xs s. expect-makes any END _ λ u w. give-makes any _ refl
+
+    go : (p : Parse Condition) → condition-reader OPENERS ts ≡ p → (k : ℕ) × (condition-reader OPENERS ts ≡ read (r .condition) k) × (k ≤ n)
+    go (read c k) e =
+        let (m, q, s) = shift-read k (rest c (drop k ts)) (sym (and-then-reads (condition-reader OPENERS) rest c k ts e) ∙ h) in
+        (k, e ∙ ap (λ c. read c k) (sym (of-condition c .makes (drop k ts) (λ t x. tt) r m q)), omega arith)
+    go (unfit-after k) e =
+        let f = sym (and-then-refuses (condition-reader OPENERS) rest k ts e) ∙ h in
+        let z : _≡_ {A = ℕ} 0 1 = cc in absurd (omega arith)
+
+module _ {classes values refs : List ℕ} {b : Binding} {flags cells previous-flags previous-cells : List ℕ} {at n : ℕ} {v : Bool} {area : List ℕ}
+    (h : Condition-walk classes values refs b flags cells previous-flags previous-cells (condition-reader OPENERS) at v n) where
+  pub rule-idle : v ≡ false → Rule-puts classes values refs b flags cells previous-flags previous-cells at area area
+  unfolding binding-writes puts
+  rule-idle e = record {
+    writes = λ c l start r m q k.
+        let (j, p, s) = rule-condition start (drop at (c .rule .rows .tokens)) q in
+        let (y, d) = walk-yields h c l p in
+        rw (sym (y (omega arith)) ∙ e);
+  }
+
+  pub rule-fires : v ≡ true → {m p q : ℕ} {first after : List ℕ} → Steps (length classes) n m
+      → Call-walk classes values refs b flags cells area call-reader m first p
+      → Calls-walk classes values refs b flags cells first (many COMMA call-after) p after q
+      → Rule-puts classes values refs b flags cells previous-flags previous-cells at area after
+  unfolding binding-writes flatMap
+  rule-fires e {q = q} {after = after} s g k = record {
+    writes = λ c l start r m f o.
+        let whole = rule-walk {yields = λ c r u. u ≡ puts area (binding-writes (c .rule .spots) (c .now) (c .previous) r)} {v = after} start h s
+        (walk-in in-now g) (walk-in in-now k) (next-steps q)
+        (λ c a x xs ea ex exs. rw (← ea, e) (exs ∙ ap (λ l. puts l (flatMap (call-writes (c .rule .spots) (c .now)) xs)) ex
+        ∙ sym (puts-append area (call-writes (c .rule .spots) (c .now) x) (flatMap (call-writes (c .rule .spots) (c .now)) xs)))) in
+        let (y, d) = walk-yields whole c l f in
+        y (omega arith);
+  }

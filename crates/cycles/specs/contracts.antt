@@ -1,0 +1,15 @@
+-- What inner functions promise, and the forms of their memory: nobody has to believe these.
+pub mod Evaluation
+pub mod CellTokens
+pub mod StateMemory
+pub mod RowMemory
+pub mod FreshMemory
+pub mod FieldReads
+pub mod HeaderReads
+pub mod LineReads
+pub mod Judging
+pub mod AllRules
+pub mod Guards
+pub mod Failing
+pub mod Finding
+pub mod CycleMemory

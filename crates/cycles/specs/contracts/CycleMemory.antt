@@ -1,0 +1,81 @@
+-- What a cycle leaves in the memory of a state: of a checked bench in columns, with its rules' names resolved.
+use Prim.Native.Nat.{ℕ, _*_, _/_, _%_}
+use mathlib.Core.Path.{_≡_}
+use mathlib.Core.List.{List, _++_}
+use mathlib.Core.Bool.{Bool, true, not, _&&_, cond}
+use lib.Dec.{eqb}
+use lib.ListN.{length, getD, take, drop}
+use Rattle.values.specs.declared.Value.{Value}
+use Rattle.values.specs.declared.Value.the-variants.{Unset}
+use Rattle.values.specs.definitions.Cells.{cell-bytes, cell-at}
+use Rattle.text.specs.definitions.Syntax.{File}
+use Rattle.checking.specs.contracts.DirectoryReads.{Few}
+use Rattle.checking.specs.contracts.Directory.{Bench}
+use Rattle.checking.specs.definitions.Scope.{member-of, is-attribute, is-action}
+use Rattle.checking.specs.contracts.CheckedBench.{Checked-bench}
+use Rattle.checking.specs.contracts.Resolution.{References, Scopes}
+use Rattle.cycles.specs.definitions.Store.{Inputs}
+use Rattle.cycles.specs.definitions.Cycle.{is-sort, cycle}
+use Rattle.cycles.specs.definitions.SoundState.{Sound-inputs}
+use Rattle.cycles.specs.definitions.StateImage.{
+  CELL-BYTES,
+  ENTITY-CELLS,
+  ENTITY-CELL-BYTES,
+  NO-READING,
+  table,
+  flag,
+  entity-count,
+  decode,
+  is-state,
+  with-state,
+}
+use Rattle.cycles.specs.contracts.LineReads.{presence-table, input-table}
+use Rattle.cycles.specs.contracts.Judging.{present-by}
+
+-- ---- the steps, from memory to memory
+
+-- who is present after the line, by the flags before it and the presence that was read
+abbrev pub seen-flag : List ℕ → List ℕ → ℕ → List ℕ
+seen-flag present flags e = flag (present-by (getD present e 0) (getD flags e 0))
+
+-- an entity leaves: it was present and is no more
+abbrev pub leaves-by : ℕ → ℕ → Bool
+leaves-by before after = eqb before 1 && not (eqb after 1)
+
+-- cell number i as the rules see it: by the flags before the line and after it, the cells before it, and its readings
+unfoldable pub seen-value : List ℕ → List ℕ → List ℕ → List ℕ → File → ℕ → Value
+unfolding is-sort is-attribute member-of
+seen-value present seen cells inputs f i =
+    cond (eqb (getD inputs (i * CELL-BYTES) 0) NO-READING)
+    (cond (leaves-by (getD present (i / ENTITY-CELLS) 0) (getD seen (i / ENTITY-CELLS) 0)
+    && not (is-sort is-attribute (member-of f (i / ENTITY-CELLS) (i % ENTITY-CELLS)))) Unset (cell-at cells i))
+    (cell-at inputs i)
+
+-- cell number i after the cycle: an action's as it was written, any other as the rules saw it
+unfoldable pub next-value : List ℕ → List ℕ → File → ℕ → Value
+unfolding is-sort is-action member-of
+next-value cells area f i = cond (is-sort is-action (member-of f (i / ENTITY-CELLS) (i % ENTITY-CELLS))) (cell-at area i) (cell-at cells i)
+
+-- the value of cell number i, for every file that stands in the columns and the directory
+pub record Value-of (classes d : List ℕ) (value : File → ℕ → Value) (i : ℕ) (v : Value) : Type 0 where
+  pub is : (text offsets lengths : List ℕ) (w : Bench text classes offsets lengths d) → Few (w .file) → v ≡ value (w .file) i
+
+-- the values of the first k cells, put at the front of memory
+pub record Values-put (classes d : List ℕ) (value : File → ℕ → Value) (k : ℕ) (before after : List ℕ) : Type 0 where
+  pub same : length after ≡ length before
+  pub is : (text offsets lengths : List ℕ) (w : Bench text classes offsets lengths d) → Few (w .file)
+      → after ≡ table (λ i. cell-bytes (value (w .file) i)) 0 k ++ drop (k * CELL-BYTES) before
+
+-- ---- the contract
+
+-- the memory of a state, which was `state` and is `after`, by the cycle of a line of this number, whose inputs stand in areas of their own
+-- (sound inputs: the bytes of others are those of no value, or of another one)
+pub record Cycled (classes values d refs scopes : List ℕ) (number : ℕ) (input-flags input-cells state after : List ℕ) : Type 0 where
+  pub is : (text offsets lengths : List ℕ) (c : Checked-bench text classes offsets lengths values d)
+      → References text classes offsets lengths d refs → Scopes text classes offsets lengths d scopes
+      → is-state (c .bench .file) state ≡ true
+      → (i : Inputs) → Sound-inputs (c .bench .file) i
+      → take (entity-count (c .bench .file)) input-flags ≡ presence-table i (entity-count (c .bench .file))
+      → take (ENTITY-CELL-BYTES * entity-count (c .bench .file)) input-cells ≡ input-table i (entity-count (c .bench .file))
+      → after
+      ≡ with-state (c .bench .file) (cycle (c .bench .file) (decode (entity-count (c .bench .file)) state) (record { number = number; inputs = i })) state

@@ -1,0 +1,17 @@
+-- What document 01 speaks of: the definitions that a reader has to believe.
+pub mod Outcome
+pub mod Store
+pub mod Spots
+pub mod Reference
+pub mod Evaluate
+pub mod Bindings
+pub mod Cycle
+pub mod Fields
+pub mod Header
+pub mod Record
+pub mod Line
+pub mod Row
+pub mod Readings
+pub mod StateImage
+pub mod ClosedSet
+pub mod SoundState

@@ -1,0 +1,132 @@
+-- A cycle, and the fresh state (document 01, "The bare machine").
+use Prim.Native.Nat.{ℕ}
+use mathlib.Core.List.{List, [], _∷_}
+use mathlib.Core.Bool.{Bool, true, false, not, _&&_, cond}
+use mathlib.Core.Option.{Option, none, some, Option·getD}
+use lib.Dec.{eqb}
+use lib.ListN.{getElem?}
+use Rattle.values.specs.declared.Value.{Value}
+use Rattle.values.specs.declared.Value.the-variants.{Unset}
+use Rattle.values.specs.declared.Kind.{Kind}
+use Rattle.values.specs.definitions.Storable.{of-kind}
+use Rattle.text.specs.definitions.Syntax.{Name, Sort, Member, Interface, Assignment, literal-value, Entity, File}
+use Rattle.checking.specs.definitions.Scope.{Indexed, look-up, is-found, member-of, interface-named, member-named, is-attribute, is-action}
+use Rattle.cycles.specs.definitions.Outcome.{Outcome, running, proceed, run-if}
+use Rattle.cycles.specs.definitions.Store.{Store, Inputs, State, Line}
+use Rattle.cycles.specs.definitions.Spots.{Spot, every, cells}
+use Rattle.cycles.specs.definitions.Reference.{Write}
+use Rattle.cycles.specs.definitions.Bindings.{all-writes, ref-all-writes}
+
+unfoldable pub is-sort : (Sort → Bool) → Option Member → Bool
+is-sort sort none = false
+is-sort sort (some m) = sort (m .sort)
+
+-- is the entity present after the line's presence?
+unfoldable pub present-after : Store → Inputs → ℕ → Bool
+present-after s i e = Option·getD (i .presence e) (s .present e)
+
+unfoldable pub leaves : Store → Inputs → ℕ → Bool
+unfolding present-after
+leaves s i e = s .present e && not (present-after s i e)
+
+-- "Presence is applied, then readings. An entity that leaves has events and actions unset"
+unfoldable pub seen : File → Store → Inputs → Store
+unfolding present-after leaves is-sort is-attribute member-of
+seen f s i = record {
+  present = present-after s i;
+  cell = λ e m. Option·getD (i .given e m) (cond (leaves s i e && not (is-sort is-attribute (member-of f e m))) Unset (s .cell e m));
+}
+
+-- "The last write to a cell stands": a cell's value after writes, one after another
+unfoldable pub after-writes : List Write → ℕ → ℕ → Value → Value
+after-writes [] e m v = v
+after-writes (w ∷ ws) e m v = after-writes ws e m (cond (eqb (w .entity) e && eqb (w .member) m) (w .value) v)
+
+-- "Action cells become unset, then take the writes"
+unfoldable pub stored : File → Store → List Write → Store
+unfolding is-sort is-action member-of after-writes
+stored f s ws = record {
+  present = s .present;
+  cell = λ e m. cond (is-sort is-action (member-of f e m)) (after-writes ws e m Unset) (s .cell e m);
+}
+
+unfoldable pub next-state : File → State → Line → List Write → State
+unfolding seen stored
+next-state f s l ws = record {
+  now = stored f (seen f (s .now) (l .inputs)) ws;
+  previous = seen f (s .now) (l .inputs);
+  last = l .number;
+  inputs = l .inputs;
+}
+
+-- a cycle for one line: the rules read the line's store as now, and the one before as previous
+unfoldable pub cycle : File → State → Line → State
+unfolding next-state all-writes
+cycle f s l = next-state f s l (all-writes f (seen f (s .now) (l .inputs)) (s .previous))
+
+unfoldable pub input-fits : Kind → Option Value → Bool
+unfolding of-kind
+input-fits k none = true
+input-fits k (some v) = of-kind k v
+
+-- the reference machine stops "where a reading's kind isn't its cell's", or an entity's interface isn't found
+unfoldable pub inputs-fit : File → Inputs → Bool
+unfolding every input-fits cells is-found interface-named
+inputs-fit f i =
+    every (λ e. is-found (interface-named f (e .interface .bytes))) (f .entities)
+    && every (λ p. input-fits (p .what .kind) (i .given (p .entity) (p .member))) (cells f)
+
+unfoldable pub ref-cycle : File → State → Line → Outcome State
+unfolding run-if inputs-fit proceed ref-all-writes next-state
+ref-cycle f s l =
+    run-if (inputs-fit f (l .inputs))
+    (proceed (ref-all-writes f (seen f (s .now) (l .inputs)) (s .previous)) λ ws.
+    running (next-state f s l ws))
+
+-- an accepted line: "a resent one starts no cycle"
+unfoldable pub follow : File → State → Line → State
+unfolding cycle
+follow f s l = elim (eqb (l .number) (s .last)) [ true ↦ s | false ↦ cycle f s l ]
+
+unfoldable pub ref-follow : File → State → Line → Outcome State
+unfolding ref-cycle
+ref-follow f s l = elim (eqb (l .number) (s .last)) [ true ↦ running s | false ↦ ref-cycle f s l ]
+
+unfoldable pub assigned : Option (Indexed Assignment) → Value
+unfolding literal-value
+assigned none = Unset
+assigned (some a) = literal-value (a .item .literal)
+
+unfoldable pub initial-value : Option Entity → Option Member → Value
+unfolding assigned look-up is-attribute
+initial-value none m = Unset
+initial-value (some e) none = Unset
+initial-value (some e) (some m) = cond (is-attribute (m .sort)) (assigned (look-up (λ a. a .name) (m .name .bytes) (e .assignments))) Unset
+
+-- "Fresh: all present, attributes set, the rest unset"; "(all absent before the first cycle)"; "(0 when fresh)"
+unfoldable pub fresh : File → State
+unfolding is-found initial-value member-of
+fresh f = record {
+  now = record { present = λ e. is-found (getElem? (f .entities) e); cell = λ e m. initial-value (getElem? (f .entities) e) (member-of f e m) };
+  previous = record { present = λ e. false; cell = λ e m. Unset };
+  last = 0;
+  inputs = record { presence = λ e. none; given = λ e m. none };
+}
+
+-- an assignment: its name is found among the attributes, and its literal is of the attribute's kind
+unfoldable pub assignment-fits : Option (Indexed Member) → Value → Bool
+unfolding is-attribute of-kind
+assignment-fits none v = false
+assignment-fits (some m) v = is-attribute (m .item .sort) && of-kind (m .item .kind) v
+
+unfoldable pub assignments-fit : Option Interface → List Assignment → Bool
+unfolding every assignment-fits member-named literal-value
+assignments-fit none xs = false
+assignments-fit (some i) xs = every (λ a. assignment-fits (member-named i (a .name .bytes)) (literal-value (a .literal))) xs
+
+-- the reference machine "stops where a name or member isn't found, where `=` .. meets values of unfitting kinds"
+unfoldable pub ref-fresh : File → Outcome State
+unfolding run-if every assignments-fit interface-named fresh
+ref-fresh f =
+    run-if (every (λ e. assignments-fit (interface-named f (e .interface .bytes)) (e .assignments)) (f .entities))
+    (running (fresh f))

@@ -1,0 +1,98 @@
+-- Expressions, conditions and calls at one binding, as code works them out: the total machine. It is the reference machine (Reference), but what
+-- that is stuck at gives unset, false or no write here; for accepted files the two are equal (`accepted-sound`).
+use Prim.Native.Nat.{ℕ}
+use mathlib.Core.List.{List, [], _∷_, flatMap}
+use mathlib.Core.Bool.{Bool, true, false, not, _&&_, _||_}
+use mathlib.Core.Option.{Option, none, some}
+use Rattle.values.specs.declared.Value.{Value}
+use Rattle.values.specs.declared.Value.the-variants.{Unset}
+use Rattle.values.specs.definitions.Value.{is-set, fitted, settled, operated, negated, as-real, equal, differ}
+use Rattle.text.specs.definitions.Syntax.{
+  Name,
+  literal-value,
+  Expression,
+  literal,
+  member,
+  to-real,
+  negate,
+  apply,
+  Target,
+  Filter,
+  Test,
+  changed,
+  equals,
+  Clause,
+  Condition,
+  clause,
+  both,
+  either,
+  Call,
+  Rule,
+}
+use Rattle.cycles.specs.definitions.Store.{Store}
+use Rattle.cycles.specs.definitions.Spots.{Spot, Spots}
+use Rattle.cycles.specs.definitions.Reference.{read-spot, Write, written-if}
+
+unfoldable pub value-at : Store → Option Spot → Value
+unfolding read-spot
+value-at s none = Unset
+value-at s (some p) = read-spot s p
+
+unfoldable pub is-present-at : Store → Option Spot → Bool
+is-present-at s none = false
+is-present-at s (some p) = s .present (p .entity)
+
+unfoldable pub value : Spots → Store → Expression → Value
+unfolding literal-value value-at fitted settled
+value sp s (literal l) = literal-value l
+value sp s (member n m) = value-at s (sp (n .bytes) (m .bytes))
+value sp s (to-real at a) = as-real (value sp s a)
+value sp s (negate at a) = negated (value sp s a)
+value sp s (apply o at a b) = operated o (value sp s a) (value sp s b)
+
+-- as `ref-filter`
+unfoldable pub filter-holds : Spots → Store → Target → Option Filter → Bool
+unfolding value-at value
+filter-holds sp s t none = true
+filter-holds sp s t (some g) = equal (value-at s (sp (t .name .bytes) (g .attribute .bytes))) (value sp s (g .expression))
+
+-- as `ref-test`
+unfoldable pub test-holds : Spots → Store → Store → Option Spot → Test → Bool
+unfolding value-at value
+test-holds sp now previous p changed = differ (value-at now p) (value-at previous p)
+test-holds sp now previous p (equals at a) =
+    equal (value-at now p) (value sp now a) && not (equal (value-at previous p) (value sp previous a))
+
+-- as `ref-clause`
+unfoldable pub clause-holds : Spots → Store → Store → Clause → Bool
+unfolding is-present-at filter-holds test-holds
+clause-holds sp now previous c =
+    is-present-at now (sp (c .target .name .bytes) (c .event .bytes))
+    && (filter-holds sp previous (c .target) (c .filter)
+    && test-holds sp now previous (sp (c .target .name .bytes) (c .event .bytes)) (c .test))
+
+unfoldable pub holds : Spots → Store → Store → Condition → Bool
+unfolding clause-holds
+holds sp now previous (clause c) = clause-holds sp now previous c
+holds sp now previous (both a b) = holds sp now previous a && holds sp now previous b
+holds sp now previous (either a b) = holds sp now previous a || holds sp now previous b
+
+-- as `ref-call`
+unfoldable pub call-writes : Spots → Store → Call → List Write
+unfolding written-if is-present-at filter-holds value
+call-writes sp now c =
+    written-if
+    (is-present-at now (sp (c .target .name .bytes) (c .action .bytes))
+    && (filter-holds sp now (c .target) (c .filter)
+    && is-set (value sp now (c .parameter))))
+    (sp (c .target .name .bytes) (c .action .bytes))
+    (value sp now (c .parameter))
+
+unfoldable pub writes-if : Bool → List Write → List Write
+writes-if true ws = ws
+writes-if false ws = []
+
+-- a rule at one binding
+unfoldable pub binding-writes : Spots → Store → Store → Rule → List Write
+unfolding writes-if holds flatMap call-writes
+binding-writes sp now previous r = writes-if (holds sp now previous (r .condition)) (flatMap (call-writes sp now) (r .calls))

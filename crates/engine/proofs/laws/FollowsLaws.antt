@@ -1,0 +1,267 @@
+-- What accepted calls leave and give, and how a row reads back.
+use Prim.Native.Nat.{ℕ, zero, suc, _%_, _/_, _≤_, _<_}
+use native.Mathlib.Omega.{arith}
+use mathlib.Core.Logic.{_↔_}
+use mathlib.Core.Path.{_≡_, refl, sym, ap, ap₂, _∙_, subst}
+use mathlib.Core.List.{List, [], _∷_, map}
+use mathlib.Core.Option.{Option, none, some}
+use lib.ListN.{length, length-map, getElem?, take}
+use borrow.Author.Tests.{le-ltb, eqb-false}
+use Rattle.values.specs.definitions.Forms.{magnitude, event-field, printed}
+use Rattle.values.proofs.theorems.PrintedReadsBack.{printed-reads-back, number-reads-back}
+use Rattle.text.specs.definitions.Syntax.{File}
+use Rattle.text.proofs.laws.ListLaws.{some-injective}
+use Rattle.checking.specs.definitions.Verdict.{Verdict, verdict}
+use Rattle.checking.proofs.laws.VerdictLaws.{accepted-verdict}
+use Rattle.checking.proofs.laws.AcceptedLaws.{within-counts}
+use Rattle.cycles.specs.definitions.Store.{State, Line}
+use Rattle.cycles.specs.definitions.Spots.{Spot}
+use Rattle.cycles.specs.definitions.Cycle.{follow}
+use Rattle.cycles.specs.definitions.Line.{Answer, refused, accepted, MOST-LINES}
+use Rattle.cycles.specs.definitions.Row as Rows
+use Rattle.cycles.specs.definitions.Row.{action-cells, row-header}
+use Rattle.cycles.specs.definitions.StateImage.{STATE, state-of}
+use Rattle.cycles.specs.definitions.SoundState.{Sound-state}
+use Rattle.cycles.proofs.laws.AnswerLaws.{Has-number}
+use Rattle.cycles.proofs.laws.ImageLaws.{state-decoded-sound}
+use Rattle.cycles.proofs.laws.RowReads.{fired-text, row-fields, row-field, action-stands}
+use Rattle.engine.specs.definitions.BenchImage.{BENCH, bench-of}
+use Rattle.engine.specs.definitions.Calls.{
+  ROW,
+  row-answer,
+  with-row,
+  After-fresh,
+  freshened,
+  fresh-call,
+  After-line,
+  line-refused,
+  line-in-state,
+  line-on-bench,
+  line-call,
+  After-row,
+  row-written,
+  header-on-bench,
+  header-call,
+  row-in-state,
+  row-on-bench,
+  row-call,
+  Fresh-contract,
+  Line-contract,
+  Header-contract,
+  Row-contract,
+}
+use Rattle.engine.specs.definitions.Runs.{Request, machine-answer, given, given-by}
+use Rattle.engine.specs.definitions.DemandOne.{number-of}
+use Rattle.engine.specs.definitions.DemandTwo.{Freshens, Follows, Names, Shows, Reads-back}
+use Rattle.engine.proofs.laws.BenchLaws.{bench-accepted}
+use Rattle.engine.proofs.laws.CallLaws.{Stands-for, Answered, answer-line, answer-number, given-read}
+use Rattle.engine.proofs.laws.RunLaws.{call-gives}
+use Rattle.engine.proofs.theorems.ImageRoundTrip.{image-round-trip}
+
+-- memory of the stated sizes that stands for a bench and a state of it is sound
+stands : (bench state : List ℕ) (f : File) (s : State) → BENCH ≤ length bench → STATE ≤ length state → bench-of bench ≡ some f → state-of f state ≡ some s
+    → Stands-for f bench state s
+stands bench state f s h g b e =
+    let t = bench-accepted bench b in
+    record {
+      bench-size = h;
+      bench-is = b;
+      state-size = g;
+      state-is = e;
+      sound-is = state-decoded-sound f (within-counts f (accepted-verdict (t .text) (t .is-accepted))) state s e;
+    }
+
+-- no refusal has the number 0
+not-zero : (code : ℕ) {n : ℕ} → n ≡ code → number-of n ≡ 0 → (number-of code ≡ 0 → ⊥) → ⊥
+not-zero code e h never = never (ap number-of (sym e) ∙ h)
+
+row-zero : (g : List ℕ) → number-of (row-answer g) ≡ 0
+row-zero g = omega arith
+
+-- ---- the line call
+
+module _ (bench state names values row : List ℕ) (h : BENCH ≤ length bench) (g : STATE ≤ length state) (w : ROW ≤ length row) where
+  abbrev request : Request
+  request = record { names = names; values = values; row = row }
+
+  abbrev reply : After-line
+  reply = line-call bench state names values row
+
+  answered : (f : File) → bench-of bench ≡ some f → (s : State) → state-of f state ≡ some s
+      → Answered f bench state s request reply (machine-answer f s request)
+  answered f b s e =
+      let t = bench-accepted bench b in
+      call-gives f (accepted-verdict (t .text) (t .is-accepted)) bench state s (stands bench state f s h g b e) request
+
+  by-answer : (f : File) → bench-of bench ≡ some f → (s : State) → state-of f state ≡ some s → number-of (reply .answer) ≡ 0
+      → (a : Answer Line) → machine-answer f s request ≡ a → Has-number a → Answered f bench state s request reply a
+      → Follows bench state names values reply
+  unfolding given-by given
+  by-answer f b s e z (refused code) q n k =
+      let y : code % 256 ≡ 0 = ap number-of (sym (k .answer-is)) ∙ z in absurd (eqb-false (code % 256) 0 n y)
+  by-answer f b s e z (accepted l) q n k = record {
+    file = f;
+    before = s;
+    taken = l;
+    after = follow f s l;
+    is-bench = b;
+    is-state = e;
+    is-taken = answer-line f s request q;
+    runs = k .runs;
+    leaves = k .gives .stands .state-is;
+    fires = ap₂ (λ (n : ℕ) (m : List ℕ). take (n / 256) m) (k .gives .answer-is) (k .gives .row-is) ∙ given-read (Rows.row f (follow f s l)) row;
+  }
+
+  on-bench : reply ≡ line-on-bench (bench-of bench) state names values row
+  unfolding line-call
+  on-bench = rw (le-ltb (length bench) BENCH h, le-ltb (length state) STATE g, le-ltb (length row) ROW w, line-call)
+
+  by-state : number-of (reply .answer) ≡ 0 → (f : File) → bench-of bench ≡ some f → (o : Option State) → state-of f state ≡ o
+      → Follows bench state names values reply
+  unfolding line-on-bench line-in-state line-refused
+  by-state z f b none e =
+      let i : reply ≡ line-refused 33 state row =
+      on-bench ∙ ap (λ (o : Option File). line-on-bench o state names values row) b ∙ ap (λ (o : Option State). line-in-state f o state names values row) e in
+      absurd (not-zero 33 (ap (λ (x : After-line). x .answer) i) z (λ n. omega arith))
+  by-state z f b (some s) e = by-answer f b s e z (machine-answer f s request) refl (answer-number f s request) (answered f b s e)
+
+  by-bench : number-of (reply .answer) ≡ 0 → (o : Option File) → bench-of bench ≡ o → Follows bench state names values reply
+  unfolding line-on-bench line-refused
+  by-bench z none e =
+      let i : reply ≡ line-refused 32 state row = on-bench ∙ ap (λ (o : Option File). line-on-bench o state names values row) e in
+      absurd (not-zero 32 (ap (λ (x : After-line). x .answer) i) z (λ n. omega arith))
+  by-bench z (some f) e = by-state z f e (state-of f state) refl
+
+  taken-answer : (x : After-line) → Follows bench state names values x → number-of (reply .answer) ≡ 0
+  unfolding machine-answer
+  taken-answer x k =
+      let q : machine-answer (k .file) (k .before) request ≡ accepted (k .taken) = rw (le-ltb (length row) ROW w, machine-answer) (k .is-taken) in
+      let i : Answered (k .file) bench state (k .before) request reply (accepted (k .taken)) =
+      subst (Answered (k .file) bench state (k .before) request reply) q (answered (k .file) (k .is-bench) (k .before) (k .is-state)) in
+      ap number-of (i .gives .answer-is) ∙ row-zero (Rows.row (k .file) (follow (k .file) (k .before) (k .taken)))
+
+pub line-follows : (bench state names values row new-state new-row : List ℕ) (r : ℕ) → Line-contract bench state names values row new-state new-row r
+    → BENCH ≤ length bench → STATE ≤ length state → ROW ≤ length row
+    → (number-of r ≡ 0) ↔ Follows bench state names values (record { answer = r; state = new-state; row = new-row })
+line-follows bench state names values row new-state new-row r c h g w =
+    subst (λ (x : After-line). (number-of (x .answer) ≡ 0) ↔ Follows bench state names values x) (sym c) (
+      λ z. by-bench bench state names values row h g w z (bench-of bench) refl,
+      taken-answer bench state names values row h g w (line-call bench state names values row),
+    )
+
+-- ---- the fresh state
+
+fresh-is : (bench state : List ℕ) → BENCH ≤ length bench → STATE ≤ length state → fresh-call bench state ≡ freshened (bench-of bench) state
+unfolding fresh-call
+fresh-is bench state h g = rw (le-ltb (length bench) BENCH h, le-ltb (length state) STATE g, fresh-call)
+
+pub fresh-freshens : (bench state new-state : List ℕ) (r : ℕ) → Fresh-contract bench state new-state r
+    → BENCH ≤ length bench → STATE ≤ length state
+    → (number-of r ≡ 0) ↔ Freshens bench new-state
+unfolding freshened
+fresh-freshens bench state new-state r c h g =
+    let i : record { answer = r; state = new-state } ≡ freshened (bench-of bench) state = c ∙ fresh-is bench state h g in
+    (λ z. by-bench z (bench-of bench) refl, λ k. ap number-of (ap (λ (x : After-fresh). x .answer) (i ∙ ap (λ (o : Option File). freshened o state) (k .is-bench))))
+  where
+    by-bench : number-of r ≡ 0 → (o : Option File) → bench-of bench ≡ o → Freshens bench new-state
+    by-bench z none e =
+        let i : record { answer = r; state = new-state } ≡ freshened none state = c ∙ fresh-is bench state h g ∙ ap (λ (o : Option File). freshened o state) e in
+        absurd (not-zero 32 (ap (λ (x : After-fresh). x .answer) i) z (λ n. omega arith))
+    by-bench z (some f) e = record {
+      file = f;
+      is-bench = e;
+      leaves = ap (λ (x : After-fresh). state-of f (x .state)) c ∙ image-round-trip .fresh bench state f h g e;
+    }
+
+-- ---- rows
+
+written-given : (g m : List ℕ) → given (row-written g m .answer) (row-written g m .row) ≡ g
+unfolding given row-written
+written-given g m = given-read g m
+
+header-is : (bench row : List ℕ) → BENCH ≤ length bench → ROW ≤ length row → header-call bench row ≡ header-on-bench (bench-of bench) row
+unfolding header-call
+header-is bench row h w = rw (le-ltb (length bench) BENCH h, le-ltb (length row) ROW w, header-call)
+
+module _ (bench row : List ℕ) (h : BENCH ≤ length bench) (w : ROW ≤ length row) where
+  names-by : (x : After-row) → x ≡ header-on-bench (bench-of bench) row → number-of (x .answer) ≡ 0 → (o : Option File) → bench-of bench ≡ o
+      → Names bench (x .answer) (x .row)
+  unfolding header-on-bench
+  names-by x c z none e =
+      let i : x ≡ header-on-bench none row = c ∙ ap (λ (o : Option File). header-on-bench o row) e in
+      absurd (not-zero 32 (ap (λ (y : After-row). y .answer) i) z (λ n. omega arith))
+  names-by x c z (some f) e =
+      let i : x ≡ header-on-bench (some f) row = c ∙ ap (λ (o : Option File). header-on-bench o row) e in
+      record { file = f; is-bench = e; gives = ap (λ (y : After-row). given (y .answer) (y .row)) i ∙ written-given (row-header f) row }
+
+  named-answer : (x : After-row) → x ≡ header-on-bench (bench-of bench) row → Names bench (x .answer) (x .row) → number-of (x .answer) ≡ 0
+  unfolding header-on-bench row-written
+  named-answer x c k =
+      let i : x ≡ header-on-bench (some (k .file)) row = c ∙ ap (λ (o : Option File). header-on-bench o row) (k .is-bench) in
+      ap (λ (y : After-row). number-of (y .answer)) i ∙ row-zero (row-header (k .file))
+
+pub header-names : (bench row new-row : List ℕ) (r : ℕ) → Header-contract bench row new-row r
+    → BENCH ≤ length bench → ROW ≤ length row
+    → (number-of r ≡ 0) ↔ Names bench r new-row
+header-names bench row new-row r c h w =
+    let x : After-row = record { answer = r; row = new-row } in
+    let i : x ≡ header-on-bench (bench-of bench) row = c ∙ header-is bench row h w in
+    (λ z. names-by bench row h w x i z (bench-of bench) refl, λ k. named-answer bench row h w x i k)
+
+row-is : (bench state row : List ℕ) → BENCH ≤ length bench → STATE ≤ length state → ROW ≤ length row
+    → row-call bench state row ≡ row-on-bench (bench-of bench) state row
+unfolding row-call
+row-is bench state row h g w = rw (le-ltb (length bench) BENCH h, le-ltb (length state) STATE g, le-ltb (length row) ROW w, row-call)
+
+module _ (bench state row : List ℕ) (x : After-row) (c : x ≡ row-on-bench (bench-of bench) state row) where
+  in-state : (f : File) → bench-of bench ≡ some f → (o : Option State) → state-of f state ≡ o → x ≡ row-in-state f o row
+  unfolding row-on-bench
+  in-state f b o e = c ∙ ap (λ (p : Option File). row-on-bench p state row) b ∙ ap (λ (p : Option State). row-in-state f p row) e
+
+  shows-in : number-of (x .answer) ≡ 0 → (f : File) → bench-of bench ≡ some f → (o : Option State) → state-of f state ≡ o → Shows bench state (x .answer) (x .row)
+  unfolding row-in-state
+  shows-in z f b none e = absurd (not-zero 33 (ap (λ (y : After-row). y .answer) (in-state f b none e)) z (λ n. omega arith))
+  shows-in z f b (some s) e = record {
+    file = f;
+    shown = s;
+    is-bench = b;
+    is-state = e;
+    gives = ap (λ (y : After-row). given (y .answer) (y .row)) (in-state f b (some s) e) ∙ written-given (Rows.row f s) row;
+  }
+
+  shows-by : number-of (x .answer) ≡ 0 → (o : Option File) → bench-of bench ≡ o → Shows bench state (x .answer) (x .row)
+  unfolding row-on-bench
+  shows-by z none b =
+      let i : x ≡ row-on-bench none state row = c ∙ ap (λ (o : Option File). row-on-bench o state row) b in
+      absurd (not-zero 32 (ap (λ (y : After-row). y .answer) i) z (λ n. omega arith))
+  shows-by z (some f) b = shows-in z f b (state-of f state) refl
+
+  shown-answer : Shows bench state (x .answer) (x .row) → number-of (x .answer) ≡ 0
+  unfolding row-in-state row-written
+  shown-answer k =
+      ap (λ (y : After-row). number-of (y .answer)) (in-state (k .file) (k .is-bench) (some (k .shown)) (k .is-state))
+      ∙ row-zero (Rows.row (k .file) (k .shown))
+
+pub row-shows : (bench state row new-row : List ℕ) (r : ℕ) → Row-contract bench state row new-row r
+    → BENCH ≤ length bench → STATE ≤ length state → ROW ≤ length row
+    → (number-of r ≡ 0) ↔ Shows bench state r new-row
+row-shows bench state row new-row r c h g w =
+    let x : After-row = record { answer = r; row = new-row } in
+    let i : x ≡ row-on-bench (bench-of bench) state row = c ∙ row-is bench state row h g w in
+    (λ z. shows-by bench state row x i z (bench-of bench) refl, shown-answer bench state row x i)
+
+-- ---- a row
+
+pub row-reads-back : (text : List ℕ) (f : File) → verdict text ≡ Verdict.accepted f → (m : List ℕ) (s : State) → state-of f m ≡ some s
+    → Reads-back f s (Rows.row f s)
+row-reads-back text f v m s e =
+    let so = state-decoded-sound f (within-counts f (accepted-verdict text v)) m s e in
+    let below : s .last < 4294967296 = let h = so .last in omega arith in
+    record {
+      count = ap length (row-fields f s) ∙ ap suc (length-map (action-cells f) (fired-text s));
+      number = λ x h. ap magnitude (some-injective (sym h ∙ ap (λ (l : List (List ℕ)). getElem? l 0) (row-fields f s))) ∙ number-reads-back (s .last) below;
+      fired = λ i p x h g.
+          let t = some-injective (sym g ∙ row-field f s i p h) in
+          ap (event-field (p .what .kind)) t
+          ∙ printed-reads-back (p .what .kind) (s .now .cell (p .entity) (p .member)) (so .now .of-kind (p .entity) (p .member) (p .what) (action-stands f i p h));
+    }

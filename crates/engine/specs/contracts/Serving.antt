@@ -1,0 +1,78 @@
+-- The public calls by one function of what is lent to them, once the bench's text is known: this is what one piece of code with room for
+-- the text's columns serves.
+use Prim.Native.Nat.{ℕ, _≤_}
+use mathlib.Core.Path.{_≡_}
+use mathlib.Core.List.{List}
+use lib.ListN.{length}
+use Rattle.checking.specs.definitions.Verdict.{verdict, accepted-file}
+use Rattle.checking.specs.declared.check.Checked.the-variants.{Refused}
+use Rattle.checking.specs.contracts.CheckedBench.{checked-answer, Checked-bench}
+use Rattle.cycles.specs.definitions.StateImage.{STATE}
+use Rattle.engine.specs.declared.serve.Call.{Call}
+use Rattle.engine.specs.declared.serve.Call.the-variants.{Check, Fresh, Line, Header, Row}
+use Rattle.engine.specs.definitions.BenchImage.{BENCH}
+use Rattle.engine.specs.definitions.Calls.{
+  ROW,
+  After-check,
+  checked,
+  After-fresh,
+  freshened,
+  After-line,
+  line-on-bench,
+  After-row,
+  header-on-bench,
+  row-on-bench,
+}
+
+-- the answer, the state's memory, and the memory that is filled: a bench, or a row
+pub record Served : Type 0 where
+  pub answer : ℕ
+  pub state : List ℕ
+  pub out : List ℕ
+
+abbrev pub served-check : After-check → List ℕ → Served
+served-check r state = record { answer = r .answer; state = state; out = r .bench }
+
+abbrev pub served-fresh : After-fresh → List ℕ → Served
+served-fresh r out = record { answer = r .answer; state = r .state; out = out }
+
+abbrev pub served-line : After-line → Served
+served-line r = record { answer = r .answer; state = r .state; out = r .row }
+
+abbrev pub served-row : After-row → List ℕ → Served
+served-row r state = record { answer = r .answer; state = state; out = r .row }
+
+-- a text, a state that changes, one that is only shown, a header, a record, and memory to fill
+unfoldable pub served : Call → List ℕ → List ℕ → List ℕ → List ℕ → List ℕ → List ℕ → Served
+unfolding checked verdict freshened accepted-file line-on-bench header-on-bench row-on-bench
+served Check text state shown names values out = served-check (checked (verdict text) text out) state
+served Fresh text state shown names values out = served-fresh (freshened (accepted-file text) state) out
+served Line text state shown names values out = served-line (line-on-bench (accepted-file text) state names values out)
+served Header text state shown names values out = served-row (header-on-bench (accepted-file text) out) state
+served Row text state shown names values out = served-row (row-on-bench (accepted-file text) shown out) state
+
+-- the most bytes of a text that is served with less memory to clear
+abbrev pub SHORT-TEXT : ℕ
+SHORT-TEXT = 4096
+
+-- what a call needs of the memory lent to it
+abbrev pub Room : Call → List ℕ → List ℕ → List ℕ → Type 0
+Room Check state shown out = BENCH ≤ length out
+Room Fresh state shown out = STATE ≤ length state
+Room Line state shown out = (STATE ≤ length state) × (ROW ≤ length out)
+Room Header state shown out = ROW ≤ length out
+Room Row state shown out = (STATE ≤ length shown) × (ROW ≤ length out)
+
+-- the answer of a call whose text is refused: 32: "memory is no checked bench", but the check says why
+unfoldable pub refusal : Call → ℕ → ℕ → ℕ
+unfolding checked-answer
+refusal Check code at = checked-answer (Refused code at)
+refusal Fresh code at = 32
+refusal Line code at = 32
+refusal Header code at = 32
+refusal Row code at = 32
+
+-- a call on an accepted text, for which the columns and the directory stand
+pub record On-bench (call : Call) (text classes offsets lengths literals d state shown names values out new-state new-out : List ℕ) (r : ℕ) : Type 0 where
+  pub is : Checked-bench text classes offsets lengths literals d
+      → record { answer = r; state = new-state; out = new-out } ≡ served call text state shown names values out

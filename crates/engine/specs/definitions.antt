@@ -1,0 +1,7 @@
+-- What document 01 speaks of: the definitions that a reader has to believe.
+pub mod BenchImage
+pub mod Calls
+pub mod Runs
+pub mod DemandOne
+pub mod DemandTwo
+pub mod DemandThree

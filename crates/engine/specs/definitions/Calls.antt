@@ -1,0 +1,158 @@
+-- The public calls as functions of the lent bytes: the answer, and every lent byte after the call. An answer has document 01's number in its
+-- low 8 bits, 0 for acceptance, and above them the offset of a refusal of a text or the length of a written row.
+use Prim.Native.Nat.{ℕ, _+_, _*_}
+use mathlib.Core.Path.{_≡_}
+use mathlib.Core.List.{List, _++_}
+use mathlib.Core.Bool.{true, false, _||_}
+use mathlib.Core.Option.{Option, none, some}
+use lib.Dec.{ltb, eqb}
+use lib.ListN.{length, drop}
+use Rattle.text.specs.definitions.Syntax.{File}
+use Rattle.checking.specs.definitions.Verdict.{Verdict, verdict, verdict-answer}
+use Rattle.cycles.specs.definitions.Store.{State, Line}
+use Rattle.cycles.specs.definitions.Cycle.{fresh, follow, cycle}
+use Rattle.cycles.specs.definitions.Line.{Answer, refused, accepted, line}
+use Rattle.cycles.specs.definitions.Row.{row-header, row}
+use Rattle.cycles.specs.definitions.StateImage.{STATE, state-of, with-state}
+use Rattle.cycles.specs.contracts.RowMemory.{MOST-ROW-BYTES}
+use Rattle.engine.specs.definitions.BenchImage.{BENCH, with-bench, bench-of}
+
+-- the stated size of memory for a row
+abbrev pub ROW : ℕ
+ROW = MOST-ROW-BYTES
+
+-- memory with a row written to it: "Bytes past a written row .. stay"
+unfoldable pub with-row : List ℕ → List ℕ → List ℕ
+with-row r m = r ++ drop (length r) m
+
+abbrev pub row-answer : List ℕ → ℕ
+row-answer r = 256 * length r
+
+-- check: the text lent, and memory for a bench
+pub record After-check : Type 0 where
+  pub answer : ℕ
+  pub bench : List ℕ
+
+unfoldable pub checked : Verdict → List ℕ → List ℕ → After-check
+unfolding verdict-answer with-bench
+checked (Verdict.refused-at code at) text bench = record { answer = verdict-answer (Verdict.refused-at code at); bench = bench }
+checked (Verdict.accepted f) text bench = record { answer = verdict-answer (Verdict.accepted f); bench = with-bench text bench }
+
+unfoldable pub check-call : List ℕ → List ℕ → After-check
+unfolding checked verdict
+check-call text bench = elim (ltb (length bench) BENCH) [
+  | true ↦ record { answer = 31; bench = bench }
+  | false ↦ checked (verdict text) text bench
+]
+
+-- fresh: a bench, and memory for a state
+pub record After-fresh : Type 0 where
+  pub answer : ℕ
+  pub state : List ℕ
+
+unfoldable pub freshened : Option File → List ℕ → After-fresh
+unfolding with-state fresh
+freshened none state = record { answer = 32; state = state }
+freshened (some f) state = record { answer = 0; state = with-state f (fresh f) state }
+
+unfoldable pub fresh-call : List ℕ → List ℕ → After-fresh
+unfolding freshened bench-of
+fresh-call bench state = elim (ltb (length bench) BENCH || ltb (length state) STATE) [
+  | true ↦ record { answer = 31; state = state }
+  | false ↦ freshened (bench-of bench) state
+]
+
+-- line: a bench, a state, a header, a record, and memory for a row
+pub record After-line : Type 0 where
+  pub answer : ℕ
+  pub state : List ℕ
+  pub row : List ℕ
+
+unfoldable pub line-refused : ℕ → List ℕ → List ℕ → After-line
+line-refused code state r = record { answer = code; state = state; row = r }
+
+-- "then it is resent, the state stays, the fired actions are given again"
+unfoldable pub line-accepted : File → State → Line → List ℕ → List ℕ → After-line
+unfolding with-state with-row cycle row
+line-accepted f s l state r = elim (eqb (l .number) (s .last)) [
+  | true ↦ record { answer = row-answer (row f s); state = state; row = with-row (row f s) r }
+  | false ↦ record { answer = row-answer (row f (cycle f s l)); state = with-state f (cycle f s l) state; row = with-row (row f (cycle f s l)) r }
+]
+
+unfoldable pub line-answered : File → State → Answer Line → List ℕ → List ℕ → After-line
+unfolding line-refused line-accepted
+line-answered f s (refused code) state r = line-refused code state r
+line-answered f s (accepted l) state r = line-accepted f s l state r
+
+unfoldable pub line-in-state : File → Option State → List ℕ → List ℕ → List ℕ → List ℕ → After-line
+unfolding line-refused line-answered line
+line-in-state f none state names values r = line-refused 33 state r
+line-in-state f (some s) state names values r = line-answered f s (line f s names values) state r
+
+unfoldable pub line-on-bench : Option File → List ℕ → List ℕ → List ℕ → List ℕ → After-line
+unfolding line-refused line-in-state state-of
+line-on-bench none state names values r = line-refused 32 state r
+line-on-bench (some f) state names values r = line-in-state f (state-of f state) state names values r
+
+unfoldable pub line-call : List ℕ → List ℕ → List ℕ → List ℕ → List ℕ → After-line
+unfolding line-refused line-on-bench bench-of
+line-call bench state names values r = elim (ltb (length bench) BENCH || ltb (length state) STATE || ltb (length r) ROW) [
+  | true ↦ line-refused 31 state r
+  | false ↦ line-on-bench (bench-of bench) state names values r
+]
+
+-- header and row: a bench, for a row a state too, and memory for a row
+pub record After-row : Type 0 where
+  pub answer : ℕ
+  pub row : List ℕ
+
+unfoldable pub row-written : List ℕ → List ℕ → After-row
+unfolding with-row
+row-written written r = record { answer = row-answer written; row = with-row written r }
+
+unfoldable pub header-on-bench : Option File → List ℕ → After-row
+unfolding row-written row-header
+header-on-bench none r = record { answer = 32; row = r }
+header-on-bench (some f) r = row-written (row-header f) r
+
+unfoldable pub header-call : List ℕ → List ℕ → After-row
+unfolding header-on-bench bench-of
+header-call bench r = elim (ltb (length bench) BENCH || ltb (length r) ROW) [
+  | true ↦ record { answer = 31; row = r }
+  | false ↦ header-on-bench (bench-of bench) r
+]
+
+unfoldable pub row-in-state : File → Option State → List ℕ → After-row
+unfolding row-written row
+row-in-state f none r = record { answer = 33; row = r }
+row-in-state f (some s) r = row-written (row f s) r
+
+unfoldable pub row-on-bench : Option File → List ℕ → List ℕ → After-row
+unfolding row-in-state state-of
+row-on-bench none state r = record { answer = 32; row = r }
+row-on-bench (some f) state r = row-in-state f (state-of f state) r
+
+unfoldable pub row-call : List ℕ → List ℕ → List ℕ → After-row
+unfolding row-on-bench bench-of
+row-call bench state r = elim (ltb (length bench) BENCH || ltb (length state) STATE || ltb (length r) ROW) [
+  | true ↦ record { answer = 31; row = r }
+  | false ↦ row-on-bench (bench-of bench) state r
+]
+
+-- ---- the contracts: what a call answers, and the memory that it leaves, on all input
+
+abbrev pub Check-contract : (text bench new-bench : List ℕ) → ℕ → Type 0
+Check-contract text bench new-bench r = record { answer = r; bench = new-bench } ≡ check-call text bench
+
+abbrev pub Fresh-contract : (bench state new-state : List ℕ) → ℕ → Type 0
+Fresh-contract bench state new-state r = record { answer = r; state = new-state } ≡ fresh-call bench state
+
+abbrev pub Line-contract : (bench state names values row new-state new-row : List ℕ) → ℕ → Type 0
+Line-contract bench state names values row new-state new-row r =
+    record { answer = r; state = new-state; row = new-row } ≡ line-call bench state names values row
+
+abbrev pub Header-contract : (bench row new-row : List ℕ) → ℕ → Type 0
+Header-contract bench row new-row r = record { answer = r; row = new-row } ≡ header-call bench row
+
+abbrev pub Row-contract : (bench state row new-row : List ℕ) → ℕ → Type 0
+Row-contract bench state row new-row r = record { answer = r; row = new-row } ≡ row-call bench state row

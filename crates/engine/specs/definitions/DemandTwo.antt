@@ -1,0 +1,73 @@
+-- Demand 2: what accepted calls leave and give, what a line sent again gives, and how a row reads back.
+use Prim.Native.Nat.{ℕ, suc}
+use mathlib.Core.Path.{_≡_}
+use mathlib.Core.List.{List, [], _∷_}
+use mathlib.Core.Option.{some}
+use lib.ListN.{length, getElem?}
+use Rattle.values.specs.declared.Number.the-variants.{Is}
+use Rattle.values.specs.definitions.Forms.{magnitude, event-field, read-back}
+use Rattle.text.specs.definitions.Syntax.{File}
+use Rattle.cycles.specs.definitions.Outcome.{running}
+use Rattle.cycles.specs.definitions.Store.{State, Line}
+use Rattle.cycles.specs.definitions.Spots.{Spot}
+use Rattle.cycles.specs.definitions.Cycle.{fresh, ref-follow}
+use Rattle.cycles.specs.definitions.Fields.{fields}
+use Rattle.cycles.specs.definitions.Line.{accepted, line}
+use Rattle.cycles.specs.definitions.Row.{action-cells, row-header, row}
+use Rattle.cycles.specs.definitions.StateImage.{state-of}
+use Rattle.cycles.specs.definitions.ClosedSet.{Among}
+use Rattle.engine.specs.definitions.BenchImage.{bench-of}
+use Rattle.engine.specs.definitions.Calls.{After-line}
+use Rattle.engine.specs.definitions.Runs.{given, given-by, Taken}
+
+-- what is lent as a bench stands for a file, and what is left as a state for its fresh state
+pub record Freshens (bench new-state : List ℕ) : Type 0 where
+  pub file : File
+  pub is-bench : bench-of bench ≡ some file
+  pub leaves : state-of file new-state ≡ some (fresh file)
+
+-- "each accepted line leaves the state and fires the actions that they define": the memory lent stands for a bench file and a state of it, in
+-- which document 01 accepts the line; the machine goes on from there, the memory left stands for its state, and the call gave its row
+pub record Follows (bench state names values : List ℕ) (r : After-line) : Type 0 where
+  pub file : File
+  pub before : State
+  pub taken : Line
+  pub after : State
+  pub is-bench : bench-of bench ≡ some file
+  pub is-state : state-of file state ≡ some before
+  pub is-taken : line file before names values ≡ accepted taken
+  pub runs : ref-follow file before taken ≡ running after
+  pub leaves : state-of file (r .state) ≡ some after
+  pub fires : given-by r ≡ row file after
+
+-- the row of names that a call gave
+pub record Names (bench : List ℕ) (answer : ℕ) (new-row : List ℕ) : Type 0 where
+  pub file : File
+  pub is-bench : bench-of bench ≡ some file
+  pub gives : given answer new-row ≡ row-header file
+
+-- the row of a state that a call gave
+pub record Shows (bench state : List ℕ) (answer : ℕ) (new-row : List ℕ) : Type 0 where
+  pub file : File
+  pub shown : State
+  pub is-bench : bench-of bench ≡ some file
+  pub is-state : state-of file state ≡ some shown
+  pub gives : given answer new-row ≡ row file shown
+
+-- of two accepted lines of a run with one number: the later one leaves the state's bytes, and gives the row that the earlier one gave
+pub record Given-again (x y : Taken) : Type 0 where
+  pub stays : y .reply .state ≡ y .before
+  pub again : given-by (y .reply) ≡ given-by (x .reply)
+
+-- "then it is resent, the state stays, the fired actions are given again", at any later point of a run
+abbrev pub Resent : List Taken → Type 0
+Resent [] = Unit {0}
+Resent (x ∷ xs) = ((y : Taken) → Among y xs → x .line .number ≡ y .line .number → Given-again x y) × Resent xs
+
+-- "every printed value reads back as itself": a row has a field for the number and one for each action cell, and reading them as fields of a
+-- record gives the state's number and values, and no reading where a cell is unset
+pub record Reads-back (f : File) (s : State) (r : List ℕ) : Type 0 where
+  pub count : length (fields r) ≡ suc (length (action-cells f))
+  pub number : (x : List ℕ) → getElem? (fields r) 0 ≡ some x → magnitude x ≡ Is (s .last)
+  pub fired : (i : ℕ) (p : Spot) (x : List ℕ) → getElem? (action-cells f) i ≡ some p → getElem? (fields r) (suc i) ≡ some x
+      → event-field (p .what .kind) x ≡ read-back (s .now .cell (p .entity) (p .member))

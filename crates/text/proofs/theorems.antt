@@ -1,0 +1,3 @@
+-- What is promised, proved.
+pub mod SkipLaws
+pub mod ParserViable

@@ -1,0 +1,10 @@
+-- What document 01 speaks of: the definitions that a reader has to believe.
+pub mod Bytes
+pub mod Tokens
+pub mod Syntax
+pub mod Readers
+pub mod Grammar
+pub mod Parse
+pub mod Answers
+pub mod Language
+pub mod Viable

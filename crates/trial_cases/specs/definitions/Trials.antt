@@ -1,0 +1,87 @@
+-- Document 01's trial benches as texts, and runs of them over zeroed memory of the stated sizes.
+use Prim.Native.Nat.{ℕ, _/_, _%_}
+use Prim.Native.String.{String}
+use mathlib.Core.List.{List, [], _∷_, _++_, map}
+use lib.ListN.{take, replicate}
+use Rattle.text.specs.definitions.Bytes.{ascii}
+use Rattle.cycles.specs.definitions.StateImage.{STATE}
+use Rattle.engine.specs.definitions.BenchImage.{BENCH}
+use Rattle.engine.specs.definitions.Calls.{ROW, check-call, fresh-call, header-call, row-call, After-check, After-fresh, After-line, After-row}
+use Rattle.engine.specs.definitions.Runs.{Request, replies}
+
+-- "Pedal bench (P)"
+unfoldable pub pedal : List ℕ
+unfolding ascii
+pedal = ascii "interface P { event down : bool } interface S { event pos : whole } interface L { action keep ( whole ) } entity p : P { } entity s : S { } entity k : L { } rules when event down from p value = true trigger action keep ( s.pos ) on k end end"
+
+-- the smallest bench: no entity, no action
+unfoldable pub smallest : List ℕ
+unfolding ascii
+smallest = ascii "rules end"
+
+-- a bench whose calls fire in cycle 1, with actions of this kind
+unfoldable pub calling : String → String → List ℕ
+unfolding ascii
+calling kind calls = ascii "interface P { event down : bool } interface L { action keep ( " ++ ascii kind
+    ++ ascii " ) } entity p : P { } entity k : L { } rules when event down from p value = true trigger " ++ ascii calls ++ ascii " end end"
+
+-- a bench whose one clause has a `with` that is true of the entity
+unfoldable pub filtered : List ℕ
+unfolding ascii
+filtered = ascii "interface P { attribute bay : whole event down : bool } interface L { action keep ( whole ) } entity p : P { bay = 2 } entity k : L { } rules when event down from p with bay = 2 value = true trigger action keep ( 1 ) on k end end"
+
+unfoldable pub bench-memory : List ℕ → List ℕ
+unfolding check-call
+bench-memory text = check-call text (replicate BENCH 0) .bench
+
+unfoldable pub state-memory : List ℕ → List ℕ
+unfolding fresh-call bench-memory
+state-memory text = fresh-call (bench-memory text) (replicate STATE 0) .state
+
+-- a call's number and the row that it wrote
+pub record Printed : Type 0 where
+  pub number : ℕ
+  pub row : List ℕ
+
+unfoldable pub printed-by : ℕ → List ℕ → Printed
+printed-by answer m = record { number = answer % 256; row = take (answer / 256) m }
+
+unfoldable pub line-printed : After-line → Printed
+unfolding printed-by
+line-printed r = printed-by (r .answer) (r .row)
+
+unfoldable pub asked : List ℕ → String → Request
+unfolding ascii
+asked names values = record { names = names; values = ascii values; row = replicate ROW 0 }
+
+-- what each line prints in a run from a fresh state
+unfoldable pub lines-printed : List ℕ → String → List String → List Printed
+unfolding line-printed replies bench-memory state-memory asked ascii
+lines-printed text names values = map line-printed (replies (bench-memory text) (state-memory text) (map (asked (ascii names)) values))
+
+unfoldable pub header-printed : List ℕ → Printed
+unfolding printed-by header-call bench-memory
+header-printed text = let r = header-call (bench-memory text) (replicate ROW 0) in printed-by (r .answer) (r .row)
+
+unfoldable pub memory-after : List ℕ → List After-line → List ℕ
+memory-after m [] = m
+memory-after m (r ∷ rs) = memory-after (r .state) rs
+
+-- the row call after these lines
+unfoldable pub row-call-printed : List ℕ → String → List String → Printed
+unfolding printed-by row-call replies bench-memory state-memory memory-after asked ascii
+row-call-printed text names values =
+    let rs = replies (bench-memory text) (state-memory text) (map (asked (ascii names)) values) in
+    let r = row-call (bench-memory text) (memory-after (state-memory text) rs) (replicate ROW 0) in
+    printed-by (r .answer) (r .row)
+
+unfoldable pub row-printed : String → Printed
+unfolding ascii
+row-printed s = record { number = 0; row = ascii s }
+
+unfoldable pub refused-with : ℕ → Printed
+refused-with code = record { number = code; row = [] }
+
+unfoldable pub checked-as : List ℕ → ℕ
+unfolding check-call
+checked-as text = check-call text (replicate BENCH 0) .answer

@@ -1,0 +1,7 @@
+-- What document 01 speaks of: the definitions that a reader has to believe.
+pub mod Bytes
+pub mod Value
+pub mod Fitting
+pub mod Storable
+pub mod Cells
+pub mod Forms
