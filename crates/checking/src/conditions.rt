@@ -6,7 +6,6 @@ ghost use Rattle.text.specs.definitions.Grammar.{call-reader, call-after};
 ghost use Rattle.checking.specs.contracts.RuleParts.{Nothing-found, Matched, After, Joined, Place-walk, Filter-walk, Test-walk, Condition-walk};
 ghost use Rattle.checking.specs.contracts.RuleParts.{Call-walk, Calls-walk};
 use crate::expressions::Kinded;
-use crate::expressions::OPENERS;
 use crate::expressions::expression;
 use crate::expressions::kinds_fit;
 use crate::faults::Found;
@@ -26,6 +25,7 @@ use text::classes::EVENT;
 use text::classes::OR;
 use text::classes::ROUND_OPEN;
 use text::classes::WITH;
+use text::grammar::OPENERS;
 use text::walks::class_at;
 use text::walks::skip;
 

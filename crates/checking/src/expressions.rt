@@ -26,9 +26,6 @@ use text::classes::WHOLE_NUMBER;
 use text::walks::class_at;
 use text::walks::skip;
 
-// Openers that may enclose one another.
-pub const OPENERS: u32 = 16;
-
 // An expression up to token number `next`: the class of its kind's word, 0 if it has none, and its earliest faults.
 pub struct Kinded {
     pub next: usize,

@@ -73,6 +73,8 @@ pub const MOST_INTERFACES_8: u8 = MOST_INTERFACES as u8;
 
 pub const MOST_MEMBERS_8: u8 = MOST_MEMBERS as u8;
 
+pub const NO_MEMBER_8: u8 = NO_MEMBER as u8;
+
 pub const MOST_ENTITIES_8: u8 = MOST_ENTITIES as u8;
 
 pub const MOST_RULES_8: u8 = MOST_RULES as u8;

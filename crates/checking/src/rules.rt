@@ -4,11 +4,11 @@ use crate::conditions::call;
 use crate::conditions::condition;
 use crate::conditions::further_calls;
 use crate::conditions::joined;
-use crate::expressions::OPENERS;
 use crate::faults::Faulted;
 use crate::faults::Found;
 use crate::faults::earlier;
 use crate::meanings::repeated;
+use text::grammar::OPENERS;
 use text::walks::skip;
 
 // The faults of the rule whose `when` is token number `at`.

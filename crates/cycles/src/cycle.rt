@@ -104,7 +104,9 @@ fn see_cells(
     out: &mut [u8],
 )
     requires { ⌜ (n ≤ length (now present)) × (n ≤ length (now seen)) ⌝ }
-    requires { ⌜ (ENTITY-CELL-BYTES * n ≤ length (now cells)) × (ENTITY-CELL-BYTES * n ≤ length (now inputs)) × (ENTITY-CELL-BYTES * n ≤ length (now out)) ⌝ }
+    requires { ⌜
+        (ENTITY-CELL-BYTES * n ≤ length (now cells)) × (ENTITY-CELL-BYTES * n ≤ length (now inputs))
+        × (ENTITY-CELL-BYTES * n ≤ length (now out)) ⌝ }
     ensures { λ _. ⌜
         Values-put (now (classes .entry)) (now (d .entry))
         (seen-value (now (present .entry)) (now (seen .entry)) (now (cells .entry)) (now (inputs .entry))) (ENTITY-CELLS * n) (now (out .entry)) (now (out .exit)) ⌝ }

@@ -12,15 +12,13 @@ use crate::layout::CELL_BYTES;
 use crate::layout::ENTITY_CELLS;
 use crate::layout::MOST_CELLS;
 use checking::layout::FIRST_VARIABLE_8;
-use checking::layout::MOST_MEMBERS_8;
+use checking::layout::NO_MEMBER_8;
 use checking::row;
 use text::walks::class_at;
 use values::Value;
 
-// A rule's second variable, as a reference, and no member, in 8 bits.
+// A rule's second variable, as a reference.
 const SECOND_VARIABLE: u8 = FIRST_VARIABLE_8 + 1;
-
-const NO_MEMBER_8: u8 = MOST_MEMBERS_8;
 
 // The entities of a rule's variables, at most three: a byte for each, the first variable's the lowest. One number goes in a register.
 pub struct Binding {

@@ -67,7 +67,8 @@ pub data Owned (classes : List ℕ) (start used : ℕ) : ℕ → ℕ → Type 0 
 
 -- the column of references; of a rule with no more variables than a file may have, so that 8 bits hold a reference
 pub record References (text classes offsets lengths d refs : List ℕ) : Type 0 where
-  pub owner : (start : ℕ) (c : Rule-world text classes offsets lengths d start) → length (variables (c .rule)) ≤ MOST-VARIABLES → (i : ℕ) → Within classes start (c .begins .used) i NAME
+  pub owner : (start : ℕ) (c : Rule-world text classes offsets lengths d start) → length (variables (c .rule)) ≤ MOST-VARIABLES
+      → (i : ℕ) → Within classes start (c .begins .used) i NAME
       → getD refs i 0 % 256 ≡ reference (world-scope c) (name-in text offsets lengths i)
   pub member : (start : ℕ) (c : Rule-world text classes offsets lengths d start) (n m : ℕ) → Owned classes start (c .begins .used) n m
       → getD refs m 0 / 256 ≡ member-meant (world-scope c) (name-in text offsets lengths n) (name-in text offsets lengths m)
@@ -84,9 +85,11 @@ abbrev pub ALL-SCOPE-ROWS : ℕ
 ALL-SCOPE-ROWS = SCOPE-ROWS * MOST-RULES
 
 pub record Scopes (text classes offsets lengths d scopes : List ℕ) : Type 0 where
-  pub count : (k : ℕ) → k < getD d RULE-COUNT-ROW 0 → k < MOST-RULES → (c : Rule-world text classes offsets lengths d (getD d (rule-row k) 0)) → length (variables (c .rule)) ≤ MOST-VARIABLES
+  pub count : (k : ℕ) → k < getD d RULE-COUNT-ROW 0 → k < MOST-RULES → (c : Rule-world text classes offsets lengths d (getD d (rule-row k) 0))
+      → length (variables (c .rule)) ≤ MOST-VARIABLES
       → getD scopes (scope-row k) 0 ≡ length (variables (c .rule))
-  pub interface : (k : ℕ) → k < getD d RULE-COUNT-ROW 0 → k < MOST-RULES → (c : Rule-world text classes offsets lengths d (getD d (rule-row k) 0)) → length (variables (c .rule)) ≤ MOST-VARIABLES
+  pub interface : (k : ℕ) → k < getD d RULE-COUNT-ROW 0 → k < MOST-RULES → (c : Rule-world text classes offsets lengths d (getD d (rule-row k) 0))
+      → length (variables (c .rule)) ≤ MOST-VARIABLES
       → (v : ℕ) (x : Variable) → getElem? (variables (c .rule)) v ≡ some x
       → getD scopes (scope-row k + 1 + v) 0 ≡ interface-number (c .bench .file) (x .interface .bytes)
 

@@ -35,7 +35,8 @@ pub record Value-fails (classes values refs : List ℕ) (b : Binding) (level : �
   pub cell : Cell-fails b level flags cells r m value outcome e
   pub with-binding : Binding
   pub walk : Expression-walk classes values refs with-binding flags cells (expression-reader OPENERS) at value next
-  pub agrees : level < MOST-VARIABLES → (v : ℕ) → v < inner → v ≤ level → bound (cell .binding) (FIRST-VARIABLE + v) ≡ bound with-binding (FIRST-VARIABLE + v)
+  pub agrees : level < MOST-VARIABLES → (v : ℕ) → v < inner → v ≤ level
+      → bound (cell .binding) (FIRST-VARIABLE + v) ≡ bound with-binding (FIRST-VARIABLE + v)
 
 -- member m of what r refers to is now as it was before
 pub record Unchanged (b : Binding) (level : ℕ) (flags cells previous-flags previous-cells : List ℕ) (r m e : ℕ) : Type 0 where
