@@ -3,7 +3,6 @@ pub mod Outcome
 pub mod Store
 pub mod Spots
 pub mod Reference
-pub mod Evaluate
 pub mod Bindings
 pub mod Cycle
 pub mod Fields

@@ -1,7 +1,8 @@
 // Rows of fired actions, and their header.
 ghost use Prim.Native.Nat.{_+_, _*_, _≤_};
 ghost use lib.ListN.{length};
-ghost use Rattle.cycles.specs.contracts.RowMemory.{MOST-ROW-BYTES, Fired-put, Name-put, Row-put, Header-put};
+ghost use Rattle.cycles.specs.definitions.Row.{MOST-ROW-BYTES};
+ghost use Rattle.cycles.specs.contracts.RowMemory.{Fired-put, Name-put, Row-put, Header-put};
 ghost use Rattle.cycles.specs.definitions.StateImage.{CELL-BYTES, MOST-CELL-BYTES};
 use crate::image::cell_token;
 use crate::image::is_sort;

@@ -29,7 +29,7 @@ use Rattle.text.specs.definitions.Syntax.{
 use Rattle.checking.specs.definitions.Scope.{clauses}
 use Rattle.cycles.specs.definitions.Store.{Store, State, Line}
 use Rattle.cycles.specs.definitions.Spots.{Spot, Spots}
-use Rattle.cycles.specs.definitions.Evaluate.{
+use Rattle.cycles.specs.contracts.TotalMachine.{
   value-at,
   is-present-at,
   value,

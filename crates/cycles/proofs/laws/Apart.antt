@@ -15,7 +15,7 @@ use Rattle.text.specs.definitions.Syntax.{Call, Rule, File}
 use Rattle.checking.specs.definitions.Scope.{Variable, variables}
 use Rattle.cycles.specs.definitions.Store.{Store, State, Line}
 use Rattle.cycles.specs.definitions.Spots.{Spot, spots, numbered}
-use Rattle.cycles.specs.definitions.Evaluate.{
+use Rattle.cycles.specs.contracts.TotalMachine.{
   is-present-at,
   value,
   filter-holds,
@@ -25,8 +25,10 @@ use Rattle.cycles.specs.definitions.Evaluate.{
   binding-writes,
 }
 use Rattle.cycles.specs.definitions.Reference.{Write, written-if}
-use Rattle.cycles.specs.definitions.Bindings.{number-if, candidates, bindings, rule-writes, all-writes}
-use Rattle.cycles.specs.definitions.Cycle.{seen, after-writes, cycle, follow}
+use Rattle.cycles.specs.definitions.Bindings.{number-if, candidates, bindings}
+use Rattle.cycles.specs.contracts.TotalMachine.{rule-writes, all-writes}
+use Rattle.cycles.specs.definitions.Cycle.{seen, after-writes}
+use Rattle.cycles.specs.contracts.TotalMachine.{cycle, follow}
 use Rattle.cycles.specs.definitions.ClosedSet.{Among, here, there, is-of, can-be, Reads-inside, Closed}
 use Rattle.cycles.proofs.laws.AmongLaws.{All-in, all-in-cons, one-passes-or-none, numbered-at, all-in-flatMap, flatMap-same}
 use Rattle.cycles.specs.contracts.AllRules.{Binds}

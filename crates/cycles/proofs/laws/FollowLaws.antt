@@ -6,7 +6,8 @@ use lib.Dec.{eqb}
 use borrow.Author.Tests.{eqb-true}
 use Rattle.text.specs.definitions.Syntax.{File}
 use Rattle.cycles.specs.definitions.Store.{State, Line}
-use Rattle.cycles.specs.definitions.Cycle.{next-state, cycle, follow}
+use Rattle.cycles.specs.definitions.Cycle.{next-state}
+use Rattle.cycles.specs.contracts.TotalMachine.{cycle, follow}
 
 pub follow-resent : (f : File) (s : State) (l : Line) → eqb (l .number) (s .last) ≡ true → follow f s l ≡ s
 unfolding follow

@@ -30,9 +30,10 @@ use Rattle.checking.proofs.laws.CheckedFile.{Known-rule, Known-file}
 use Rattle.cycles.specs.definitions.Outcome.{running}
 use Rattle.cycles.specs.definitions.Store.{Store}
 use Rattle.cycles.specs.definitions.Spots.{meant-by, spot-if-meant, spots, numbered}
-use Rattle.cycles.specs.definitions.Evaluate.{binding-writes}
+use Rattle.cycles.specs.contracts.TotalMachine.{binding-writes}
 use Rattle.cycles.specs.definitions.Reference.{ref-binding-writes}
-use Rattle.cycles.specs.definitions.Bindings.{number-if, candidates, bindings, rule-writes, all-writes, are-known, ref-rule-writes, ref-all-writes}
+use Rattle.cycles.specs.definitions.Bindings.{number-if, candidates, bindings, are-known, ref-rule-writes, ref-all-writes}
+use Rattle.cycles.specs.contracts.TotalMachine.{rule-writes, all-writes}
 use Rattle.cycles.specs.definitions.SoundState.{Sound-store}
 use Rattle.cycles.proofs.laws.AmongLaws.{numbered-at}
 use Rattle.cycles.proofs.laws.WalkLaws.{collected-runs, every-passes, member-among}

@@ -24,8 +24,9 @@ use Rattle.checking.proofs.laws.CheckedFile.{Known-file, accepted-known}
 use Rattle.cycles.specs.definitions.Outcome.{Outcome, running}
 use Rattle.cycles.specs.definitions.Store.{Inputs, State, Line}
 use Rattle.cycles.specs.definitions.Spots.{Spot, every, cells}
-use Rattle.cycles.specs.definitions.Bindings.{all-writes}
-use Rattle.cycles.specs.definitions.Cycle.{seen, cycle, input-fits, inputs-fit, ref-cycle, follow, ref-follow, fresh}
+use Rattle.cycles.specs.contracts.TotalMachine.{all-writes}
+use Rattle.cycles.specs.definitions.Cycle.{seen, input-fits, inputs-fit, ref-cycle, ref-follow, fresh}
+use Rattle.cycles.specs.contracts.TotalMachine.{cycle, follow}
 use Rattle.cycles.specs.definitions.Line.{accepted, MOST-LINES, line}
 use Rattle.cycles.specs.definitions.SoundState.{Sound-inputs, Sound-state}
 use Rattle.cycles.proofs.laws.WalkLaws.{every-passes}

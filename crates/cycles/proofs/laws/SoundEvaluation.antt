@@ -47,7 +47,7 @@ use Rattle.cycles.specs.definitions.Outcome.{Outcome, running, proceed}
 use Rattle.cycles.specs.definitions.Store.{Store}
 use Rattle.cycles.specs.definitions.Spots.{Spot, Spots}
 use Rattle.cycles.specs.definitions.Reference.{read-spot, Write, written-if}
-use Rattle.cycles.specs.definitions.Evaluate.{
+use Rattle.cycles.specs.contracts.TotalMachine.{
   value-at,
   value,
   filter-holds,

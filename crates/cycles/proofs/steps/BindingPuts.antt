@@ -20,7 +20,8 @@ use Rattle.checking.specs.contracts.Directory.{rule-row, entity-interface-row}
 use Rattle.checking.specs.contracts.Resolution.{scope-row}
 use Rattle.checking.proofs.laws.DirectoryLaws.{number-inside}
 use Rattle.cycles.specs.declared.evaluate.Binding.{Binding}
-use Rattle.cycles.specs.definitions.Bindings.{bindings, rule-writes, all-writes}
+use Rattle.cycles.specs.definitions.Bindings.{bindings}
+use Rattle.cycles.specs.contracts.TotalMachine.{rule-writes, all-writes}
 use Rattle.cycles.specs.contracts.Evaluation.{bound, puts, Rule-puts}
 use Rattle.cycles.specs.contracts.AllRules.{Rules-given, Gives, complete, candidate, Ranged, Ranges, Entity-added, Bindings-put, Rules-put}
 use Rattle.cycles.specs.contracts.Guards.{Guards-found, Needless, no-candidate, silent, Marked, Marks-set}

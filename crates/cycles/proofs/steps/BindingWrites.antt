@@ -21,7 +21,7 @@ use Rattle.cycles.specs.declared.evaluate.Binding.{Binding}
 use Rattle.cycles.specs.definitions.Store.{Store}
 use Rattle.cycles.specs.definitions.Spots.{spots, numbered}
 use Rattle.cycles.specs.definitions.Reference.{Write}
-use Rattle.cycles.specs.definitions.Evaluate.{writes-if, binding-writes}
+use Rattle.cycles.specs.contracts.TotalMachine.{writes-if, binding-writes}
 use Rattle.cycles.specs.definitions.Bindings.{number-if, candidates, bindings}
 use Rattle.cycles.specs.definitions.ClosedSet.{is-of}
 use Rattle.cycles.specs.contracts.AllRules.{Rules-given, Binds, Gives, candidate, Entity-added}

@@ -31,7 +31,7 @@ use Rattle.text.proofs.laws.TreeLaws.{Makes, give-makes, expect-makes, any-make
 use Rattle.text.proofs.laws.WalkLaws.{stands, next-steps, give-means, expect-means, then-means, walk-in, walk-yields, many-begins, many-turns, many-stops}
 use Rattle.text.proofs.laws.ConditionWalks.{rule-walk}
 use Rattle.cycles.specs.declared.evaluate.Binding.{Binding}
-use Rattle.cycles.specs.definitions.Evaluate.{value, filter-holds, call-writes, binding-writes}
+use Rattle.cycles.specs.contracts.TotalMachine.{value, filter-holds, call-writes, binding-writes}
 use Rattle.cycles.specs.definitions.Reference.{written-if}
 use Rattle.cycles.specs.contracts.Evaluation.{
   bound,

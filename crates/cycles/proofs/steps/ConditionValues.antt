@@ -42,7 +42,7 @@ use Rattle.text.proofs.laws.ConditionWalks.{
 use Rattle.cycles.specs.declared.evaluate.Binding.{Binding}
 use Rattle.cycles.specs.definitions.Store.{Store}
 use Rattle.cycles.specs.definitions.Spots.{Spots}
-use Rattle.cycles.specs.definitions.Evaluate.{filter-holds, test-holds, holds}
+use Rattle.cycles.specs.contracts.TotalMachine.{filter-holds, test-holds, holds}
 use Rattle.cycles.specs.contracts.Evaluation.{
   bound,
   Locates,

@@ -19,8 +19,9 @@ use Rattle.checking.proofs.laws.CheckedFile.{accepted-known}
 use Rattle.checking.proofs.laws.WithinCounts.{Within-counts}
 use Rattle.cycles.specs.definitions.Store.{Store, Inputs, State, Line}
 use Rattle.cycles.specs.definitions.Reference.{Write}
-use Rattle.cycles.specs.definitions.Bindings.{all-writes}
-use Rattle.cycles.specs.definitions.Cycle.{is-sort, seen, after-writes, stored, next-state, cycle}
+use Rattle.cycles.specs.contracts.TotalMachine.{all-writes}
+use Rattle.cycles.specs.definitions.Cycle.{is-sort, seen, after-writes, stored, next-state}
+use Rattle.cycles.specs.contracts.TotalMachine.{cycle}
 use Rattle.cycles.specs.definitions.SoundState.{Sound-store, Sound-inputs, Sound-state}
 use Rattle.cycles.specs.definitions.StateImage.{STATE, table, entity-count, image-size, decode, is-state, state-of, with-state}
 use Rattle.cycles.specs.contracts.LineReads.{presence-table, input-table}

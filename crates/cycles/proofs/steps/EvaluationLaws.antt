@@ -18,7 +18,7 @@ use Rattle.text.proofs.laws.WalkLaws.{turn-less, getElem?-inside}
 use Rattle.cycles.specs.declared.evaluate.Binding.{Binding}
 use Rattle.cycles.specs.definitions.Store.{Store}
 use Rattle.cycles.specs.definitions.Spots.{Spot}
-use Rattle.cycles.specs.definitions.Evaluate.{value-at, is-present-at}
+use Rattle.cycles.specs.contracts.TotalMachine.{value-at, is-present-at}
 use Rattle.cycles.specs.definitions.Reference.{Write, written-if}
 use Rattle.cycles.specs.definitions.StateImage.{decode-store}
 use Rattle.cycles.specs.contracts.Evaluation.{bound, Locates, located, missing, Refers, Targeted, bare, declares, Resolved, Stored, Cell-read, puts, Put}

@@ -33,7 +33,7 @@ use Rattle.text.proofs.laws.ExpressionWalks.{
   factor-minus,
 }
 use Rattle.cycles.specs.declared.evaluate.Binding.{Binding}
-use Rattle.cycles.specs.definitions.Evaluate.{value}
+use Rattle.cycles.specs.contracts.TotalMachine.{value}
 use Rattle.cycles.specs.contracts.Evaluation.{bound, Cell-read, in-store-rows, expression-yields, Expression-walk, Expression-loop}
 use Rattle.cycles.proofs.steps.EvaluationLaws.{number-at, dotted-at}
 

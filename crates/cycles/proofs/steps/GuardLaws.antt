@@ -25,7 +25,7 @@ use Rattle.checking.specs.contracts.Directory.{rule-row}
 use Rattle.cycles.specs.declared.evaluate.Binding.{Binding}
 use Rattle.cycles.specs.definitions.Store.{Store}
 use Rattle.cycles.specs.definitions.Spots.{Spots, spots}
-use Rattle.cycles.specs.definitions.Evaluate.{value-at, value, holds, binding-writes}
+use Rattle.cycles.specs.contracts.TotalMachine.{value-at, value, holds, binding-writes}
 use Rattle.cycles.specs.definitions.Bindings.{candidates, bindings}
 use Rattle.cycles.specs.definitions.ClosedSet.{Among}
 use Rattle.cycles.specs.contracts.Evaluation.{bound, Locates, Resolved, Stored, Cell-read, Expression-walk, Condition-walk, puts}

@@ -27,7 +27,7 @@ use Rattle.text.proofs.laws.WalkLaws.{walk-then, walk-stops, chain-turns}
 use Rattle.text.proofs.laws.ConditionWalks.{filter-none, filter-some, test-changed, test-equals, clause-walk, atom-clause, conjunction-begins}
 use Rattle.cycles.specs.definitions.Store.{Store}
 use Rattle.cycles.specs.definitions.Spots.{Spots}
-use Rattle.cycles.specs.definitions.Evaluate.{value-at, is-present-at, value, filter-holds, test-holds, holds}
+use Rattle.cycles.specs.contracts.TotalMachine.{value-at, is-present-at, value, filter-holds, test-holds, holds}
 use Rattle.cycles.specs.contracts.Evaluation.{Targeted, all-rows, Target-walk}
 use Rattle.cycles.specs.contracts.Guards.{
   Covered,

@@ -49,7 +49,7 @@ use Rattle.checking.proofs.laws.DirectoryLaws.{number-below, number-inside}
 use Rattle.cycles.specs.declared.evaluate.Binding.{Binding}
 use Rattle.cycles.specs.definitions.Store.{Store}
 use Rattle.cycles.specs.definitions.Spots.{spot-at, spot-among, spot-of, meant-by, spot-if-meant, spots}
-use Rattle.cycles.specs.definitions.Evaluate.{binding-writes}
+use Rattle.cycles.specs.contracts.TotalMachine.{binding-writes}
 use Rattle.cycles.specs.definitions.ClosedSet.{entity-is-of, is-of}
 use Rattle.cycles.specs.contracts.Evaluation.{
   bound,

@@ -39,7 +39,7 @@ use Rattle.text.proofs.laws.WalkLaws.{
 use Rattle.text.proofs.laws.ConditionWalks.{condition-begins, rule-walk}
 use Rattle.cycles.specs.definitions.Store.{Store}
 use Rattle.cycles.specs.definitions.Spots.{Spots}
-use Rattle.cycles.specs.definitions.Evaluate.{is-present-at, filter-holds, holds, call-writes, writes-if, binding-writes}
+use Rattle.cycles.specs.contracts.TotalMachine.{is-present-at, filter-holds, holds, call-writes, writes-if, binding-writes}
 use Rattle.cycles.specs.contracts.Evaluation.{Targeted, all-rows, Target-walk}
 use Rattle.cycles.specs.contracts.Guards.{Names, attribute, equals-now, Guarded, Guards-found}
 use Rattle.cycles.specs.contracts.Finding.{

@@ -12,7 +12,8 @@ use Rattle.checking.proofs.laws.AcceptedLaws.{within-counts}
 use Rattle.checking.proofs.laws.CheckedFile.{accepted-known}
 use Rattle.cycles.specs.definitions.Outcome.{running}
 use Rattle.cycles.specs.definitions.Store.{State, Line}
-use Rattle.cycles.specs.definitions.Cycle.{follow, ref-follow, fresh, ref-fresh}
+use Rattle.cycles.specs.contracts.TotalMachine.{follow}
+use Rattle.cycles.specs.definitions.Cycle.{ref-follow, fresh, ref-fresh}
 use Rattle.cycles.specs.definitions.Line.{accepted, line}
 use Rattle.cycles.specs.definitions.StateImage.{state-of}
 use Rattle.cycles.specs.definitions.SoundState.{Sound-state}

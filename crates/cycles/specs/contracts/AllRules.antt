@@ -15,8 +15,9 @@ use Rattle.checking.specs.definitions.CountFaults.{MOST-INTERFACES, MOST-VARIAB
 use Rattle.cycles.specs.declared.evaluate.Binding.{Binding}
 use Rattle.cycles.specs.definitions.Store.{Store}
 use Rattle.cycles.specs.definitions.Spots.{spots}
-use Rattle.cycles.specs.definitions.Evaluate.{binding-writes}
-use Rattle.cycles.specs.definitions.Bindings.{bindings, all-writes}
+use Rattle.cycles.specs.contracts.TotalMachine.{binding-writes}
+use Rattle.cycles.specs.definitions.Bindings.{bindings}
+use Rattle.cycles.specs.contracts.TotalMachine.{all-writes}
 use Rattle.cycles.specs.definitions.ClosedSet.{is-of}
 use Rattle.cycles.specs.contracts.Evaluation.{bound, Stored, puts}
 

@@ -15,7 +15,8 @@ use Rattle.checking.specs.definitions.Scope.{member-of, is-attribute, is-action
 use Rattle.checking.specs.contracts.CheckedBench.{Checked-bench}
 use Rattle.checking.specs.contracts.Resolution.{References, Scopes}
 use Rattle.cycles.specs.definitions.Store.{Inputs}
-use Rattle.cycles.specs.definitions.Cycle.{is-sort, cycle}
+use Rattle.cycles.specs.definitions.Cycle.{is-sort}
+use Rattle.cycles.specs.contracts.TotalMachine.{cycle}
 use Rattle.cycles.specs.definitions.SoundState.{Sound-inputs}
 use Rattle.cycles.specs.definitions.StateImage.{
   CELL-BYTES,

@@ -21,7 +21,7 @@ use Rattle.checking.specs.contracts.Resolution.{FIRST-VARIABLE}
 use Rattle.cycles.specs.declared.evaluate.Binding.{Binding}
 use Rattle.cycles.specs.definitions.Store.{Store}
 use Rattle.cycles.specs.definitions.Spots.{Spot, Spots}
-use Rattle.cycles.specs.definitions.Evaluate.{value-at, value, filter-holds, test-holds, holds, call-writes, binding-writes}
+use Rattle.cycles.specs.contracts.TotalMachine.{value-at, value, filter-holds, test-holds, holds, call-writes, binding-writes}
 use Rattle.cycles.specs.definitions.Reference.{Write, written-if}
 use Rattle.cycles.specs.definitions.StateImage.{ENTITY-CELLS, ENTITY-CELL-BYTES}
 

@@ -14,7 +14,7 @@ use Rattle.text.specs.definitions.Grammar.{filter-reader, test-reader, call-rea
 use Rattle.text.specs.contracts.Walks.{nth-token, Rows, Stands, Walks}
 use Rattle.cycles.specs.definitions.Store.{Store}
 use Rattle.cycles.specs.definitions.Spots.{Spots}
-use Rattle.cycles.specs.definitions.Evaluate.{filter-holds, test-holds, holds, call-writes, binding-writes}
+use Rattle.cycles.specs.contracts.TotalMachine.{filter-holds, test-holds, holds, call-writes, binding-writes}
 use Rattle.cycles.specs.contracts.Evaluation.{all-rows}
 use Rattle.cycles.specs.contracts.Guards.{GUARD-ROWS, Covered, Names, spot-named, Guarded}
 

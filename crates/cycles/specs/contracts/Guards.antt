@@ -20,7 +20,7 @@ use Rattle.checking.specs.contracts.Resolution.{FIRST-VARIABLE}
 use Rattle.cycles.specs.declared.evaluate.Binding.{Binding}
 use Rattle.cycles.specs.definitions.Store.{Store}
 use Rattle.cycles.specs.definitions.Spots.{Spot, Spots}
-use Rattle.cycles.specs.definitions.Evaluate.{value-at, value, holds, binding-writes}
+use Rattle.cycles.specs.contracts.TotalMachine.{value-at, value, holds, binding-writes}
 use Rattle.cycles.specs.contracts.Evaluation.{Targeted}
 use Rattle.cycles.specs.contracts.AllRules.{candidate, Entity-added, Bindings-put}
 

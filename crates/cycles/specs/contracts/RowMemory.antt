@@ -14,7 +14,7 @@ use Rattle.checking.specs.definitions.Verdict.{name-if-found}
 use Rattle.checking.specs.contracts.Directory.{name-in, Bench}
 use Rattle.cycles.specs.definitions.Store.{State}
 use Rattle.cycles.specs.definitions.Spots.{Spot}
-use Rattle.cycles.specs.definitions.Row.{row, row-header}
+use Rattle.cycles.specs.definitions.Row.{MOST-ROW-BYTES, row, row-header}
 use Rattle.cycles.specs.contracts.StateMemory.{Put}
 use Rattle.cycles.specs.definitions.StateImage.{ENTITY-CELLS}
 
@@ -49,10 +49,6 @@ pub record Name-put (text classes offsets lengths d : List ℕ) (i : ℕ) (befor
   pub within : r ≤ length before
   pub is : (w : Bench text classes offsets lengths d) → Few (w .file) → Short-names text classes offsets lengths → at + 50 ≤ length before
       → (r ≤ at + 50) × Put (field-at (w .file) (name-field (w .file)) i) before at after r
-
--- "The stated size of memory for a row is 32,768 bytes at most"
-abbrev pub MOST-ROW-BYTES : ℕ
-MOST-ROW-BYTES = 32768
 
 -- bytes at the front of memory, and how many they are
 pub record In-front (bytes before after : List ℕ) (r : ℕ) : Type 0 where

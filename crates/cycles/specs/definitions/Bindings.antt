@@ -8,9 +8,7 @@ use Rattle.checking.specs.definitions.Scope.{Indexed, is-found, interface-named
 use Rattle.cycles.specs.definitions.Outcome.{Outcome, running, run-if, collected}
 use Rattle.cycles.specs.definitions.Store.{Store}
 use Rattle.cycles.specs.definitions.Spots.{spots, numbered, every}
-use Rattle.cycles.specs.definitions.Reference.{Write}
-use Rattle.cycles.specs.definitions.Evaluate.{binding-writes}
-use Rattle.cycles.specs.definitions.Reference.{ref-binding-writes}
+use Rattle.cycles.specs.definitions.Reference.{Write, ref-binding-writes}
 
 unfoldable pub number-if : Bool → ℕ → List ℕ
 number-if true e = e ∷ []
@@ -27,15 +25,6 @@ unfolding flatMap candidates
 bindings f s [] = [] ∷ []
 bindings f s (v ∷ vs) = flatMap (λ e. map (λ b. e ∷ b) (bindings f s vs)) (candidates f s (v .interface .bytes))
 
-unfoldable pub rule-writes : File → Store → Store → Rule → List Write
-unfolding flatMap binding-writes spots bindings variables
-rule-writes f now previous r = flatMap (λ b. binding-writes (spots f (variables r) b) now previous r) (bindings f now (variables r))
-
--- "Writes come by rule, choice, call"
-unfoldable pub all-writes : File → Store → Store → List Write
-unfolding flatMap rule-writes
-all-writes f now previous = flatMap (rule-writes f now previous) (f .rules)
-
 -- a variable's interface is looked up by its name, too
 unfoldable pub are-known : File → List Variable → Bool
 unfolding every is-found interface-named
@@ -47,6 +36,7 @@ ref-rule-writes f now previous r =
     run-if (are-known f (variables r))
     (collected (λ b. ref-binding-writes (spots f (variables r) b) now previous r) (bindings f now (variables r)))
 
+-- "Writes come by rule, choice, call"
 unfoldable pub ref-all-writes : File → Store → Store → Outcome (List Write)
 unfolding collected ref-rule-writes
 ref-all-writes f now previous = collected (ref-rule-writes f now previous) (f .rules)

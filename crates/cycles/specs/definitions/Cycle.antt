@@ -15,7 +15,7 @@ use Rattle.cycles.specs.definitions.Outcome.{Outcome, running, proceed, 
 use Rattle.cycles.specs.definitions.Store.{Store, Inputs, State, Line}
 use Rattle.cycles.specs.definitions.Spots.{Spot, every, cells}
 use Rattle.cycles.specs.definitions.Reference.{Write}
-use Rattle.cycles.specs.definitions.Bindings.{all-writes, ref-all-writes}
+use Rattle.cycles.specs.definitions.Bindings.{ref-all-writes}
 
 unfoldable pub is-sort : (Sort → Bool) → Option Member → Bool
 is-sort sort none = false
@@ -59,11 +59,6 @@ next-state f s l ws = record {
   inputs = l .inputs;
 }
 
--- a cycle for one line: the rules read the line's store as now, and the one before as previous
-unfoldable pub cycle : File → State → Line → State
-unfolding next-state all-writes
-cycle f s l = next-state f s l (all-writes f (seen f (s .now) (l .inputs)) (s .previous))
-
 unfoldable pub input-fits : Kind → Option Value → Bool
 unfolding of-kind
 input-fits k none = true
@@ -76,6 +71,7 @@ inputs-fit f i =
     every (λ e. is-found (interface-named f (e .interface .bytes))) (f .entities)
     && every (λ p. input-fits (p .what .kind) (i .given (p .entity) (p .member))) (cells f)
 
+-- a cycle for one line: the rules read the line's store as now, and the one before as previous
 unfoldable pub ref-cycle : File → State → Line → Outcome State
 unfolding run-if inputs-fit proceed ref-all-writes next-state
 ref-cycle f s l =
@@ -84,10 +80,6 @@ ref-cycle f s l =
     running (next-state f s l ws))
 
 -- an accepted line: "a resent one starts no cycle"
-unfoldable pub follow : File → State → Line → State
-unfolding cycle
-follow f s l = elim (eqb (l .number) (s .last)) [ true ↦ s | false ↦ cycle f s l ]
-
 unfoldable pub ref-follow : File → State → Line → Outcome State
 unfolding ref-cycle
 ref-follow f s l = elim (eqb (l .number) (s .last)) [ true ↦ running s | false ↦ ref-cycle f s l ]

@@ -6,7 +6,7 @@ use mathlib.Core.Bool.{false, cond}
 use lib.Dec.{eqb}
 use Rattle.text.specs.definitions.Syntax.{File}
 use Rattle.cycles.specs.definitions.Store.{State, Line}
-use Rattle.cycles.specs.definitions.Cycle.{follow}
+use Rattle.cycles.specs.contracts.TotalMachine.{follow}
 use Rattle.cycles.specs.definitions.Fields.{lengthened}
 use Rattle.cycles.specs.definitions.Line.{Answer, refused, accepted}
 

@@ -11,6 +11,10 @@ use Rattle.checking.specs.definitions.Verdict.{name-if-found}
 use Rattle.cycles.specs.definitions.Store.{State}
 use Rattle.cycles.specs.definitions.Spots.{Spot, cells}
 
+-- "The stated size of memory for a row is 32,768 bytes at most"
+abbrev pub MOST-ROW-BYTES : ℕ
+MOST-ROW-BYTES = 32768
+
 -- "every action cell .., in entity and member order"
 unfoldable pub action-cells : File → List Spot
 unfolding flatMap is-action cells

@@ -13,7 +13,8 @@ use Rattle.text.specs.definitions.Syntax.{File}
 use Rattle.checking.specs.definitions.Verdict.{Verdict, verdict}
 use Rattle.cycles.specs.definitions.Outcome.{running}
 use Rattle.cycles.specs.definitions.Store.{State, Line}
-use Rattle.cycles.specs.definitions.Cycle.{fresh, cycle, follow, ref-follow}
+use Rattle.cycles.specs.definitions.Cycle.{fresh, ref-follow}
+use Rattle.cycles.specs.contracts.TotalMachine.{cycle, follow}
 use Rattle.cycles.specs.definitions.Line.{Answer, refused, accepted, line}
 use Rattle.cycles.specs.definitions.Row.{row}
 use Rattle.cycles.specs.definitions.StateImage.{STATE, state-of, with-state}

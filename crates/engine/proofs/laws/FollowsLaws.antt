@@ -16,7 +16,7 @@ use Rattle.checking.proofs.laws.VerdictLaws.{accepted-verdict}
 use Rattle.checking.proofs.laws.AcceptedLaws.{within-counts}
 use Rattle.cycles.specs.definitions.Store.{State, Line}
 use Rattle.cycles.specs.definitions.Spots.{Spot}
-use Rattle.cycles.specs.definitions.Cycle.{follow}
+use Rattle.cycles.specs.contracts.TotalMachine.{follow}
 use Rattle.cycles.specs.definitions.Line.{Answer, refused, accepted, MOST-LINES}
 use Rattle.cycles.specs.definitions.Row as Rows
 use Rattle.cycles.specs.definitions.Row.{action-cells, row-header}

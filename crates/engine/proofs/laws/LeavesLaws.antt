@@ -13,7 +13,8 @@ use Rattle.checking.proofs.laws.WithinCounts.{Within-counts}
 use Rattle.checking.proofs.laws.VerdictLaws.{accepted-length, accepted-is-file}
 use Rattle.cycles.specs.definitions.Store.{State, Line}
 use Rattle.cycles.specs.definitions.SoundState.{Sound-state}
-use Rattle.cycles.specs.definitions.Cycle.{fresh, follow, cycle}
+use Rattle.cycles.specs.definitions.Cycle.{fresh}
+use Rattle.cycles.specs.contracts.TotalMachine.{follow, cycle}
 use Rattle.cycles.specs.definitions.Line.{accepted, line}
 use Rattle.cycles.specs.definitions.StateImage.{STATE, state-of}
 use Rattle.cycles.proofs.laws.ImageLaws.{state-written}

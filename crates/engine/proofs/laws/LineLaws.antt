@@ -22,7 +22,7 @@ use Rattle.cycles.specs.declared.judge.Judgement.the-variants.{Refused as Refus
 use Rattle.cycles.specs.declared.lines.Reading.{Reading as Reads}
 use Rattle.cycles.specs.declared.lines.Reading.the-variants.{Refused as Not-read, Got}
 use Rattle.cycles.specs.definitions.Store.{State, Line}
-use Rattle.cycles.specs.definitions.Cycle.{cycle}
+use Rattle.cycles.specs.contracts.TotalMachine.{cycle}
 use Rattle.cycles.specs.definitions.Header.{Column, header}
 use Rattle.cycles.specs.definitions.Record.{inputs-of}
 use Rattle.cycles.specs.definitions.Line.{Answer, refused, accepted, or-refused, if-accepted, Reading, reading, line-of, line-in, line}

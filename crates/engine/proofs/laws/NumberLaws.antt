@@ -12,7 +12,7 @@ use Rattle.checking.specs.definitions.Verdict.{Verdict, verdict, verdict-answer
 use Rattle.checking.proofs.laws.FaultCodes.{Refused-by-code, verdict-code}
 use Rattle.cycles.specs.definitions.Store.{State, Line}
 use Rattle.cycles.specs.definitions.Line.{Answer, refused, accepted, line}
-use Rattle.cycles.specs.definitions.Cycle.{cycle}
+use Rattle.cycles.specs.contracts.TotalMachine.{cycle}
 use Rattle.cycles.specs.definitions.Row as Rows
 use Rattle.cycles.specs.definitions.Row.{row-header}
 use Rattle.cycles.specs.definitions.StateImage.{STATE, state-of}

@@ -17,7 +17,8 @@ use Rattle.checking.proofs.laws.VerdictLaws.{accepted-length, accepted-verdict,
 use Rattle.checking.proofs.laws.AcceptedLaws.{within-counts}
 use Rattle.cycles.specs.definitions.Outcome.{running, proceed}
 use Rattle.cycles.specs.definitions.Store.{Store, State, Line}
-use Rattle.cycles.specs.definitions.Cycle.{fresh, ref-fresh, cycle, follow, ref-follow}
+use Rattle.cycles.specs.definitions.Cycle.{fresh, ref-fresh, ref-follow}
+use Rattle.cycles.specs.contracts.TotalMachine.{cycle, follow}
 use Rattle.cycles.specs.definitions.Line.{Answer, refused, accepted, reading}
 use Rattle.cycles.specs.definitions.Row.{row}
 use Rattle.cycles.specs.definitions.StateImage.{STATE, state-of}

@@ -9,7 +9,8 @@ use Rattle.checking.specs.definitions.Verdict.{Verdict, verdict}
 use Rattle.checking.proofs.laws.VerdictLaws.{accepted-verdict}
 use Rattle.checking.proofs.laws.AcceptedLaws.{within-counts}
 use Rattle.cycles.specs.definitions.Store.{State, Line}
-use Rattle.cycles.specs.definitions.Cycle.{fresh, follow}
+use Rattle.cycles.specs.definitions.Cycle.{fresh}
+use Rattle.cycles.specs.contracts.TotalMachine.{follow}
 use Rattle.cycles.specs.definitions.Line.{accepted, line}
 use Rattle.cycles.specs.definitions.StateImage.{STATE, state-of}
 use Rattle.cycles.proofs.laws.ImageLaws.{state-decoded-sound}

@@ -10,11 +10,12 @@ use lib.ListN.{length, drop}
 use Rattle.text.specs.definitions.Syntax.{File}
 use Rattle.checking.specs.definitions.Verdict.{Verdict, verdict, verdict-answer}
 use Rattle.cycles.specs.definitions.Store.{State, Line}
-use Rattle.cycles.specs.definitions.Cycle.{fresh, follow, cycle}
+use Rattle.cycles.specs.definitions.Cycle.{fresh}
+use Rattle.cycles.specs.contracts.TotalMachine.{cycle}
 use Rattle.cycles.specs.definitions.Line.{Answer, refused, accepted, line}
 use Rattle.cycles.specs.definitions.Row.{row-header, row}
 use Rattle.cycles.specs.definitions.StateImage.{STATE, state-of, with-state}
-use Rattle.cycles.specs.contracts.RowMemory.{MOST-ROW-BYTES}
+use Rattle.cycles.specs.definitions.Row.{MOST-ROW-BYTES}
 use Rattle.engine.specs.definitions.BenchImage.{BENCH, with-bench, bench-of}
 
 -- the stated size of memory for a row

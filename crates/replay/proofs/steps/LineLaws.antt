@@ -15,7 +15,8 @@ use Rattle.text.specs.definitions.Syntax.{File}
 use Rattle.checking.specs.definitions.Verdict.{Verdict, file-verdict}
 use Rattle.checking.proofs.laws.VerdictLaws.{accepted-verdict}
 use Rattle.cycles.specs.definitions.Store.{State}
-use Rattle.cycles.specs.definitions.Cycle.{fresh, follow}
+use Rattle.cycles.specs.definitions.Cycle.{fresh}
+use Rattle.cycles.specs.contracts.TotalMachine.{follow}
 use Rattle.cycles.specs.definitions.Header.{Column, header}
 use Rattle.cycles.specs.contracts.HeaderReads.{MOST-COLUMNS, NO-COLUMN, column-number, backwards, Header-is, Header-read}
 use Rattle.cycles.specs.definitions.Line.{line}

@@ -15,7 +15,7 @@ use Rattle.checking.specs.definitions.Verdict as Verdict
 use Rattle.checking.specs.definitions.Verdict.{file-verdict}
 use Rattle.checking.proofs.laws.AcceptedLaws.{within-counts}
 use Rattle.cycles.specs.definitions.Store.{State, Line}
-use Rattle.cycles.specs.definitions.Cycle.{follow, cycle}
+use Rattle.cycles.specs.contracts.TotalMachine.{follow, cycle}
 use Rattle.cycles.specs.definitions.Line.{Answer, refused, accepted, line}
 use Rattle.cycles.specs.definitions.Row.{row}
 use Rattle.cycles.specs.definitions.SoundState.{Sound-state}

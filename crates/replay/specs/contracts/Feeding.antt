@@ -10,7 +10,7 @@ use Rattle.cycles.specs.contracts.HeaderReads.{MOST-COLUMNS}
 use Rattle.cycles.specs.definitions.Readings.{Part-of-line}
 use Rattle.cycles.specs.definitions.StateImage.{STATE}
 use Rattle.cycles.specs.definitions.Header.{MOST-HEADER-BYTES}
-use Rattle.cycles.specs.contracts.RowMemory.{MOST-ROW-BYTES}
+use Rattle.cycles.specs.definitions.Row.{MOST-ROW-BYTES}
 use Rattle.replay.specs.contracts.Awaiting.{
   Awaits,
   prints,

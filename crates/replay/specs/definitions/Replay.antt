@@ -7,7 +7,8 @@ use Rattle.values.specs.definitions.Forms.{decimal, decimal-digits, digit-byte}
 use Rattle.text.specs.definitions.Syntax.{File}
 use Rattle.checking.specs.definitions.Verdict.{Verdict, verdict}
 use Rattle.cycles.specs.definitions.Store.{State, Line}
-use Rattle.cycles.specs.definitions.Cycle.{fresh, follow}
+use Rattle.cycles.specs.definitions.Cycle.{fresh}
+use Rattle.cycles.specs.contracts.TotalMachine.{follow}
 use Rattle.cycles.specs.definitions.Header.{Column, header}
 use Rattle.cycles.specs.definitions.Line.{Answer, refused, accepted, line}
 use Rattle.cycles.specs.definitions.Readings.{lines, state-after}

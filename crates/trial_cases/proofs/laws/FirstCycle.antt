@@ -6,7 +6,7 @@ use Rattle.values.specs.declared.Value.the-variants.{Unset}
 use Rattle.text.specs.definitions.Syntax.{Target, Filter, Clause, File}
 use Rattle.cycles.specs.definitions.Store.{Store}
 use Rattle.cycles.specs.definitions.Spots.{Spot, Spots}
-use Rattle.cycles.specs.definitions.Evaluate.{value-at, filter-holds, clause-holds, is-present-at, test-holds}
+use Rattle.cycles.specs.contracts.TotalMachine.{value-at, filter-holds, clause-holds, is-present-at, test-holds}
 use Rattle.cycles.specs.definitions.Cycle.{fresh}
 
 reads-unset : (f : File) (p : Option Spot) → value-at (fresh f .previous) p ≡ Unset

@@ -9,7 +9,7 @@ use Rattle.text.specs.definitions.Bytes.{ascii}
 use Rattle.text.specs.definitions.Syntax.{Filter, Clause, File}
 use Rattle.cycles.specs.definitions.Store.{Store}
 use Rattle.cycles.specs.definitions.Spots.{Spots}
-use Rattle.cycles.specs.definitions.Evaluate.{clause-holds}
+use Rattle.cycles.specs.contracts.TotalMachine.{clause-holds}
 use Rattle.cycles.specs.definitions.Cycle.{fresh}
 use Rattle.trial_cases.specs.definitions.Trials.{
   pedal,

@@ -1,9 +1,10 @@
--- Expressions, conditions and calls at one binding, as code works them out: the total machine. It is the reference machine (Reference), but what
--- that is stuck at gives unset, false or no write here; for accepted files the two are equal (`accepted-sound`).
+-- The total machine, which code computes: the reference machine (Reference, Bindings, Cycle), but what that is stuck at gives unset, false or no
+-- write here. For accepted files the two are equal (`accepted-sound`), so nobody has to believe this one.
 use Prim.Native.Nat.{ℕ}
 use mathlib.Core.List.{List, [], _∷_, flatMap}
 use mathlib.Core.Bool.{Bool, true, false, not, _&&_, _||_}
 use mathlib.Core.Option.{Option, none, some}
+use lib.Dec.{eqb}
 use Rattle.values.specs.declared.Value.{Value}
 use Rattle.values.specs.declared.Value.the-variants.{Unset}
 use Rattle.values.specs.definitions.Value.{is-set, fitted, settled, operated, negated, as-real, equal, differ}
@@ -28,10 +29,14 @@ use Rattle.text.specs.definitions.Syntax.{
   either,
   Call,
   Rule,
+  File,
 }
-use Rattle.cycles.specs.definitions.Store.{Store}
-use Rattle.cycles.specs.definitions.Spots.{Spot, Spots}
+use Rattle.checking.specs.definitions.Scope.{variables}
+use Rattle.cycles.specs.definitions.Store.{Store, State, Line}
+use Rattle.cycles.specs.definitions.Spots.{Spot, Spots, spots}
 use Rattle.cycles.specs.definitions.Reference.{read-spot, Write, written-if}
+use Rattle.cycles.specs.definitions.Bindings.{bindings}
+use Rattle.cycles.specs.definitions.Cycle.{seen, next-state}
 
 unfoldable pub value-at : Store → Option Spot → Value
 unfolding read-spot
@@ -96,3 +101,23 @@ writes-if false ws = []
 unfoldable pub binding-writes : Spots → Store → Store → Rule → List Write
 unfolding writes-if holds flatMap call-writes
 binding-writes sp now previous r = writes-if (holds sp now previous (r .condition)) (flatMap (call-writes sp now) (r .calls))
+
+-- ---- all rules, as `ref-all-writes`
+
+unfoldable pub rule-writes : File → Store → Store → Rule → List Write
+unfolding flatMap binding-writes spots bindings variables
+rule-writes f now previous r = flatMap (λ b. binding-writes (spots f (variables r) b) now previous r) (bindings f now (variables r))
+
+unfoldable pub all-writes : File → Store → Store → List Write
+unfolding flatMap rule-writes
+all-writes f now previous = flatMap (rule-writes f now previous) (f .rules)
+
+-- ---- a line, as `ref-cycle` and `ref-follow`
+
+unfoldable pub cycle : File → State → Line → State
+unfolding next-state all-writes
+cycle f s l = next-state f s l (all-writes f (seen f (s .now) (l .inputs)) (s .previous))
+
+unfoldable pub follow : File → State → Line → State
+unfolding cycle
+follow f s l = elim (eqb (l .number) (s .last)) [ true ↦ s | false ↦ cycle f s l ]
