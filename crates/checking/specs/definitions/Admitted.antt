@@ -18,8 +18,8 @@ pub record Faultless (f : File) : Type 0 where
   pub names : name-faults f ≡ []
   pub kinds : kind-faults f ≡ []
 
--- a text within the limit, all of it words; these are a grammatical file, and its tree has no fault (words that are a grammatical file have just
--- one tree: `parser-exact`)
+-- a text within the limit, all of it words; these are a grammatical file, and its tree has no fault (the parser makes
+-- a tree of words exactly if they are a grammatical file: `parser-exact`)
 pub record Admitted (text : List ℕ) : Type 0 where
   pub short : length text ≤ MOST-BYTES
   pub words : List Token

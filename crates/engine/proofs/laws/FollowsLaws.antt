@@ -52,7 +52,7 @@ use Rattle.engine.specs.definitions.Calls.{
 }
 use Rattle.engine.specs.definitions.Runs.{Request, machine-answer, given, given-by}
 use Rattle.engine.specs.definitions.DemandOne.{number-of}
-use Rattle.engine.specs.definitions.DemandTwo.{Freshens, Follows, Names, Shows, Reads-back}
+use Rattle.engine.specs.definitions.DemandTwo.{Bench-lent, State-lent, Line-lent, Freshens, Follows, Names, Shows, Reads-back}
 use Rattle.engine.proofs.laws.BenchLaws.{bench-accepted}
 use Rattle.engine.proofs.laws.CallLaws.{Stands-for, Answered, answer-line, answer-number, given-read}
 use Rattle.engine.proofs.laws.RunLaws.{call-gives}
@@ -132,9 +132,9 @@ module _ (bench state names values row : List ℕ) (h : BENCH ≤ length bench) 
       absurd (not-zero 32 (ap (λ (x : After-line). x .answer) i) z (λ n. omega arith))
   by-bench z (some f) e = by-state z f e (state-of f state) refl
 
-  taken-answer : (x : After-line) → Follows bench state names values x → number-of (reply .answer) ≡ 0
+  taken-answer : Line-lent bench state names values → number-of (reply .answer) ≡ 0
   unfolding machine-answer
-  taken-answer x k =
+  taken-answer k =
       let q : machine-answer (k .file) (k .before) request ≡ accepted (k .taken) = rw (le-ltb (length row) ROW w, machine-answer) (k .is-taken) in
       let i : Answered (k .file) bench state (k .before) request reply (accepted (k .taken)) =
       subst (Answered (k .file) bench state (k .before) request reply) q (answered (k .file) (k .is-bench) (k .before) (k .is-state)) in
@@ -142,11 +142,20 @@ module _ (bench state names values row : List ℕ) (h : BENCH ≤ length bench) 
 
 pub line-follows : (bench state names values row new-state new-row : List ℕ) (r : ℕ) → Line-contract bench state names values row new-state new-row r
     → BENCH ≤ length bench → STATE ≤ length state → ROW ≤ length row
-    → (number-of r ≡ 0) ↔ Follows bench state names values (record { answer = r; state = new-state; row = new-row })
+    → ((number-of r ≡ 0) ↔ Line-lent bench state names values)
+    × (number-of r ≡ 0 → Follows bench state names values (record { answer = r; state = new-state; row = new-row }))
 line-follows bench state names values row new-state new-row r c h g w =
-    subst (λ (x : After-line). (number-of (x .answer) ≡ 0) ↔ Follows bench state names values x) (sym c) (
-      λ z. by-bench bench state names values row h g w z (bench-of bench) refl,
-      taken-answer bench state names values row h g w (line-call bench state names values row),
+    let go : number-of (line-call bench state names values row .answer) ≡ 0 → Follows bench state names values (line-call bench state names values row) =
+    λ z. by-bench bench state names values row h g w z (bench-of bench) refl in
+    subst (λ (x : After-line). ((number-of (x .answer) ≡ 0) ↔ Line-lent bench state names values) × (number-of (x .answer) ≡ 0 → Follows bench state names values x))
+    (sym c) (
+      (
+        λ z.
+            let k = go z in
+            record { file = k .file; before = k .before; taken = k .taken; is-bench = k .is-bench; is-state = k .is-state; is-taken = k .is-taken },
+        taken-answer bench state names values row h g w,
+      ),
+      go,
     )
 
 -- ---- the fresh state
@@ -157,11 +166,16 @@ fresh-is bench state h g = rw (le-ltb (length bench) BENCH h, le-ltb (length sta
 
 pub fresh-freshens : (bench state new-state : List ℕ) (r : ℕ) → Fresh-contract bench state new-state r
     → BENCH ≤ length bench → STATE ≤ length state
-    → (number-of r ≡ 0) ↔ Freshens bench new-state
+    → ((number-of r ≡ 0) ↔ Bench-lent bench) × (number-of r ≡ 0 → Freshens bench new-state)
 unfolding freshened
 fresh-freshens bench state new-state r c h g =
-    let i : record { answer = r; state = new-state } ≡ freshened (bench-of bench) state = c ∙ fresh-is bench state h g in
-    (λ z. by-bench z (bench-of bench) refl, λ k. ap number-of (ap (λ (x : After-fresh). x .answer) (i ∙ ap (λ (o : Option File). freshened o state) (k .is-bench))))
+    let i : record { answer = r; state = new-state } ≡ freshened (bench-of bench) state = c ∙ fresh-is bench state h g in (
+      (
+        λ z. let k = by-bench z (bench-of bench) refl in record { file = k .file; is-bench = k .is-bench },
+        λ k. ap number-of (ap (λ (x : After-fresh). x .answer) (i ∙ ap (λ (o : Option File). freshened o state) (k .is-bench))),
+      ),
+      λ z. by-bench z (bench-of bench) refl,
+    )
   where
     by-bench : number-of r ≡ 0 → (o : Option File) → bench-of bench ≡ o → Freshens bench new-state
     by-bench z none e =
@@ -194,7 +208,7 @@ module _ (bench row : List ℕ) (h : BENCH ≤ length bench) (w : ROW ≤ length
       let i : x ≡ header-on-bench (some f) row = c ∙ ap (λ (o : Option File). header-on-bench o row) e in
       record { file = f; is-bench = e; gives = ap (λ (y : After-row). given (y .answer) (y .row)) i ∙ written-given (row-header f) row }
 
-  named-answer : (x : After-row) → x ≡ header-on-bench (bench-of bench) row → Names bench (x .answer) (x .row) → number-of (x .answer) ≡ 0
+  named-answer : (x : After-row) → x ≡ header-on-bench (bench-of bench) row → Bench-lent bench → number-of (x .answer) ≡ 0
   unfolding header-on-bench row-written
   named-answer x c k =
       let i : x ≡ header-on-bench (some (k .file)) row = c ∙ ap (λ (o : Option File). header-on-bench o row) (k .is-bench) in
@@ -202,11 +216,12 @@ module _ (bench row : List ℕ) (h : BENCH ≤ length bench) (w : ROW ≤ length
 
 pub header-names : (bench row new-row : List ℕ) (r : ℕ) → Header-contract bench row new-row r
     → BENCH ≤ length bench → ROW ≤ length row
-    → (number-of r ≡ 0) ↔ Names bench r new-row
+    → ((number-of r ≡ 0) ↔ Bench-lent bench) × (number-of r ≡ 0 → Names bench r new-row)
 header-names bench row new-row r c h w =
     let x : After-row = record { answer = r; row = new-row } in
     let i : x ≡ header-on-bench (bench-of bench) row = c ∙ header-is bench row h w in
-    (λ z. names-by bench row h w x i z (bench-of bench) refl, λ k. named-answer bench row h w x i k)
+    let go : number-of r ≡ 0 → Names bench r new-row = λ z. names-by bench row h w x i z (bench-of bench) refl in
+    ((λ z. let k = go z in record { file = k .file; is-bench = k .is-bench }, λ k. named-answer bench row h w x i k), go)
 
 row-is : (bench state row : List ℕ) → BENCH ≤ length bench → STATE ≤ length state → ROW ≤ length row
     → row-call bench state row ≡ row-on-bench (bench-of bench) state row
@@ -236,19 +251,25 @@ module _ (bench state row : List ℕ) (x : After-row) (c : x ≡ row-on-bench (b
       absurd (not-zero 32 (ap (λ (y : After-row). y .answer) i) z (λ n. omega arith))
   shows-by z (some f) b = shows-in z f b (state-of f state) refl
 
-  shown-answer : Shows bench state (x .answer) (x .row) → number-of (x .answer) ≡ 0
+  shown-answer : State-lent bench state → number-of (x .answer) ≡ 0
   unfolding row-in-state row-written
   shown-answer k =
-      ap (λ (y : After-row). number-of (y .answer)) (in-state (k .file) (k .is-bench) (some (k .shown)) (k .is-state))
-      ∙ row-zero (Rows.row (k .file) (k .shown))
+      ap (λ (y : After-row). number-of (y .answer)) (in-state (k .file) (k .is-bench) (some (k .before)) (k .is-state))
+      ∙ row-zero (Rows.row (k .file) (k .before))
 
 pub row-shows : (bench state row new-row : List ℕ) (r : ℕ) → Row-contract bench state row new-row r
     → BENCH ≤ length bench → STATE ≤ length state → ROW ≤ length row
-    → (number-of r ≡ 0) ↔ Shows bench state r new-row
+    → ((number-of r ≡ 0) ↔ State-lent bench state) × (number-of r ≡ 0 → Shows bench state r new-row)
 row-shows bench state row new-row r c h g w =
     let x : After-row = record { answer = r; row = new-row } in
     let i : x ≡ row-on-bench (bench-of bench) state row = c ∙ row-is bench state row h g w in
-    (λ z. shows-by bench state row x i z (bench-of bench) refl, shown-answer bench state row x i)
+    let go : number-of r ≡ 0 → Shows bench state r new-row = λ z. shows-by bench state row x i z (bench-of bench) refl in (
+      (
+        λ z. let k = go z in record { file = k .file; before = k .shown; is-bench = k .is-bench; is-state = k .is-state },
+        shown-answer bench state row x i,
+      ),
+      go,
+    )
 
 -- ---- a row
 

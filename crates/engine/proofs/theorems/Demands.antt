@@ -1,4 +1,6 @@
--- The three demands, proved. Each claim is stated whole, under the words that it answers, and cited in a line below.
+-- The three demands, proved: each claim under the words that it answers, and cited in a line below. A call appears by its contract, which equates
+-- its answer and all memory that it may write with a function of what was lent (Calls); which refusal comes first, the places, and that bytes past
+-- what is written stay, are said there.
 use Prim.Native.Nat.{ℕ, _≤_}
 use mathlib.Core.Path.{_≡_}
 use mathlib.Core.Logic.{_↔_}
@@ -18,7 +20,18 @@ use Rattle.engine.specs.definitions.BenchImage.{BENCH}
 use Rattle.engine.specs.definitions.Calls.{ROW, After-line, Check-contract, Fresh-contract, Line-contract, Header-contract, Row-contract}
 use Rattle.engine.specs.definitions.Runs.{Request, Run-start, Run, sight, ref-run, taken-lines}
 use Rattle.engine.specs.definitions.DemandOne.{number-of, CHECK-NUMBERS, FRESH-NUMBERS, LINE-NUMBERS, HEADER-NUMBERS, ROW-NUMBERS, Listed-answer}
-use Rattle.engine.specs.definitions.DemandTwo.{Freshens, Follows, Names, Shows, Resent, Reads-back}
+use Rattle.engine.specs.definitions.DemandTwo.{
+  Bench-lent,
+  State-lent,
+  Line-lent,
+  Checks,
+  Freshens,
+  Follows,
+  Names,
+  Shows,
+  Resent,
+  Reads-back,
+}
 use Rattle.engine.specs.definitions.DemandThree.{Same-lines, Same-values, Side-by-side}
 use Rattle.engine.proofs.laws.NumberLaws.{check-numbered, fresh-numbered, line-numbered, header-numbered, row-numbered}
 use Rattle.engine.proofs.laws.CheckLaws.{check-admits}
@@ -45,21 +58,22 @@ pub record Demand-two : Type 0 where
   -- "A bench file is accepted exactly when the documents admit it"
   pub admits : (text bench new-bench : List ℕ) (r : ℕ) → Check-contract text bench new-bench r
       → BENCH ≤ length bench
-      → (number-of r ≡ 0) ↔ Admitted text
-  -- "each accepted line leaves the state and fires the actions that they define", and each line is accepted that they accept
+      → ((number-of r ≡ 0) ↔ Admitted text) × (number-of r ≡ 0 → Checks text new-bench)
+  -- "each accepted line leaves the state and fires the actions that they define", and what they accept is accepted
   pub follows : (bench state names values row new-state new-row : List ℕ) (r : ℕ) → Line-contract bench state names values row new-state new-row r
       → BENCH ≤ length bench → STATE ≤ length state → ROW ≤ length row
-      → (number-of r ≡ 0) ↔ Follows bench state names values (record { answer = r; state = new-state; row = new-row })
+      → ((number-of r ≡ 0) ↔ Line-lent bench state names values)
+      × (number-of r ≡ 0 → Follows bench state names values (record { answer = r; state = new-state; row = new-row }))
   -- the same of the other calls on a bench: the fresh state, the row of names, the row of a state
   pub freshens : (bench state new-state : List ℕ) (r : ℕ) → Fresh-contract bench state new-state r
       → BENCH ≤ length bench → STATE ≤ length state
-      → (number-of r ≡ 0) ↔ Freshens bench new-state
+      → ((number-of r ≡ 0) ↔ Bench-lent bench) × (number-of r ≡ 0 → Freshens bench new-state)
   pub names : (bench row new-row : List ℕ) (r : ℕ) → Header-contract bench row new-row r
       → BENCH ≤ length bench → ROW ≤ length row
-      → (number-of r ≡ 0) ↔ Names bench r new-row
+      → ((number-of r ≡ 0) ↔ Bench-lent bench) × (number-of r ≡ 0 → Names bench r new-row)
   pub shows : (bench state row new-row : List ℕ) (r : ℕ) → Row-contract bench state row new-row r
       → BENCH ≤ length bench → STATE ≤ length state → ROW ≤ length row
-      → (number-of r ≡ 0) ↔ Shows bench state r new-row
+      → ((number-of r ≡ 0) ↔ State-lent bench state) × (number-of r ≡ 0 → Shows bench state r new-row)
   -- "a resent line changes nothing and gives its first row again"
   pub resent : (text : List ℕ) (f : File) → verdict text ≡ Verdict.accepted f
       → (bench state : List ℕ) → Run-start text bench state

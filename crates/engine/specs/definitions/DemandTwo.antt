@@ -7,6 +7,7 @@ use lib.ListN.{length, getElem?}
 use Rattle.values.specs.declared.Number.the-variants.{Is}
 use Rattle.values.specs.definitions.Forms.{magnitude, event-field, read-back}
 use Rattle.text.specs.definitions.Syntax.{File}
+use Rattle.checking.specs.definitions.Verdict.{Verdict, verdict}
 use Rattle.cycles.specs.definitions.Outcome.{running}
 use Rattle.cycles.specs.definitions.Store.{State, Line}
 use Rattle.cycles.specs.definitions.Spots.{Spot}
@@ -20,14 +21,45 @@ use Rattle.engine.specs.definitions.BenchImage.{bench-of}
 use Rattle.engine.specs.definitions.Calls.{After-line}
 use Rattle.engine.specs.definitions.Runs.{given, given-by, Taken}
 
--- what is lent as a bench stands for a file, and what is left as a state for its fresh state
+-- ---- what is lent
+
+-- the memory stands for a bench file
+pub record Bench-lent (bench : List ℕ) : Type 0 where
+  pub file : File
+  pub is-bench : bench-of bench ≡ some file
+
+-- the memory stands for a bench file and a state of it
+pub record State-lent (bench state : List ℕ) : Type 0 where
+  pub file : File
+  pub before : State
+  pub is-bench : bench-of bench ≡ some file
+  pub is-state : state-of file state ≡ some before
+
+-- and in this state document 01 accepts the line
+pub record Line-lent (bench state names values : List ℕ) : Type 0 where
+  pub file : File
+  pub before : State
+  pub taken : Line
+  pub is-bench : bench-of bench ≡ some file
+  pub is-state : state-of file state ≡ some before
+  pub is-taken : line file before names values ≡ accepted taken
+
+-- ---- what is left and given
+
+-- the memory left stands for the file of the text
+pub record Checks (text new-bench : List ℕ) : Type 0 where
+  pub file : File
+  pub is-file : verdict text ≡ Verdict.accepted file
+  pub leaves : bench-of new-bench ≡ some file
+
+-- the memory left stands for the fresh state of the bench file
 pub record Freshens (bench new-state : List ℕ) : Type 0 where
   pub file : File
   pub is-bench : bench-of bench ≡ some file
   pub leaves : state-of file new-state ≡ some (fresh file)
 
--- "each accepted line leaves the state and fires the actions that they define": the memory lent stands for a bench file and a state of it, in
--- which document 01 accepts the line; the machine goes on from there, the memory left stands for its state, and the call gave its row
+-- "each accepted line leaves the state and fires the actions that they define": the machine takes the line in the state lent and goes on, the
+-- memory left stands for its state, and the call gave its row
 pub record Follows (bench state names values : List ℕ) (r : After-line) : Type 0 where
   pub file : File
   pub before : State
@@ -40,19 +72,21 @@ pub record Follows (bench state names values : List ℕ) (r : After-line) : Type
   pub leaves : state-of file (r .state) ≡ some after
   pub fires : given-by r ≡ row file after
 
--- the row of names that a call gave
+-- the call gave the row of names
 pub record Names (bench : List ℕ) (answer : ℕ) (new-row : List ℕ) : Type 0 where
   pub file : File
   pub is-bench : bench-of bench ≡ some file
   pub gives : given answer new-row ≡ row-header file
 
--- the row of a state that a call gave
+-- the call gave the row of the state
 pub record Shows (bench state : List ℕ) (answer : ℕ) (new-row : List ℕ) : Type 0 where
   pub file : File
   pub shown : State
   pub is-bench : bench-of bench ≡ some file
   pub is-state : state-of file state ≡ some shown
   pub gives : given answer new-row ≡ row file shown
+
+-- ---- lines sent again, and rows
 
 -- of two accepted lines of a run with one number: the later one leaves the state's bytes, and gives the row that the earlier one gave
 pub record Given-again (x y : Taken) : Type 0 where
