@@ -78,12 +78,19 @@ pub fn decode_state(bench: &Bench, memory: &[u8]) -> Option<State> {
     let count = bench.entities.len();
     let flags = |plane: usize| &memory[4 + plane * count..4 + (plane + 1) * count];
     let cells = |plane: usize| &memory[4 + 3 * count + plane * count * MEMBERS * CELL..];
-    Some(State {
+    let state = State {
         number: u32::from_le_bytes(memory[..4].try_into().expect("four bytes")),
         now: Store { present: decode_flags(flags(0))?, cells: decode_plane(bench, cells(0), now_cell)? },
         before: Store { present: decode_flags(flags(1))?, cells: decode_plane(bench, cells(1), before_cell)? },
         last: Readings { presence: decode_presence(flags(2))?, cells: decode_plane(bench, cells(2), last_reading)? },
-    })
+    };
+    let set_before = |entity: usize| !state.before.present[entity] || attributes_set(bench, entity, &state.before);
+    (0..count).all(set_before).then_some(state)
+}
+
+fn attributes_set(bench: &Bench, entity: usize, store: &Store) -> bool {
+    let mut cells = bench.members_of(entity).iter().zip(&store.cells[entity]);
+    cells.all(|(member, cell)| member.sort != Sort::Attribute || cell.is_some())
 }
 
 fn decode_flags(bytes: &[u8]) -> Option<Vec<bool>> {
@@ -141,6 +148,7 @@ fn now_cell(member: Option<&Member>, reading: Reading) -> Option<Cell> {
     }
 }
 
+/// An attribute may be unset here: whether its entity was present is asked of the whole store.
 fn before_cell(member: Option<&Member>, reading: Reading) -> Option<Cell> {
     match (member, reading) {
         (Some(member), _) => of_kind(member.kind, reading),

@@ -1,8 +1,12 @@
 //! The generator itself: its valid benches are accepted, its cases draw every answer of the table, a seed makes a case again.
 
 use second::generate::bench::{bench, render, LARGE, LOOSE, SMALL};
+use second::generate::case::Call;
 use second::generate::prng::Prng;
+use second::generate::states::odd_state;
+use second::image::{decode_state, state_bytes};
 use second::interpreter::accept;
+use second::interpreter::grammar::Sort;
 use second::memory::{self, Tally};
 use second::{generate, show};
 
@@ -34,6 +38,42 @@ fn cases_draw_every_answer() {
     let taken = tally.answers[&0];
     assert!(taken * 4 > tally.calls, "only {taken} of {} calls were accepted", tally.calls);
     assert!(tally.fired * 20 > taken, "only {} of {taken} accepted calls fired", tally.fired);
+}
+
+/// Catches a generator whose states never have an attribute unset one cycle before, or all of them, at an entity that was absent; and one
+/// that never unsets one at an entity that was present, which alone makes it no state.
+#[test]
+fn states_vary_one_cycle_before() {
+    let mut prng = Prng::new(5);
+    let (mut all_unset, mut some_set, mut refused) = (0, 0, 0);
+    for _ in 0..2_000 {
+        let plan = bench(&mut prng, SMALL);
+        let text = render(&mut prng, &plan.words);
+        let bench = accept(&text).expect("valid benches are accepted");
+        let count = bench.entities.len();
+        let Call::SetState { at: 0, bytes: mut memory } = odd_state(&mut prng, &text, count, &mut 0) else { continue };
+        if memory.len() != state_bytes(count) {
+            continue;
+        }
+        if let Some(state) = decode_state(&bench, &memory) {
+            for entity in (0..count).filter(|&entity| !state.before.present[entity]) {
+                let cells = bench.members_of(entity).iter().zip(&state.before.cells[entity]);
+                let set: Vec<bool> = cells.filter(|(member, _)| member.sort == Sort::Attribute).map(|(_, cell)| cell.is_some()).collect();
+                all_unset += usize::from(set.contains(&false) && !set.contains(&true));
+                some_set += usize::from(set.contains(&false) && set.contains(&true));
+            }
+            continue;
+        }
+        // A state as soon as one entity was absent: nothing else is wrong.
+        for flag in 4 + count..4 + 2 * count {
+            if memory[flag] == 1 {
+                memory[flag] = 0;
+                refused += usize::from(decode_state(&bench, &memory).is_some());
+                memory[flag] = 1;
+            }
+        }
+    }
+    assert!(all_unset >= 15 && some_set >= 15 && refused >= 15, "{all_unset} all unset, {some_set} some set, {refused} refused");
 }
 
 /// Catches a generator that draws from something else than its seed, and one that ignores the seed or the number.

@@ -152,6 +152,48 @@ fn attributes_are_set_now() {
     assert_eq!(memory.row() & 255, 0);
 }
 
+/// A fresh state of two entities with two attributes each, whose store one cycle before then has these flags and these cells set.
+/// Gives the answers of `bench_row` and of a line, which leaves all as lent if it is refused.
+fn attributes_before(present: [u8; 2], set: [[bool; 2]; 2]) -> (u64, u64) {
+    let text =
+        b"interface I { attribute a : whole attribute b : bool } entity e : I { a = 1 b = true } entity f : I { a = 2 b = true } rules end";
+    let mut memory = pedal();
+    assert_eq!(bench_check(text, &mut memory.bench), 0);
+    assert_eq!(state_fresh(&memory.bench, &mut memory.state), 0);
+    memory.state[6..8].copy_from_slice(&present);
+    for (entity, [a, b]) in set.into_iter().enumerate() {
+        let cell = 10 + 216 + entity * 108;
+        memory.state[cell] = u8::from(a);
+        memory.state[cell + 9] = 2 * u8::from(b);
+    }
+    let (state, row) = (memory.state.clone(), memory.row() & 255);
+    let line = bench_line(&memory.bench, &mut memory.state, b"n", b"1", &mut memory.row) & 255;
+    assert!(line == 0 || memory.state == state);
+    (row, line)
+}
+
+#[test]
+fn attributes_are_set_before_where_present() {
+    let (both, none) = ([true; 2], [false; 2]);
+    assert_eq!(attributes_before([1, 1], [both, both]), (0, 0));
+    assert_eq!(attributes_before([1, 1], [[false, true], both]), (33, 33));
+    assert_eq!(attributes_before([1, 1], [[true, false], both]), (33, 33));
+    assert_eq!(attributes_before([1, 1], [both, [true, false]]), (33, 33));
+    assert_eq!(attributes_before([1, 1], [none, none]), (33, 33));
+    // The flag of the same entity counts, not that of another.
+    assert_eq!(attributes_before([1, 0], [both, none]), (0, 0));
+    assert_eq!(attributes_before([0, 1], [both, none]), (33, 33));
+    assert_eq!(attributes_before([1, 0], [none, both]), (33, 33));
+}
+
+#[test]
+fn attributes_may_be_unset_before_where_absent() {
+    for set in [[false, false], [true, false], [false, true], [true, true]] {
+        assert_eq!(attributes_before([0, 0], [set, [false, false]]), (0, 0));
+        assert_eq!(attributes_before([0, 1], [set, [true, true]]), (0, 0));
+    }
+}
+
 #[test]
 fn refused_lines_leave_every_byte() {
     let mut memory = pedal();

@@ -27,14 +27,18 @@ pub fn odd_state(prng: &mut Prng, text: &[u8], entities: usize, number: &mut u64
     }
 }
 
-/// A random state of the bench, now and then with one cell spoilt.
+/// A random state of the bench, now and then with one cell spoilt or one attribute unset that had to be set one cycle before.
 fn any_state(prng: &mut Prng, text: &[u8], number: &mut u64) -> Call {
     let Ok(bench) = accept(text) else { return Call::SetState { at: 0, bytes: prng.bytes(4) } };
-    let state = random_state(prng, &bench);
+    let mut state = random_state(prng, &bench);
+    let unset = prng.chance(20);
+    if unset {
+        unset_before(prng, &bench, &mut state.before);
+    }
     *number = u64::from(state.number);
     let mut bytes = vec![0; state_bytes(bench.entities.len())];
     image::encode_state(&state, &mut bytes);
-    if prng.chance(40) {
+    if !unset && prng.chance(40) {
         spoil(prng, bench.entities.len(), &mut bytes);
     }
     Call::SetState { at: 0, bytes }
@@ -45,20 +49,39 @@ fn random_state(prng: &mut Prng, bench: &Bench) -> State {
     State { number, now: store(prng, bench, false), before: store(prng, bench, true), last: readings(prng, bench) }
 }
 
-fn each<T>(prng: &mut Prng, bench: &Bench, make: impl Fn(&mut Prng, &Member) -> T) -> Vec<Vec<T>> {
-    let row = |entity| bench.members_of(entity).iter().map(|member| make(prng, member)).collect();
+/// Gives `make` the number of the entity and its member.
+fn each<T>(prng: &mut Prng, bench: &Bench, make: impl Fn(&mut Prng, usize, &Member) -> T) -> Vec<Vec<T>> {
+    let row = |entity| bench.members_of(entity).iter().map(|member| make(prng, entity, member)).collect();
     (0..bench.entities.len()).map(row).collect()
 }
 
-fn store(prng: &mut Prng, bench: &Bench, attributes_unset: bool) -> Store {
-    let present = bench.entities.iter().map(|_| prng.chance(75)).collect();
-    let cells = each(prng, bench, |prng, member| cell(prng, member, attributes_unset));
+/// Attributes are set, except some of entities that were absent one cycle before.
+fn store(prng: &mut Prng, bench: &Bench, before: bool) -> Store {
+    let present: Vec<bool> = bench.entities.iter().map(|_| prng.chance(75)).collect();
+    let cells = each(prng, bench, |prng, entity, member| cell(prng, member, before && !present[entity]));
     Store { present, cells }
 }
 
 fn cell(prng: &mut Prng, member: &Member, attributes_unset: bool) -> Cell {
-    let may_be_unset = attributes_unset || member.sort != Sort::Attribute;
-    (!may_be_unset || prng.chance(70)).then(|| value(prng, member.kind))
+    let set = match (member.sort, attributes_unset) {
+        (Sort::Attribute, false) => 100,
+        (Sort::Attribute, true) => 35,
+        _ => 70,
+    };
+    prng.chance(set).then(|| value(prng, member.kind))
+}
+
+/// Unsets one attribute of an entity that is present in the store one cycle before, if there is one: this is no state.
+fn unset_before(prng: &mut Prng, bench: &Bench, before: &mut Store) {
+    let mut attributes = Vec::new();
+    for entity in (0..bench.entities.len()).filter(|&entity| before.present[entity]) {
+        let members = bench.members_of(entity).iter().enumerate();
+        attributes.extend(members.filter(|(_, member)| member.sort == Sort::Attribute).map(|(at, _)| (entity, at)));
+    }
+    if !attributes.is_empty() {
+        let (entity, member) = *prng.pick(&attributes);
+        before.cells[entity][member] = None;
+    }
 }
 
 fn value(prng: &mut Prng, kind: Kind) -> Value {
@@ -71,7 +94,7 @@ fn value(prng: &mut Prng, kind: Kind) -> Value {
 
 fn readings(prng: &mut Prng, bench: &Bench) -> Readings {
     let presence = bench.entities.iter().map(|_| *prng.pick(&[None, None, Some(true), Some(false)])).collect();
-    let reading = |prng: &mut Prng, member: &Member| match prng.below(4) {
+    let reading = |prng: &mut Prng, _: usize, member: &Member| match prng.below(4) {
         _ if member.sort != Sort::Event => Reading::NotRead,
         0 => Reading::NotRead,
         1 => Reading::Unset,
