@@ -5,7 +5,8 @@ ghost use Prim.Native.Nat.{_-_};
 ghost use lib.ListN.{length};
 ghost use Rattle.checking.specs.definitions.Faults.{earliest};
 ghost use Rattle.checking.specs.contracts.FoundFaults.{found-as};
-ghost use Rattle.checking.specs.definitions.CountFaults.{MOST-INTERFACES, MOST-MEMBERS, MOST-ENTITIES, MOST-RULES, MOST-VARIABLES, MOST-CLAUSES, MOST-CALLS};
+ghost use Rattle.checking.specs.definitions.CountFaults.{MOST-INTERFACES, MOST-MEMBERS, MOST-ENTITIES, MOST-RULES, MOST-VARIABLES};
+ghost use Rattle.checking.specs.definitions.CountFaults.{MOST-CLAUSES, MOST-CALLS};
 ghost use Rattle.checking.specs.contracts.CountScan.{past, declared-scan, ruled-scan};
 ghost use Rattle.checking.specs.contracts.CountChecked.{Count-checked};
 use crate::faults::Found;
@@ -53,7 +54,9 @@ fn over(offsets: &[u16], left: usize, i: usize) -> Found
 
 // Interfaces, their members, and entities: of the tokens before number `end`.
 fn declaration_fault(classes: &[u8], offsets: &[u16], end: usize) -> Found
-    ensures { λ r. ⌜ found-as r ≡ earliest (declared-scan (now (classes .entry)) (now (offsets .entry)) end 0 MOST-INTERFACES MOST-MEMBERS MOST-ENTITIES) ⌝ }
+    ensures { λ r. ⌜
+        found-as r
+        ≡ earliest (declared-scan (now (classes .entry)) (now (offsets .entry)) end 0 MOST-INTERFACES MOST-MEMBERS MOST-ENTITIES) ⌝ }
 {
     let mut interfaces: usize = MOST_INTERFACES;
     let mut members: usize = MOST_MEMBERS;

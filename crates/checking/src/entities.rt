@@ -1,6 +1,8 @@
 // The entities of a file: each one's interface by its number, and the faults of their names and kinds.
 ghost use mathlib.Core.Path.{_≡_};
-ghost use Rattle.checking.specs.contracts.DeclarationWalk.{Entities-linked, literal-class, Assignment-end, Sets, Attribute-member, Attribute-found, Kind-found, Assignments-found, Unset-found, Entity-found, Entities-found};
+ghost use Rattle.checking.specs.contracts.DeclarationWalk.{Entities-linked, literal-class, Assignment-end, Sets, Attribute-member};
+ghost use Rattle.checking.specs.contracts.DeclarationWalk.{Attribute-found, Kind-found, Assignments-found, Unset-found, Entity-found};
+ghost use Rattle.checking.specs.contracts.DeclarationWalk.{Entities-found};
 use crate::faults::Faulted;
 use crate::faults::Found;
 use crate::faults::earlier;

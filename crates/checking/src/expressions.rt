@@ -1,8 +1,10 @@
 // Names and kinds of expressions, by a walk that gives an expression's kind and its earliest faults.
 ghost use mathlib.Core.Path.{_≡_};
 ghost use Rattle.text.specs.definitions.Readers.{halt};
-ghost use Rattle.text.specs.definitions.Grammar.{member-reader, simple-or, factor-reader, term-reader, expression-reader, is-factor-operator, is-term-operator};
-ghost use Rattle.checking.specs.contracts.RuleParts.{Kinds-fit, Operands-fit, Operated-kind, Literal-checked, Closed-checked, Real-checked, Negated-checked};
+ghost use Rattle.text.specs.definitions.Grammar.{member-reader, simple-or, factor-reader, term-reader, expression-reader, is-factor-operator};
+ghost use Rattle.text.specs.definitions.Grammar.{is-term-operator};
+ghost use Rattle.checking.specs.contracts.RuleParts.{Kinds-fit, Operands-fit, Operated-kind, Literal-checked, Closed-checked, Real-checked};
+ghost use Rattle.checking.specs.contracts.RuleParts.{Negated-checked};
 ghost use Rattle.checking.specs.contracts.RuleParts.{Applied-checked, Expression-walk};
 use crate::faults::Found;
 use crate::faults::earlier;

@@ -109,7 +109,8 @@ fn see_cells(
         × (ENTITY-CELL-BYTES * n ≤ length (now out)) ⌝ }
     ensures { λ _. ⌜
         Values-put (now (classes .entry)) (now (d .entry))
-        (seen-value (now (present .entry)) (now (seen .entry)) (now (cells .entry)) (now (inputs .entry))) (ENTITY-CELLS * n) (now (out .entry)) (now (out .exit)) ⌝ }
+        (seen-value (now (present .entry)) (now (seen .entry)) (now (cells .entry)) (now (inputs .entry))) (ENTITY-CELLS * n)
+        (now (out .entry)) (now (out .exit)) ⌝ }
 {
     let end = ENTITY_CELLS * n;
     let mut i = 0;
