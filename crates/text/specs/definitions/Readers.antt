@@ -1,4 +1,4 @@
--- Readers of tokens, and how they are put together. A reader looks at the tokens that it takes and at the next one.
+-- Parsers of tokens (`..-reader`), and how they are put together. A parser looks at the tokens that it takes and at the next one.
 use Prim.Native.Nat.{ℕ, zero, suc, _+_}
 use mathlib.Core.List.{List, [], _∷_, _++_}
 use mathlib.Core.Bool.{Bool, true, false}
