@@ -213,6 +213,16 @@ static void start_pedal(void)
     put_text(&values, "1 false 100");
 }
 
+/* Lines and their rows: each line gives its row, and then the state does. */
+static void check_rows(const char *const rows[][2], size_t count)
+{
+    for (size_t i = 0; i < count; i++) {
+        put_text(&values, rows[i][0]);
+        check_row(line(), rows[i][1]);
+        check_row(state_row(), rows[i][1]);
+    }
+}
+
 static void pedal_rows(void)
 {
     static const char *const rows[][2] = {
@@ -222,14 +232,26 @@ static void pedal_rows(void)
     start_pedal();
     check_row(header(), "n k.keep");
     check_row(state_row(), "0 -");
-    for (size_t i = 0; i < sizeof rows / sizeof rows[0]; i++) {
-        put_text(&values, rows[i][0]);
-        check_row(line(), rows[i][1]);
-        check_row(state_row(), rows[i][1]);
-    }
+    check_rows(rows, sizeof rows / sizeof rows[0]);
     put_text(&values, "4 - -");
     check_answer(line(), 24, 0, "an old number");
     check_row(state_row(), "5 190");
+}
+
+/* A lamp that is plugged in late: the clause's `with` reads this line, so it fires at once, and once. */
+static void lamp_joins_late(void)
+{
+    static const char *const rows[][2] = {
+        {"1 false -", "1 -"}, {"2 true true", "2 2"}, {"3 - true", "3 -"}, {"3 - true", "3 -"}, {"4 - false", "4 -"},
+    };
+    lend_exact();
+    state_used = STATE_USED(1);
+    put_text(&text, "interface Lamp { attribute bay : whole event switch : bool action glow ( whole ) } entity east : Lamp { bay = 2 } "
+                    "rules when event switch from east with bay = 2 value = true trigger action glow ( east.bay ) on east end end");
+    check_answer(checked(), 0, 0, "the bench of a lamp is accepted");
+    check_answer(fresh(), 0, 0, "its fresh state, with the lamp there");
+    put_text(&names, "n east east.switch");
+    check_rows(rows, sizeof rows / sizeof rows[0]);
 }
 
 /* Memory longer than stated: the bytes past the size stay. */
@@ -497,6 +519,7 @@ int main(void)
     make(&row, BENCH_ROW_SIZE + 200);
     for (lend_at_start = 0; lend_at_start < 2; lend_at_start++) {
         pedal_rows();
+        lamp_joins_late();
         longer_memory();
         short_memory();
         refused_texts();

@@ -1,9 +1,11 @@
-"""An executable reading of document 01 ("The Pantagruel bench engine").
+"""An executable reading of document 01 ("The Pantagruel bench engine") with order 1
+of document 02 ("Requests that came later"); no later order is in force here.
 
-The module follows the order of the document: values and sums, words, grammar,
+The module follows the order of document 01: values and sums, words, grammar,
 counts, names, kinds, the bare machine, lines of readings, the runner.  It aims
-at being easy to compare with the text, not at speed.  "Readings" below is the
-page that decides the document's open points.
+at being easy to compare with the text, not at speed.  "Readings" below are the pages
+that decide the documents' open points.  A quotation is document 01's unless
+document 02 or Readings is named beside it.
 
 Public: check, Bench, run, main.
 """
@@ -1202,8 +1204,10 @@ class Machine:
         entity = meaning[clause.target.name.text]
         if not now.present[entity]:
             return False  # "A clause at an absent entity is false"
-        if not self.passes(clause.filter, entity, meaning, before):
-            return False  # "A clause's `with` reads the cycle before"
+        # Document 02, order 1: "From now on a clause's `with` reads the present cycle, as a call's does"
+        if not self.passes(clause.filter, entity, meaning, now):
+            return False
+        # Document 02, order 1: "`value = X` and `changed` still compare two cycles"
         value_now = now.read(entity, clause.event.text)
         value_before = before.read(entity, clause.event.text)
         if clause.test is None:
@@ -1213,10 +1217,11 @@ class Machine:
         wanted_before = self.evaluate(clause.test.wanted, meaning, before)
         return equal(value_now, wanted_now) and not equal(value_before, wanted_before)
 
-    def passes(self, chosen: Optional[Filter], entity: int, meaning: Dict[bytes, int], store: Store) -> bool:
+    def passes(self, chosen: Optional[Filter], entity: int, meaning: Dict[bytes, int], now: Store) -> bool:
+        """The `with` of a clause or of a call: attribute and sum are both read now."""
         if chosen is None:
             return True
-        return equal(store.read(entity, chosen.attribute.text), self.evaluate(chosen.wanted, meaning, store))
+        return equal(now.read(entity, chosen.attribute.text), self.evaluate(chosen.wanted, meaning, now))
 
     def call_writes(self, call: Call, meaning: Dict[bytes, int], now: Store) -> List[Tuple[Tuple[int, bytes], Value]]:
         """ "a call's `with` and parameter read now"; "a call there [absent] writes nothing";

@@ -1,8 +1,9 @@
 """Makes cases.json: bench texts and readings with the results of bench_oracle.
 
 Every stored result comes from bench_oracle; next to each written case stands the
-result worked out by hand from document 01, and the two must agree.  In a refused
-bench text the mark @ (no byte of any such text otherwise) shows the expected place.
+result worked out by hand from document 01 with order 1 of document 02, and the two
+must agree.  In a refused bench text the mark @ (no byte of any such text otherwise)
+shows the expected place.
 
 `python3 tests/oracle/make_cases.py`, or with --check, compares: it fails, and names
 the first case that differs, if cases.json is not what is made here.  --write writes it.
@@ -675,21 +676,21 @@ def make_clauses():
         ],
     )
     ran(
-        "run-clause-filter-reads-before",
+        "run-clause-filter-reads-now",
         "interface G { event t : whole } interface S { attribute id : whole event v : whole action k ( whole ) } "
         "entity g : G { } entity s : S { id = 7 } "
         "rules when event v from s with id = g.t value changed trigger action k ( s.v ) on s end end",
         [
             ("n g.t s.v s", "n s.k"),
-            ("1 7 1 -", "1 -"),
-            ("2 8 2 -", "2 2"),
-            ("3 7 3 -", "3 -"),
+            ("1 7 1 -", "1 1"),
+            ("2 8 2 -", "2 -"),
+            ("3 7 3 -", "3 3"),
             ("4 - 4 -", "4 4"),
             ("5 - - false", "5 -"),
-            ("6 - 5 true", "6 -"),
+            ("6 - 5 true", "6 5"),
             ("7 - 6 -", "7 6"),
-            ("8 ? 7 -", "8 7"),
-            ("9 7 8 -", "9 -"),
+            ("8 ? 7 -", "8 -"),
+            ("9 7 8 -", "9 8"),
         ],
     )
     ran(
@@ -730,6 +731,148 @@ def make_clauses():
             ("7 false false true", "7 - -"),
             ("8 false true true", "8 - -"),
             ("9 true - -", "9 1 -"),
+        ],
+    )
+
+
+# --------------------------------------------------------------------------
+# Readings: a clause's `with` (document 02, order 1)
+# --------------------------------------------------------------------------
+
+
+def make_filters():
+    # p, of bay 2, fires in the line in which it joins, once; q, of bay 3, never
+    ran(
+        "run-filter-lamp-joins-late",
+        "interface Lamp { attribute bay : whole event seen : bool action one ( whole ) action any ( whole ) } "
+        "entity p : Lamp { bay = 2 } entity q : Lamp { bay = 3 } "
+        "rules when event seen from p with bay = 2 value = true trigger action one ( 1 ) on p end "
+        "when event seen from q with bay = 2 value = true trigger action one ( 1 ) on q end "
+        "when event seen from l : Lamp with bay = 2 value changed trigger action any ( l.bay ) on l end end",
+        [
+            ("n p q p.seen q.seen", "n p.one p.any q.one q.any"),
+            ("1 false false - -", "1 - - - -"),
+            ("2 true true true true", "2 1 2 - -"),
+            ("3 - - true true", "3 - - - -"),
+            ("4 false - - false", "4 - - - -"),
+            ("5 true - true true", "5 1 2 - -"),
+            ("6 - - - -", "6 - - - -"),
+            ("7 false - - -", "7 - - - -"),
+            # joins without a reading: its event was unset as it left, so nothing changes yet
+            ("8 true - - -", "8 - - - -"),
+            ("9 - - true -", "9 1 2 - -"),
+            ("10 - - false -", "10 - 2 - -"),
+        ],
+    )
+    # 14 / g.t is 7 only for 2 (4 for 3); it is unset for 0 and for unset
+    ran(
+        "run-filter-sum-of-the-line",
+        "interface G { event t : whole } interface S { attribute id : whole event v : whole action c ( whole ) action e ( whole ) } "
+        "entity g : G { } entity s : S { id = 7 } "
+        "rules when event v from s with id = 14 / g.t value changed trigger action c ( s.v ) on s end "
+        "when event v from s with id = 14 / g.t value = 5 trigger action e ( g.t ) on s end end",
+        [
+            ("n g.t s.v", "n s.c s.e"),
+            ("1 2 0", "1 0 -"),
+            # 7 before, 4 now
+            ("2 3 5", "2 - -"),
+            ("3 - 0", "3 - -"),
+            # 4 before, 7 now
+            ("4 2 5", "4 5 2"),
+            ("5 - 0", "5 0 -"),
+            # 7 before, unset now
+            ("6 0 5", "6 - -"),
+            ("7 - 0", "7 - -"),
+            # unset before, 7 now
+            ("8 2 5", "8 5 2"),
+            ("9 - 0", "9 0 -"),
+            ("10 ? 5", "10 - -"),
+            ("11 2 6", "11 6 -"),
+        ],
+    )
+    # the filter is no part of what the two cycles are compared by
+    ran(
+        "run-filter-compares-two-cycles",
+        "interface S { attribute id : whole event f : whole event v : whole event w : whole "
+        "action c ( whole ) action e ( whole ) } entity s : S { id = 1 } "
+        "rules when event v from s with id = s.f value changed trigger action c ( s.v ) on s end "
+        "when event v from s with id = s.f value = s.w trigger action e ( s.w ) on s end end",
+        [
+            ("n s.f s.v s.w", "n s.c s.e"),
+            ("1 0 5 5", "1 - -"),
+            # the filter starts to hold, but v was 5 and equal to w already
+            ("2 1 5 5", "2 - -"),
+            # v and w go together: equal before by the w of then
+            ("3 - 6 6", "3 6 -"),
+            ("4 - - 7", "4 - -"),
+            # v takes the w of before, which is no longer w
+            ("5 - 7 8", "5 7 -"),
+            # w comes to v: not equal before by the w of then
+            ("6 - - 7", "6 - 7"),
+            ("7 0 8 8", "7 - -"),
+            # equal before, though the filter did not hold there
+            ("8 1 9 9", "8 9 -"),
+            ("9 0 ? ?", "9 - -"),
+            # two unset values were not equal
+            ("10 1 4 4", "10 4 4"),
+        ],
+    )
+    # an action fired in one line is what a filter reads in the next line, and only there
+    ran(
+        "run-filter-reads-action-one-cycle-later",
+        "interface H { event t : whole action pick ( whole ) } "
+        "interface Lamp { attribute bay : whole event seen : bool action lit ( whole ) } "
+        "entity h : H { } entity p : Lamp { bay = 2 } entity q : Lamp { bay = 3 } "
+        "rules when event t from h value changed trigger action pick ( h.t ) on h end "
+        "when event seen from l : Lamp with bay = h.pick value changed trigger action lit ( h.pick ) on l end end",
+        [
+            ("n h.t p.seen q.seen", "n h.pick p.lit q.lit"),
+            ("1 2 true true", "1 2 - -"),
+            ("2 3 false false", "2 3 2 -"),
+            ("3 - true true", "3 - - 3"),
+            ("4 - false false", "4 - - -"),
+            ("5 2 true true", "5 2 - -"),
+            ("5 2 true true", "5 2 - -"),
+            ("6 - true false", "6 - - -"),
+            ("7 3 false true", "7 3 - -"),
+            ("8 - true false", "8 - - 3"),
+        ],
+    )
+    # nothing fires at a lamp that leaves; of an absent one the filter's sum reads unset
+    ran(
+        "run-filter-lamp-leaves",
+        "interface O { action o ( whole ) action p ( whole ) action q ( whole ) } "
+        "interface Lamp { attribute bay : whole event seen : bool } "
+        "entity a : Lamp { bay = 2 } entity b : Lamp { bay = 5 } entity z : O { } "
+        "rules when event seen from a with bay = 2 value changed trigger action o ( 1 ) on z end "
+        "when event seen from l : Lamp with bay = 2 value changed trigger action p ( 1 ) on z end "
+        "when event seen from b with bay = a.bay + 3 value changed trigger action q ( 1 ) on z end end",
+        [
+            ("n a a.seen b.seen", "n z.o z.p z.q"),
+            ("1 - true true", "1 1 1 1"),
+            ("2 false - false", "2 - - -"),
+            ("3 - - true", "3 - - -"),
+            ("4 true - false", "4 - - 1"),
+            ("5 - true -", "5 1 1 -"),
+            ("6 false - -", "6 - - -"),
+            ("7 true false true", "7 1 1 1"),
+        ],
+    )
+    # the filter's sum reads another variable, whose lamp may be the one that joins
+    ran(
+        "run-filter-reads-variable-that-joins",
+        "interface Lamp { attribute bay : whole attribute next : whole event seen : bool action lit ( whole ) } "
+        "entity p : Lamp { bay = 1 next = 2 } entity q : Lamp { bay = 2 next = 1 } "
+        "rules when event seen from x : Lamp with next = y.bay value = true trigger action lit ( x.bay ) on y : Lamp end end",
+        [
+            ("n p q p.seen q.seen", "n p.lit q.lit"),
+            ("1 - false true -", "1 - -"),
+            ("2 - true - true", "2 2 -"),
+            ("3 - - false false", "3 - -"),
+            ("4 - - true true", "4 2 1"),
+            ("5 false - - false", "5 - -"),
+            ("6 true - - true", "6 2 -"),
+            ("7 - - true -", "7 - 1"),
         ],
     )
 
@@ -919,7 +1062,7 @@ def make_random():
 
 
 # --------------------------------------------------------------------------
-# Facts of document 01 checked without a stored case
+# Facts of the documents checked without a stored case
 # --------------------------------------------------------------------------
 
 
@@ -929,7 +1072,7 @@ def one_action(parameter, kind="whole"):
 
 
 def check_trials():
-    """Every trial case of document 01, P or not."""
+    """Every trial case of document 01, P or not, except the one that document 02 drops."""
     table = [
         ("n p.down s.pos", "n k.keep"),
         ("1 false 100", "1 -"),
@@ -950,11 +1093,12 @@ def check_trials():
     assert one_action("1r / 3r", "real") == b"3fd5555555555555"
     keep = PEDAL.replace("action keep ( s.pos ) on k", "action keep ( 1 ) on k , action keep ( 2 ) on k")
     assert run(keep.encode(), b"n p.down\n1 true\n") == b"n k.keep\n1 2\n"
-    for clause in ("value changed", "value = 1"):
+    # document 02, order 1: "The case [...] that any such test is false in cycle 1 is dropped"; its bench fires there
+    for clause, row_of_two in (("value changed", b"1 2\n"), ("value = 1", b"1 -\n")):
         text = PLAIN.replace("from s value changed", "from s with a = 1 " + clause)
         assert check(text.encode()) == (0, 0)
-        assert run(text.encode(), b"n s.e\n1 1\n") == b"n s.k\n1 -\n"
-        assert run(text.encode(), b"n s.e\n1 2\n2 1\n") == b"n s.k\n1 -\n2 1\n"
+        assert run(text.encode(), b"n s.e\n1 1\n") == b"n s.k\n1 1\n"
+        assert run(text.encode(), b"n s.e\n1 2\n2 1\n") == b"n s.k\n" + row_of_two + b"2 1\n"
     bench = Bench(b"rules end")
     fresh = bench.fresh()
     code, row, following = bench.line(fresh, b"n", b"1")
@@ -1004,7 +1148,7 @@ def check_missing_columns():
 
 def check_folder_of_cases():
     """What the list must hold."""
-    assert 70 <= len(CASES) <= 90, len(CASES)
+    assert 70 <= len(CASES) <= 100, len(CASES)
     codes = [case["check"][0] for case in CASES if case["readings"] is None]
     assert codes.count(0) >= 3
     for code in range(12, 19):
@@ -1028,6 +1172,7 @@ def make_all():
     make_presence()
     make_writes()
     make_clauses()
+    make_filters()
     make_actions()
     make_sums()
     make_random()

@@ -1,7 +1,7 @@
 """Makes the cases that the program `trials` runs: crates/trials/args, data/NAME/{bench.txt,readings.txt} and stdout.
 
 They are the stored cases of cases.json, and further ones of this file: limits at and beyond them, missing, empty and long files. What
-is printed comes from bench_oracle.py; next to each case of this file stands what document 01 gives, worked out by hand, and the two must
+is printed comes from bench_oracle.py; next to each case of this file stands what the documents give, worked out by hand, and the two must
 agree. `python3 tests/oracle/to_program.py`, or with --check, compares: it fails if the files are not what they should be. --write writes
 them.
 """
@@ -57,7 +57,7 @@ def add_stored():
 
 
 # --------------------------------------------------------------------------
-# Trial cases of document 01 that have no stored case of their own
+# Trial cases of document 01, as document 02 amends them, that have no stored case of their own
 # --------------------------------------------------------------------------
 
 PLAIN = (
@@ -78,7 +78,7 @@ def add_trials():
     for name, test in ((b"changed", b"value changed"), (b"equal", b"value = s.e")):
         text = PLAIN.replace(b"from s value changed", b"from s with a = 1 " + test)
         row = b"2 8" if name == b"changed" else b"2 -"
-        add("trial-with-" + name.decode(), text, lines(b"n s.e", b"1 7", b"2 8"), lines(b"n s.k", b"1 -", row))
+        add("trial-with-" + name.decode(), text, lines(b"n s.e", b"1 7", b"2 8"), lines(b"n s.k", b"1 7", row))
     add("trial-16-interfaces", interfaces(16) + b"rules end", lines(b"n", b"1"), lines(b"n", b"1"))
     seventeen = interfaces(17) + b"rules end"
     add("trial-17-interfaces", seventeen, None, b"refused 14 %d\n" % seventeen.rindex(b"interface"))
@@ -208,7 +208,7 @@ PART = 65536  # as many bytes as a runner may read, or gather before it prints, 
 
 
 class Table:
-    """Readings and, line by line, what document 01 prints for them."""
+    """Readings and, line by line, what is to be printed for them."""
 
     def __init__(self, names, row):
         self.columns = names.count(b" ")

@@ -1,4 +1,4 @@
--- What document 01 speaks of: the definitions that a reader has to believe.
+-- What the documents speak of: the definitions that a reader has to believe.
 pub mod Outcome
 pub mod Store
 pub mod Spots

@@ -166,17 +166,8 @@ fn clause(
     let target = skip(from, size);
     let e = bound(b, owner(refs, target));
     let m = member(refs, name);
-    let f = filter(
-        classes,
-        values,
-        refs,
-        b,
-        previous_flags,
-        previous_cells,
-        e,
-        target_end(classes, target),
-        depth,
-    );
+    let end = target_end(classes, target);
+    let f = filter(classes, values, refs, b, flags, cells, e, end, depth);
     let t = test(
         classes,
         values,

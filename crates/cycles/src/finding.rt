@@ -5,12 +5,16 @@ ghost use lib.ListN.{length};
 ghost use Rattle.text.specs.definitions.Syntax.{OPENERS};
 ghost use Rattle.text.specs.definitions.Grammar.{clause-reader, atom-reader, conjunction-reader};
 ghost use Rattle.checking.specs.definitions.CountFaults.{MOST-VARIABLES};
-ghost use Rattle.cycles.specs.contracts.Guards.{ALL-GUARD-ROWS, Covered, Guards-found};
+ghost use Rattle.cycles.specs.contracts.Guards.{CELL-CHANGES, ALL-GUARD-ROWS, Covered, Guards-found};
 ghost use Rattle.cycles.specs.contracts.Finding.{Guard-put, Part-put, Filter-guards-walk, Test-guards-walk, Condition-guards-walk, Call-guarded};
 use crate::conditions::target_end;
 use crate::evaluate::owner;
+use crate::layout::CELL_CHANGES_8;
+use crate::layout::EQUAL_NOW_8;
+use crate::layout::GROUP_HOLDS_8;
 use crate::layout::GUARD_ROWS;
 use crate::layout::MOST_GUARDS;
+use crate::layout::UNEQUAL_BEFORE_8;
 use checking::layout::FIRST_VARIABLE_8;
 use checking::layout::MOST_VARIABLES_8;
 use text::classes::AND;
@@ -75,9 +79,9 @@ fn level_of(refs: &[u16], from: usize, to: usize) -> u8
 
 // The level of a guard's expression, by that of its tokens: 0 if it has none.
 fn inner_of(kind: u8, level: u8) -> u8
-    ensures { λ r. ⌜ (r ≤ level) × (kind < 3 → r ≡ level) ⌝ }
+    ensures { λ r. ⌜ (r ≤ level) × (kind < CELL-CHANGES → r ≡ level) ⌝ }
 {
-    if kind < 3 {
+    if kind < CELL_CHANGES_8 {
         return level;
     }
     0
@@ -111,8 +115,7 @@ fn put_guard(
     count + 1
 }
 
-// A guard about tokens number n and m, and those from number `at` up to `next`. Kinds: what tokens n and m name is equal to an expression now (0),
-// is equal to it before (1), is not (2), changes (3), or a condition in parentheses holds (4).
+// A guard about tokens number n and m, and those from number `at` up to `next`.
 fn put_part(
     refs: &[u16],
     kind: u8,
@@ -190,7 +193,17 @@ fn filter_guard(
     let inside = skip(skip(name, size), size);
     let next = expression_end(classes, inside);
     Found {
-        count: put_in_pass(refs, 1, n, name, inside, next, guards, count, dear),
+        count: put_in_pass(
+            refs,
+            EQUAL_NOW_8,
+            n,
+            name,
+            inside,
+            next,
+            guards,
+            count,
+            dear,
+        ),
         next,
     }
 }
@@ -214,14 +227,34 @@ fn test_guards(
     let inside = skip(at, classes.len());
     if class_at(classes, at) == CHANGED {
         return Found {
-            count: put_in_pass(refs, 3, n, m, inside, inside, guards, count, dear),
+            count: put_in_pass(
+                refs,
+                CELL_CHANGES_8,
+                n,
+                m,
+                inside,
+                inside,
+                guards,
+                count,
+                dear,
+            ),
             next: inside,
         };
     }
     let next = expression_end(classes, inside);
-    let first = put_in_pass(refs, 0, n, m, inside, next, guards, count, dear);
+    let first = put_in_pass(refs, EQUAL_NOW_8, n, m, inside, next, guards, count, dear);
     Found {
-        count: put_in_pass(refs, 2, n, m, inside, next, guards, first, dear),
+        count: put_in_pass(
+            refs,
+            UNEQUAL_BEFORE_8,
+            n,
+            m,
+            inside,
+            next,
+            guards,
+            first,
+            dear,
+        ),
         next,
     }
 }
@@ -281,7 +314,7 @@ fn atom_guards(
     }
     let next = atom_end(classes, at);
     Found {
-        count: put_in_pass(refs, 4, at, at, at, next, guards, count, dear),
+        count: put_in_pass(refs, GROUP_HOLDS_8, at, at, at, next, guards, count, dear),
         next,
     }
 }
@@ -337,7 +370,7 @@ fn call_guard(classes: &[u8], refs: &[u16], at: usize, guards: &mut [usize], cou
     if class_at(classes, next) == COMMA {
         return count;
     }
-    put_part(refs, 0, target, name, inside, next, guards, count)
+    put_part(refs, EQUAL_NOW_8, target, name, inside, next, guards, count)
 }
 
 // Finds the guards of the rule whose tokens after `when` begin at number `at`, and answers how many there are.

@@ -12,7 +12,11 @@ use crate::evaluate::owner;
 use crate::evaluate::read_cell;
 use crate::evaluate::with_entity;
 use crate::expressions::expression;
+use crate::layout::CELL_CHANGES;
+use crate::layout::EQUAL_NOW;
+use crate::layout::GROUP_HOLDS;
 use crate::layout::GUARD_ROWS;
+use crate::layout::UNEQUAL_BEFORE;
 use text::grammar::OPENERS;
 use values::Value;
 
@@ -232,8 +236,7 @@ fn unmark_group(
     }
 }
 
-// Takes the marks of those entities with which a guard of this kind fails, of tokens number n, m and `at`: 0 asks that a cell is equal to an
-// expression now, 1 that it is so before, 2 that it is not, 3 that the cell changes, 4 that a condition holds.
+// Takes the marks of those entities with which a guard of this kind fails, of tokens number n, m and `at`.
 fn narrow_by(
     classes: &[u8],
     values: &[u32],
@@ -260,7 +263,7 @@ fn narrow_by(
         (now («previous_flags» .entry)) (now («previous_cells» .entry)) inner n m at e kind)
         (now (marks .entry)) (now (marks .exit)) ⌝ }
 {
-    if kind == 4 {
+    if kind == GROUP_HOLDS {
         unmark_group(
             classes,
             values,
@@ -280,7 +283,7 @@ fn narrow_by(
     }
     let r = owner(refs, n);
     let i = member(refs, m);
-    if kind == 3 {
+    if kind == CELL_CHANGES {
         unmark_unchanged(
             b,
             flags,
@@ -296,7 +299,7 @@ fn narrow_by(
         );
         return;
     }
-    if kind == 0 {
+    if kind == EQUAL_NOW {
         unmark_by_value(
             classes,
             values,
@@ -316,7 +319,7 @@ fn narrow_by(
         );
         return;
     }
-    if 2 < kind {
+    if kind != UNEQUAL_BEFORE {
         return;
     }
     unmark_by_value(
@@ -330,7 +333,7 @@ fn narrow_by(
         r,
         i,
         at,
-        kind == 2,
+        true,
         level,
         first,
         end,

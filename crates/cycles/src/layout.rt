@@ -80,3 +80,23 @@ pub const GUARD_ROWS: usize = 4;
 pub const MOST_GUARDS: usize = 16;
 
 pub const ALL_GUARD_ROWS: usize = GUARD_ROWS * MOST_GUARDS;
+
+// The kinds of guards, those with an expression first: a cell is equal to an expression now,
+pub const EQUAL_NOW: usize = 0;
+
+pub const EQUAL_NOW_8: u8 = EQUAL_NOW as u8;
+
+// is not equal to it before,
+pub const UNEQUAL_BEFORE: usize = 1;
+
+pub const UNEQUAL_BEFORE_8: u8 = UNEQUAL_BEFORE as u8;
+
+// changes,
+pub const CELL_CHANGES: usize = 2;
+
+pub const CELL_CHANGES_8: u8 = CELL_CHANGES as u8;
+
+// or a condition in parentheses holds.
+pub const GROUP_HOLDS: usize = 3;
+
+pub const GROUP_HOLDS_8: u8 = GROUP_HOLDS as u8;

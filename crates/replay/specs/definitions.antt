@@ -1,3 +1,3 @@
--- What document 01 speaks of: the definitions that a reader has to believe.
+-- What the documents speak of: the definitions that a reader has to believe.
 pub mod Replay
 pub mod InChunks

@@ -1,2 +1,2 @@
--- What document 01 speaks of: the definitions that a reader has to believe.
+-- What the documents speak of: the definitions that a reader has to believe.
 pub mod Trials

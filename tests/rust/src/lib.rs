@@ -1,4 +1,5 @@
-//! A second interpreter of the Pantagruel bench engine, written from document 01 alone, and the means to compare it with the engine.
+//! A second interpreter of the Pantagruel bench engine, written from document 01 and order 1 of document 02 alone, and the means to
+//! compare it with the engine.
 //!
 //! What needs the engine's archive exists only with it: the interpreter is never compared with itself.
 

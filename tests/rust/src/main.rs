@@ -27,6 +27,7 @@ struct Report {
     proper: u64,
     proper_and_fired: u64,
     proper_fired_differing: u64,
+    proper_joining_differing: u64,
     pairs: u64,
 }
 
@@ -72,6 +73,7 @@ impl Report {
                 self.proper += u64::from(shown.proper);
                 self.proper_and_fired += u64::from(shown.proper && shown.fired);
                 self.proper_fired_differing += u64::from(shown.proper && shown.fired && shown.differing);
+                self.proper_joining_differing += u64::from(shown.proper && shown.fired_joining && shown.differing);
                 true
             }
             Verdict::Parts(case, mismatch) => self.show(number, &case, &mismatch),
@@ -107,8 +109,8 @@ impl Report {
         let counts: Vec<String> = NUMBERS.iter().map(|number| format!("{number}: {}", self.count(*number))).collect();
         println!("answers: {}", counts.join(", "));
         println!(
-            "two runs: {} trials ({} void), {} pairs of accepted lines; {} with a nonempty proper closed set, {} of these with a fired action of the set, {} of these with other readings elsewhere",
-            self.trials, self.void, self.pairs, self.proper, self.proper_and_fired, self.proper_fired_differing
+            "two runs: {} trials ({} void), {} pairs of accepted lines; {} with a nonempty proper closed set, {} of these with a fired action of the set, {} of these with other readings elsewhere, {} of these with an action fired in a line in which an entity of the set comes",
+            self.trials, self.void, self.pairs, self.proper, self.proper_and_fired, self.proper_fired_differing, self.proper_joining_differing
         );
     }
 
@@ -126,6 +128,10 @@ impl Report {
         }
         if self.proper_fired_differing < (cases / 200).max(1) {
             println!("too few trials of two runs had a nonempty proper closed set, a fired action and other readings elsewhere");
+            complete = false;
+        }
+        if self.proper_joining_differing < (cases / 200).max(1) {
+            println!("too few of such trials had an action of the set fired in a line in which an entity of the set comes");
             complete = false;
         }
         complete

@@ -16,6 +16,9 @@ use crate::memory::Tally;
 use crate::show::show_bytes;
 use crate::thin;
 
+/// In so many of a hundred lines an entity of the set comes with its readings, or goes so that it can come later.
+const SWITCH_PERCENT: usize = 30;
+
 /// Names and values of one call.
 type Lent = (Vec<u8>, Vec<u8>);
 
@@ -54,6 +57,8 @@ pub struct Shown {
     pub proper: bool,
     /// Some action of the set fired.
     pub fired: bool,
+    /// Some action of the set fired in a line in which an entity of the set came.
+    pub fired_joining: bool,
     /// Readings outside the set differed.
     pub differing: bool,
     pub pairs: u64,
@@ -181,12 +186,9 @@ struct Maker<'p> {
 
 impl<'p> Maker<'p> {
     fn new(prng: &mut Prng, plan: &'p Plan, set: &'p [bool]) -> Maker<'p> {
-        let entity = |column: &Column| match *column {
-            Column::Presence(entity) | Column::Event(entity, _) => entity,
-        };
         let mut part = |inside: bool| {
             let mut columns = lines::some_columns(prng, plan);
-            columns.retain(|column| set[entity(column)] == inside);
+            columns.retain(|column| set[column.entity()] == inside);
             columns
         };
         let set_columns = part(true);
@@ -216,8 +218,20 @@ impl<'p> Maker<'p> {
         Event::Pair([self.lent(prng, 0), self.lent(prng, 1)])
     }
 
+    /// An entity of the set for the next line to switch, now and then; then its columns are there.
+    fn choose_switched(&mut self, prng: &mut Prng) -> Option<usize> {
+        if !prng.chance(SWITCH_PERCENT) {
+            return None;
+        }
+        let inside = (0..self.set.len()).filter(|&entity| self.set[entity]).collect();
+        let entity = lines::to_switch(prng, self.plan, &self.present[0], inside)?;
+        lines::complete(prng, self.plan, entity, &mut self.set_columns);
+        Some(entity)
+    }
+
     fn next(&mut self, prng: &mut Prng) -> Event {
-        let shared = lines::line(prng, self.plan, &self.set_columns, &mut self.present[0]);
+        let to_switch = self.choose_switched(prng);
+        let shared = lines::line_switching(prng, self.plan, &self.set_columns, &mut self.present[0], to_switch);
         for entity in (0..self.set.len()).filter(|&entity| self.set[entity]) {
             self.present[1][entity] = self.present[0][entity];
         }
@@ -326,6 +340,7 @@ impl Judge<'_> {
     }
 
     fn pair(&mut self, pair: &[Lent; 2]) -> Result<(), Box<Verdict>> {
+        let before = self.state(0)?;
         let first = self.step(0, &line_step(&pair[0]))?;
         let second = self.step(1, &line_step(&pair[1]))?;
         if first & 255 != 0 || second & 255 != 0 {
@@ -336,9 +351,17 @@ impl Judge<'_> {
             return Err(Box::new(Verdict::Void("the readings of the set differ")));
         }
         self.shown.differing |= !self.same_readings(&states, false);
-        self.compare(&states, [first, second])?;
+        let fired = self.compare(&states, [first, second])?;
+        self.shown.fired |= fired;
+        self.shown.fired_joining |= fired && self.joins(&before, &states[0]);
         self.shown.pairs += 1;
         Ok(())
+    }
+
+    /// Whether an entity of the set was absent and came.
+    fn joins(&self, before: &State, after: &State) -> bool {
+        let came = |entity: usize| !before.now.present[entity] && after.now.present[entity];
+        (0..self.inside.len()).any(|entity| self.inside[entity] && came(entity))
     }
 
     fn state(&self, run: usize) -> Result<State, Box<Verdict>> {
@@ -355,9 +378,11 @@ impl Judge<'_> {
         (0..self.inside.len()).filter(|&entity| self.inside[entity] == inside).all(same)
     }
 
-    fn compare(&mut self, states: &[State; 2], answers: [u64; 2]) -> Result<(), Box<Verdict>> {
+    /// Compares values and fired actions of the set; gives whether any fired.
+    fn compare(&self, states: &[State; 2], answers: [u64; 2]) -> Result<bool, Box<Verdict>> {
         let rows = [0, 1].map(|run| self.row(run, answers[run]));
         let mut column = 0;
+        let mut fired = false;
         for entity in 0..self.inside.len() {
             let actions = self.bench.members_of(entity).iter().filter(|member| member.sort == Sort::Action).count();
             let fields = [&rows[0][column..column + actions], &rows[1][column..column + actions]];
@@ -365,7 +390,7 @@ impl Judge<'_> {
             if !self.inside[entity] {
                 continue;
             }
-            self.shown.fired |= fields[0].iter().any(|field| field != b"-");
+            fired |= fields[0].iter().any(|field| field != b"-");
             let same_values =
                 same_store(&states[0].now, &states[1].now, entity) && same_store(&states[0].before, &states[1].before, entity);
             if !same_values || fields[0] != fields[1] {
@@ -373,7 +398,7 @@ impl Judge<'_> {
                 return Err(Box::new(Verdict::Fails(format!("entity {name} parts at line {}", states[0].number))));
             }
         }
-        Ok(())
+        Ok(fired)
     }
 
     /// The fields of the row that the engine wrote, without the number.

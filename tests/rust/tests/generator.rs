@@ -1,13 +1,16 @@
-//! The generator itself: its valid benches are accepted, its cases draw every answer of the table, a seed makes a case again.
+//! The generator itself: its valid benches are accepted, its cases draw every answer of the table and tell a machine that reads clause
+//! filters in the wrong cycle from the right one, a seed makes a case again.
 
 use second::generate::bench::{bench, render, LARGE, LOOSE, SMALL};
-use second::generate::case::Call;
+use second::generate::case::{Call, Case};
 use second::generate::prng::Prng;
 use second::generate::states::odd_state;
-use second::image::{decode_state, state_bytes};
+use second::image::{decode_bench, decode_state, state_bytes};
 use second::interpreter::accept;
-use second::interpreter::grammar::Sort;
-use second::memory::{self, Tally};
+use second::interpreter::grammar::{Bench, Sort};
+use second::interpreter::machine::{cycle_with_late_filters, State};
+use second::interpreter::row::row;
+use second::memory::{self, Memory, Tally, OURS};
 use second::{generate, show};
 
 const NUMBERS: [u8; 17] = [0, 11, 12, 13, 14, 15, 16, 17, 18, 21, 22, 23, 24, 25, 31, 32, 33];
@@ -38,6 +41,72 @@ fn cases_draw_every_answer() {
     let taken = tally.answers[&0];
     assert!(taken * 4 > tally.calls, "only {taken} of {} calls were accepted", tally.calls);
     assert!(tally.fired * 20 > taken, "only {} of {taken} accepted calls fired", tally.fired);
+}
+
+/// How a case tells a machine whose clause filters read the cycle before, as document 01 had them, from the right one.
+#[derive(Default)]
+struct LateFilters {
+    /// Some line gets another row.
+    shown: bool,
+    /// And would get another row if only filters at entities that come in that line were late.
+    at_joining: bool,
+    /// And would if only filters at entities that were there one cycle before were late: their attributes are as they were, so what
+    /// differs is read by the filter's sum.
+    at_staying: bool,
+}
+
+impl LateFilters {
+    /// Gives both machines each line that is taken and not resent, in the state that the right one is in.
+    fn of(case: &Case) -> LateFilters {
+        let mut found = LateFilters::default();
+        let mut memory = Memory::new(case.fill);
+        for step in &case.steps {
+            let state = memory.state.clone();
+            let answer = OURS.answer(&case.text, step, &mut memory);
+            if !matches!(step.call, Call::Line { .. }) || answer.is_none_or(|answer| answer & 255 != 0) {
+                continue;
+            }
+            let bench = accept(decode_bench(&memory.bench).expect("a bench's text")).expect("a checked bench");
+            let [before, after] = [&state, &memory.state].map(|bytes| decode_state(&bench, bytes).expect("a state of the bench"));
+            if before.number != after.number {
+                found.look(&bench, &before, &after);
+            }
+        }
+        found
+    }
+
+    fn look(&mut self, bench: &Bench, before: &State, after: &State) {
+        let other_row = |is_late: &dyn Fn(usize) -> bool| {
+            let late: Vec<bool> = (0..bench.entities.len()).map(is_late).collect();
+            let wrong = cycle_with_late_filters(bench, before, after.number, &after.last, &late);
+            row(bench, &wrong.expect("the machine never stops on an accepted bench")) != row(bench, after)
+        };
+        if !other_row(&|_| true) {
+            return;
+        }
+        self.shown = true;
+        self.at_joining |= other_row(&|entity| !before.now.present[entity]);
+        self.at_staying |= other_row(&|entity| before.now.present[entity] && before.before.present[entity]);
+    }
+}
+
+/// Catches a generator whose benches seldom have clause filters that matter, whose entities seldom come in a line that makes a clause
+/// with a filter at them hold, or whose filters seldom read an event that changes in the line.
+#[test]
+fn cases_show_late_filters() {
+    let (mut shown, mut at_joining, mut at_staying) = (0, 0, 0);
+    // A written state may have other attributes one cycle before, which no run leaves.
+    let written = |case: &Case| case.steps.iter().any(|step| matches!(step.call, Call::SetState { .. }));
+    for case in (0..10_000).map(|number| generate::case(3, number)).filter(|case| !written(case)) {
+        let found = LateFilters::of(&case);
+        shown += usize::from(found.shown);
+        at_joining += usize::from(found.at_joining);
+        at_staying += usize::from(found.at_staying);
+    }
+    assert!(
+        shown >= 90 && at_joining >= 30 && at_staying >= 12,
+        "{shown} shown, {at_joining} at joining, {at_staying} at staying entities"
+    );
 }
 
 /// Catches a generator whose states never have an attribute unset one cycle before, or all of them, at an entity that was absent; and one

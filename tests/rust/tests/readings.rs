@@ -1,4 +1,4 @@
-//! The points that document 01 leaves open and that were decided.
+//! The points that document 01 leaves open and that were decided, and what order 1 of document 02 changes.
 
 mod common;
 use common::{accepted, keeping, printed, prints, sum};
@@ -115,6 +115,81 @@ fn call_filter_reads_now() {
     prints(bench, "n e.x|1 3|2 4|3 3", "n e.k|1 1|2 -|3 1");
 }
 
+// Document 02, order 1: a clause's `with` reads the present cycle.
+
+/// Two lamps, one in bay 2 and one in bay 3, and a panel that shows the bay of the lamp at this place when it is lit.
+fn lamps(place: &str) -> String {
+    let name = place.split(' ').next().expect("a name");
+    format!(
+        "interface L {{ attribute bay : whole event lit : bool }} interface P {{ action show ( whole ) }} \
+         entity a : L {{ bay = 2 }} entity b : L {{ bay = 3 }} entity p : P {{ }} \
+         rules when event lit from {place} with bay = 2 value = true trigger action show ( {name}.bay ) on p end end"
+    )
+}
+
+#[test]
+fn a_lamp_that_joins_lit_fires_at_once() {
+    // Absent, then there with its reading in one line: it fires in that cycle, not again in the next, nor when it leaves.
+    let lines = |lamp: &str| format!("n {lamp} {lamp}.lit|1 false -|2 - -|3 true true|4 - true|5 - -|6 false -|7 true -|8 - true");
+    let rows = "n p.show|1 -|2 -|3 2|4 -|5 -|6 -|7 -|8 2";
+    prints(&lamps("a"), &lines("a"), rows);
+    prints(&lamps("v : L"), &lines("a"), rows);
+    // The other lamp is in bay 3.
+    let none = "n p.show|1 -|2 -|3 -|4 -|5 -|6 -|7 -|8 -";
+    prints(&lamps("b"), &lines("b"), none);
+    prints(&lamps("v : L"), &lines("b"), none);
+}
+
+#[test]
+fn of_lamps_that_join_in_one_line_those_in_the_bay_fire() {
+    let bench = "interface L { attribute bay : whole event lit : bool action show ( whole ) } \
+        entity a : L { bay = 2 } entity b : L { bay = 3 } entity c : L { bay = 2 } \
+        rules when event lit from v : L with bay = 2 value changed trigger action show ( v.bay ) on v end end";
+    // c is there throughout and is not read in line 2; b is in another bay.
+    let lines =
+        "n a b c a.lit b.lit c.lit|1 false false - - - true|2 true true - true true -|3 - - - true true false|4 - - - false - false";
+    prints(bench, lines, "n a.show b.show c.show|1 - - 2|2 2 - -|3 - - 2|4 2 - -");
+}
+
+#[test]
+fn clause_filter_reads_an_event_of_the_same_line() {
+    let bench = "interface I { attribute a : whole event x : whole event go : bool action k ( whole ) } entity e : I { a = 3 } \
+        rules when event go from e with a = e.x value changed trigger action k ( e.x ) on e end end";
+    // In line 2 the filter ceases to hold, in line 3 it starts again, in line 4 it holds but go does not change; unset it fails.
+    let lines = "n e.go e.x|1 true 3|2 false 4|3 true 3|4 true 3|5 false ?|6 true -|7 false 3";
+    prints(bench, lines, "n e.k|1 3|2 -|3 3|4 -|5 -|6 -|7 3");
+}
+
+#[test]
+fn clause_filter_reads_who_joins_and_who_leaves() {
+    let bench = "interface I { attribute a : whole event x : bool } interface K { action k ( whole ) } \
+        entity e : I { a = 4 } entity f : I { a = 4 } entity p : K { } \
+        rules when event x from e with a = f.a value changed trigger action k ( 1 ) on p end end";
+    // While f is absent its attribute reads unset: the filter fails from the line in which f leaves, and holds from its return on.
+    prints(bench, "n f e.x|1 - true|2 false false|3 - true|4 true false|5 - true", "n p.k|1 1|2 -|3 -|4 1|5 1");
+}
+
+#[test]
+fn clause_filter_sees_an_action_in_the_next_cycle_only() {
+    let bench = "interface I { attribute a : whole event go : bool event x : bool action k ( whole ) action c ( whole ) } \
+        entity e : I { a = 7 } rules when event go from e value = true trigger action k ( 7 ) on e end \
+        when event x from e with a = e.k value changed trigger action c ( 1 ) on e end end";
+    prints(bench, "n e.go e.x|1 true true|2 - false|3 - true", "n e.k e.c|1 7 -|2 - 1|3 - -");
+}
+
+#[test]
+fn tests_compare_two_cycles_under_a_filter_that_starts_to_hold() {
+    let bench = "interface I { attribute a : whole event x : whole event y : whole event z : whole \
+        action k ( whole ) action c ( whole ) action m ( whole ) } entity e : I { a = 1 } rules \
+        when event x from e with a = e.y value = 5 trigger action k ( 1 ) on e end \
+        when event x from e with a = e.y value changed trigger action c ( 2 ) on e end \
+        when event x from e with a = e.y value = e.z trigger action m ( 3 ) on e end end";
+    // In lines 2 and 7 the filters start to hold, but x is as it was: only in line 2 does z make a difference. In line 6 they cease to
+    // hold just as x turns 5.
+    let lines = "n e.x e.y e.z|1 5 0 4|2 5 1 5|3 4 1 5|4 5 1 5|5 6 1 5|6 5 0 5|7 5 1 5";
+    prints(bench, lines, "n e.k e.c e.m|1 - - -|2 - - 3|3 - 2 -|4 1 2 3|5 - 2 -|6 - - -|7 - - -");
+}
+
 #[test]
 fn resent_readings_are_compared_as_readings() {
     let bench = "interface I { event x : whole event r : real } entity e : I { } rules end";
@@ -160,6 +235,9 @@ fn the_machine_stops() {
     assert!(stops(&rule("event x from e value = 1 + true", call)));
     assert!(stops(&rule("event x from e value = e.x + true", call)));
     assert!(!stops(&rule("event x from e with a = e.x + 1r + 1 value changed", call)));
+    // The filter's attribute is set in cycle 1 already, so other kinds meet there.
+    assert!(stops(&rule("event x from e with a = 1r value changed", call)));
+    assert!(stops(&rule("event x from e with a = e.a + 1r value changed", call)));
     assert!(stops(&rule("event x from e value = real ( 1r )", call)));
     assert!(stops(&rule("event x from v : K value changed", call)));
     // An unset value fits anywhere, so nothing stops here; a call that is not reached does not stop either.

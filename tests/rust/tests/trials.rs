@@ -1,4 +1,4 @@
-//! Every trial of document 01.
+//! Every trial of document 01, but for the one that order 1 of document 02 drops: any clause `with` is false in cycle 1.
 
 mod common;
 use common::{keeping, prints, refusal, sum, PEDAL};
@@ -34,11 +34,12 @@ fn last_write_stands() {
     prints(&bench, "n x.go|1 true", "n x.keep|1 2");
 }
 
+/// The dropped trial's bench: the attribute is set now, and that is what the filter reads.
 #[test]
-fn clause_filter_is_false_in_cycle_1() {
+fn clause_filter_can_hold_in_cycle_1() {
     let bench = "interface X { attribute a : whole event go : bool action keep ( whole ) } entity x : X { a = 1 } \
         rules when event go from x with a = 1 value changed trigger action keep ( 1 ) on x end end";
-    prints(bench, "n x.go|1 true|2 false|3 false", "n x.keep|1 -|2 1|3 -");
+    prints(bench, "n x.go|1 true|2 false|3 false", "n x.keep|1 1|2 1|3 -");
 }
 
 #[test]

@@ -9,7 +9,7 @@
   (bind ?value (nth$ ?cell ?*was-row*))
   (if (eq ?value -) then nil else ?value))
 
-(deffunction take-line (?n ?fields)
+(deffunction take-line (?fields)
   (progn$ (?fact ?*facts*) (retract ?fact))
   (bind ?now (create$))
   (progn$ (?reading ?fields) (bind ?now (create$ ?now (taken (nth$ ?reading-index ?*was*) ?reading))))
@@ -32,7 +32,6 @@
       (assert (meter (id ?k) (room ?room) (scale (float ?gain)) (flow (nth$ ?flow ?now)) (was-flow (nth$ ?flow ?w))
         (mark (fired ?mark)) (was-mark (fired-before ?mark))))
       (assert (valve (id ?k) (room ?room) (turn (fired ?turn)) (was-turn (fired-before ?turn)))))))
-  (if (= ?n 2) then (assert (later)))
   (bind ?*was-row* ?*row*)
   (bind ?*was* ?now))
 

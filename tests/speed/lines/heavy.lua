@@ -14,8 +14,6 @@ for k = 0, 7 do
 end
 
 -- `was_x` is the value in the line before; an action is seen in the line after it, `new_x` is what fires now.
--- In the first line there is none before, so that a clause's filter holds for no entity.
-local first = true
 local rules = require(arg[1] or "heavy_rules")(sensors, gates, meters, valves)
 
 local function whole(old, text)
@@ -54,9 +52,8 @@ local function cycle(next_field)
     m.flow = real_or(m.flow, next_field())
   end
   for i = 0, 7 do
-    for k = 1, 8 do rules[k](i, first) end
+    for k = 1, 8 do rules[k](i) end
   end
-  first = false
   local row = {}
   for _, g in ipairs(gates) do
     g.was_set, g.set, g.new_set = g.set, g.new_set, nil

@@ -2,11 +2,11 @@
 return function(sensors, gates, meters, valves)
   local rules = {}
 
-  rules[1] = function(i, first)
+  rules[1] = function(i)
     for _, s in ipairs(sensors) do
       if s.level == i and s.was_level ~= i then
         for _, g in ipairs(gates) do
-          if not first and g.room == s.room and g.open ~= g.was_open then
+          if g.room == s.room and g.open ~= g.was_open then
             for _, v in ipairs(valves) do
               if v.room == g.room then v.new_turn = s.level * s.gain + i end
             end
@@ -16,11 +16,11 @@ return function(sensors, gates, meters, valves)
     end
   end
 
-  rules[2] = function(i, first)
+  rules[2] = function(i)
     for _, s in ipairs(sensors) do
       if s.lit and not s.was_lit then
         for _, m in ipairs(meters) do
-          if not first and m.room == s.room and m.flow ~= m.was_flow then
+          if m.room == s.room and m.flow ~= m.was_flow then
             if m.flow and s.level then m.new_mark = m.flow * m.scale + (s.level + i) end
             for _, v in ipairs(valves) do
               if v.room == m.room then v.new_warn = true end
@@ -31,10 +31,10 @@ return function(sensors, gates, meters, valves)
     end
   end
 
-  rules[3] = function(i, first)
+  rules[3] = function(i)
     for _, a in ipairs(sensors) do
       for _, b in ipairs(sensors) do
-        if not first and b.room == a.room and b.level ~= b.was_level
+        if b.room == a.room and b.level ~= b.was_level
           and a.level and b.level and a.level == b.level + i
           and not (a.was_level and b.was_level and a.was_level == b.was_level + i) then
           for _, g in ipairs(gates) do
@@ -45,11 +45,11 @@ return function(sensors, gates, meters, valves)
     end
   end
 
-  rules[4] = function(i, first)
+  rules[4] = function(i)
     for _, g in ipairs(gates) do
       if g.open and not g.was_open or g.open == false and g.was_open ~= false then
         for _, v in ipairs(valves) do
-          if not first and v.room == g.room and v.turn ~= v.was_turn then
+          if v.room == g.room and v.turn ~= v.was_turn then
             for _, h in ipairs(gates) do
               if h.room == g.room then h.new_set = v.room + i end
             end
@@ -59,7 +59,7 @@ return function(sensors, gates, meters, valves)
     end
   end
 
-  rules[5] = function(i, first)
+  rules[5] = function(i)
     for _, m in ipairs(meters) do
       if m.mark ~= m.was_mark then
         for _, s in ipairs(sensors) do
@@ -73,9 +73,9 @@ return function(sensors, gates, meters, valves)
     end
   end
 
-  rules[6] = function(i, first)
+  rules[6] = function(i)
     for _, m in ipairs(meters) do
-      if not first and m.flow ~= m.was_flow then
+      if m.flow ~= m.was_flow then
         for _, s in ipairs(sensors) do
           if m.scale == s.gain and s.lit and not s.was_lit then
             for _, v in ipairs(valves) do
@@ -87,11 +87,11 @@ return function(sensors, gates, meters, valves)
     end
   end
 
-  rules[7] = function(i, first)
+  rules[7] = function(i)
     for _, g in ipairs(gates) do
       if g.set == i and g.was_set ~= i then
         for _, s in ipairs(sensors) do
-          if not first and s.room == g.room and s.level ~= s.was_level and s.level then
+          if s.room == g.room and s.level ~= s.was_level and s.level then
             for _, m in ipairs(meters) do
               if m.room == s.room then m.new_mark = s.level / 2 end
             end
@@ -101,9 +101,9 @@ return function(sensors, gates, meters, valves)
     end
   end
 
-  rules[8] = function(i, first)
+  rules[8] = function(i)
     for _, a in ipairs(sensors) do
-      if not first and a.level and a.level ~= a.was_level then
+      if a.level and a.level ~= a.was_level then
         for _, b in ipairs(sensors) do
           if b.room == a.room + 1 and b.level ~= b.was_level then
             for _, c in ipairs(sensors) do

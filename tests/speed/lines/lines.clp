@@ -26,7 +26,7 @@
   (printout t crlf))
 
 ; Each bench says what a line does to its facts.
-(deffunction take-line (?n ?fields))
+(deffunction take-line (?fields))
 
 (deffunction run-lines ()
   (readline in)
@@ -40,7 +40,7 @@
       else (if (<> ?n (+ ?last 1))
         then (printout t "refused 24" crlf)
         else
-          (take-line ?n (rest$ ?fields))
+          (take-line (rest$ ?fields))
           (bind ?*row* ?*blank*)
           (bind ?*by* ?*zeros*)
           (run)

@@ -56,25 +56,25 @@ def heavy_bench():
     return text + "end\n"
 
 
-# The same rules for CLIPS. A clause's `with` asks for a line before, which the fact `later` says. Cells of the row: eight of set,
-# eight of mark, then turn and warn in turn. A write stands at its rule's number, then at its choice.
+# The same rules for CLIPS. Cells of the row: eight of set, eight of mark, then turn and warn in turn. A write stands at its rule's number,
+# then at its choice.
 HEAVY_CLIPS = [
-    """(later) (sensor (id ?1) (room ?r) (gain ?k) (level {i}) (was-level ~{i})) (gate (id ?2) (room ?r) (open ?o) (was-open ~?o))
+    """(sensor (id ?1) (room ?r) (gain ?k) (level {i}) (was-level ~{i})) (gate (id ?2) (room ?r) (open ?o) (was-open ~?o))
   (valve (id ?3) (room ?r)) => (write-cell (+ 17 ?3 ?3) {by} (+ (* {i} ?k) {i}))""",
-    """(later) (sensor (id ?1) (room ?r) (level ?l) (lit true) (was-lit ~true)) (meter (id ?2) (room ?r) (scale ?c) (flow ?f) (was-flow ~?f))
+    """(sensor (id ?1) (room ?r) (level ?l) (lit true) (was-lit ~true)) (meter (id ?2) (room ?r) (scale ?c) (flow ?f) (was-flow ~?f))
   (valve (id ?3) (room ?r)) => (if (and (neq ?f nil) (neq ?l nil)) then (write-cell (+ 9 ?2) {by} (+ (* ?f ?c) (float (+ ?l {i})))))
   (write-cell (+ 18 ?3 ?3) {by} true)""",
-    """(later) (sensor (id ?1) (room ?r) (level ?x) (was-level ?u)) (sensor (id ?2) (room ?r) (level ?y&~nil) (was-level ?w&~?y))
+    """(sensor (id ?1) (room ?r) (level ?x) (was-level ?u)) (sensor (id ?2) (room ?r) (level ?y&~nil) (was-level ?w&~?y))
   (test (eq ?x (+ ?y {i}))) (test (or (eq ?w nil) (neq ?u (+ ?w {i})))) (gate (id ?3) (room ?r)) => (write-cell (+ 1 ?3) {by} (- ?x ?y))""",
-    """(later) (gate (id ?1) (room ?r) (open ?o&true|false) (was-open ~?o)) (valve (id ?2) (room ?r) (turn ?t) (was-turn ~?t))
+    """(gate (id ?1) (room ?r) (open ?o&true|false) (was-open ~?o)) (valve (id ?2) (room ?r) (turn ?t) (was-turn ~?t))
   (gate (id ?3) (room ?r)) => (write-cell (+ 1 ?3) {by} (+ ?r {i}))""",
     """(meter (id ?1) (mark ?k) (was-mark ~?k)) (sensor (id ?2) (room ?r) (level {i}) (was-level ~{i}))
   (valve (id ?3) (room ?r)) => (write-cell (+ 18 ?3 ?3) {by} false)""",
-    """(later) (meter (id ?1) (room ?r) (scale ?c) (flow ?f) (was-flow ~?f)) (sensor (id ?2) (gain ?k&:(= ?k ?c)) (lit true) (was-lit ~true))
+    """(meter (id ?1) (room ?r) (scale ?c) (flow ?f) (was-flow ~?f)) (sensor (id ?2) (gain ?k&:(= ?k ?c)) (lit true) (was-lit ~true))
   (valve (id ?3) (room ?r)) => (write-cell (+ 17 ?3 ?3) {by} (+ ?k {i}))""",
-    """(later) (gate (id ?1) (room ?r) (set {i}) (was-set ~{i})) (sensor (id ?2) (room ?r) (level ?l&~nil) (was-level ~?l))
+    """(gate (id ?1) (room ?r) (set {i}) (was-set ~{i})) (sensor (id ?2) (room ?r) (level ?l&~nil) (was-level ~?l))
   (meter (id ?3) (room ?r)) => (write-cell (+ 9 ?3) {by} (/ ?l 2.0))""",
-    """(later) (sensor (id ?1) (room ?r) (level ?x&~nil) (was-level ?u&~?x)) (sensor (id ?2) (room ?q&:(= ?q (+ ?r 1))) (level ?y&~nil) (was-level ~?y))
+    """(sensor (id ?1) (room ?r) (level ?x&~nil) (was-level ?u&~?x)) (sensor (id ?2) (room ?q&:(= ?q (+ ?r 1))) (level ?y&~nil) (was-level ~?y))
   (sensor (id ?3) (room ?p&:(= ?p (+ ?q 1))) (level ?x) (was-level ?w)) (test (or (eq ?w nil) (neq ?w ?u)))
   => (write-cell (+ 1 {i}) {by} (+ ?x ?y ?x))""",
 ]

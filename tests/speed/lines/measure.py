@@ -1,4 +1,7 @@
-"""measure.py TESTS FOLDER RUNNER SECOND CALLS SECOND_CALLS [ROUNDS]: rows first, which must be equal, then CPU times, each program in turn."""
+"""measure.py TESTS FOLDER RUNNER SECOND CALLS SECOND_CALLS [ROUNDS]: rows first, which must be equal, then CPU times, each program in turn.
+
+Only the runner of BENCH_BEFORE may give other rows, if what they mean has changed since: it is said how many.
+"""
 import os
 import re
 import shutil
@@ -6,7 +9,9 @@ import statistics
 import struct
 import subprocess
 import sys
+from itertools import zip_longest
 
+BEFORE = "runner before"
 tests, folder, runner, second, calls, second_calls = (os.path.abspath(path) for path in sys.argv[1:7])
 rounds = int(sys.argv[7]) if len(sys.argv) > 7 else 7
 before = os.environ.get("BENCH_BEFORE")
@@ -23,7 +28,7 @@ def opponents(bench):
         file.write("".join(f'(load* "{name}")\n' for name in files) + "(main)\n(exit)\n")
     listed = [
         ("runner", [runner], False),
-        *([("runner before", [os.path.abspath(before)], False)] if before else []),
+        *([(BEFORE, [os.path.abspath(before)], False)] if before else []),
         ("second interpreter", [second, "."], False),
         ("Lua 5.4", ["lua5.4", lua], False),
         ("LuaJIT", ["luajit", lua], False),
@@ -48,6 +53,11 @@ def decimals(rows):
 
 def rows(command, cwd):
     return subprocess.run(command, cwd=cwd, stdin=subprocess.DEVNULL, stdout=subprocess.PIPE, check=True).stdout
+
+
+def unlike(given, expected):
+    """How many rows are not the same."""
+    return sum(one != other for one, other in zip_longest(given.split(b"\n"), expected.split(b"\n")))
 
 
 def cpu_seconds(command, cwd):
@@ -94,9 +104,10 @@ def main():
         expected = rows([runner], cwd)
         lines = expected.count(b"\n") - 1
         for name, command, decimal in listed:
-            if rows(command, cwd) != (decimals(expected) if decimal else expected):
+            others = unlike(rows(command, cwd), decimals(expected) if decimal else expected)
+            if others and name != BEFORE:
                 sys.exit(f"{bench}: the rows of {name} are not the runner's")
-        print(f"{bench}: {lines} lines, equal rows: {'; '.join(name for name, _, _ in listed)}", flush=True)
+            print(f"{bench}: {lines} lines, {others} rows differ: {name}", flush=True)
         times = {name: [] for name, _, _ in listed}
         for _ in range(rounds):
             for name, command, _ in listed:

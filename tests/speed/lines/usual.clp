@@ -40,7 +40,6 @@
   =>
   (write-cell (* 2 ?id) 0 ?held))
 (defrule drift
-  (later)
   (stage (desk ?desk))
   (probe (id ?id) (desk ?desk) (limit ?limit) (temp ?temp&~nil) (was-temp ~?temp))
   =>
@@ -55,7 +54,6 @@
   =>
   (write-cell 20 ?id ?desk))
 (defrule scale
-  (later)
   (stage (step ?step) (desk ?desk))
   (camera (desk ?desk) (width ?width&~nil) (was-width ~?width))
   =>
@@ -66,7 +64,7 @@
   ?*lamp-desks* = (create$ 1 1 2 3) ?*levels* = (create$ 4 7 5 9)
   ?*probe-desks* = (create$ 1 1 2 3) ?*limits* = (create$ 24.0 26.0 22.0 30.0))
 
-(deffunction take-line (?n ?fields)
+(deffunction take-line (?fields)
   (progn$ (?fact ?*facts*) (retract ?fact))
   (bind ?now (create$))
   (progn$ (?reading ?fields) (bind ?now (create$ ?now (taken (nth$ ?reading-index ?*was*) ?reading))))
@@ -88,7 +86,6 @@
         (ok (nth$ ?ok ?now)) (was-ok (nth$ ?ok ?w)) (alarm ?alarm) (was-alarm (nth$ ?k ?*was-alarm*))))))
     (bind ?*was-switch* (replace$ ?*was-switch* ?k ?k ?switch))
     (bind ?*was-alarm* (replace$ ?*was-alarm* ?k ?k ?alarm)))
-  (if (= ?n 2) then (assert (later)))
   (bind ?*was* ?now))
 
 (deffunction main ()

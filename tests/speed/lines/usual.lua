@@ -37,7 +37,6 @@ local function show_real(x)
   return hex(x)
 end
 
-local first = true
 -- What each rule sees as the value before is kept in `was_...`; an action is seen in the line after it.
 local function cycle(pos, edge, dir, count, held, width, t1, o1, t2, o2, t3, o3, t4, o4)
   stage.was_dir = stage.dir
@@ -88,7 +87,7 @@ local function cycle(pos, edge, dir, count, held, width, t1, o1, t2, o2, t3, o3,
       switch = pedal.held
     end
     local temp_changed = probe.temp ~= probe.was_temp
-    if temp_changed and not first and probe.desk == stage.desk and probe.temp then
+    if temp_changed and probe.desk == stage.desk and probe.temp then
       drift = probe.temp - probe.limit
     end
     if lamp.switch and not lamp.was_switch and pedal.count then
@@ -101,11 +100,10 @@ local function cycle(pos, edge, dir, count, held, width, t1, o1, t2, o2, t3, o3,
     lamp.was_switch, lamp.switch = lamp.switch, switch
     lamp.dim = dim
   end
-  if camera.width ~= camera.was_width and not first and camera.desk == stage.desk and camera.width then
+  if camera.width ~= camera.was_width and camera.desk == stage.desk and camera.width then
     scale = camera.width * stage.step
   end
   log.was_steps, log.steps = log.steps, steps
-  first = false
 
   return table.concat({
     show(snap),

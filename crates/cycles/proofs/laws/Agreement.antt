@@ -127,7 +127,7 @@ module _ (S : ℕ → Type 0) (sp : Spots) where
         let j : (m : List ℕ) → Spot-in S (sp (c .target .name .bytes) m) = i (c .target .name) here in
         rw (
           is-present-at-agree S now now′ g p (j (c .event .bytes)),
-          filter-agree previous previous′ h (c .target) (c .filter) j (λ n a. i n (there (among-left a (names-in-test (c .test))))),
+          filter-agree now now′ g (c .target) (c .filter) j (λ n a. i n (there (among-left a (names-in-test (c .test))))),
           test-agree p (c .test) (j (c .event .bytes)) (λ n a. i n (there (among-right (names-in-filter (c .filter)) a))),
         )
 

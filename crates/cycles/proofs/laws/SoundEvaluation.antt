@@ -206,7 +206,7 @@ module _ (f : File) (s : Scope) (sp : Spots) (resolves : Resolves f s sp) (now p
       rw (
         i,
         is-true (is-event (k .found .item .sort)) (k .of-sort),
-        filter-runs f s sp resolves previous sound-previous (c .target) (c .filter) (h .filter),
+        filter-runs f s sp resolves now sound (c .target) (c .filter) (h .filter),
         test-runs (found-spot x (k .found)) q (c .test) (h .test),
       )
 

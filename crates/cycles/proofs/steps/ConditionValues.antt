@@ -158,13 +158,13 @@ module _ {classes values refs : List ℕ} {b : Binding} {flags cells previous-fl
   module _ {at : ℕ} (left : ℕ) where
     pub clause-is : {name from owner i j o next r e m : ℕ} {f t g d v : Bool} → Steps (length classes) at name → Steps (length classes) name from
         → Steps (length classes) from owner → Target-walk classes owner i → r ≡ getD refs owner 0 % 256 → e ≡ bound b r → m ≡ getD refs name 0 / 256
-        → Filter-walk classes values refs b previous-flags previous-cells e (filter-reader left) i f j → Steps (length classes) j o
+        → Filter-walk classes values refs b flags cells e (filter-reader left) i f j → Steps (length classes) j o
         → Test-walk classes values refs b flags cells previous-flags previous-cells e m (test-reader left) o t next
         → d ≡ (ltb m 12 && eqb (getD flags e 0) 1) → g ≡ (f && t) → v ≡ (d && g)
         → Condition-walk classes values refs b flags cells previous-flags previous-cells (clause-reader left) at v next
     unfolding holds name-of
     clause-is {name} {from} {owner} {i} {e = e} {m = m} s₁ s₂ s₃ h er ee em k s₄ l ed eg ev =
-        clause-walk left s₁ s₂ s₃ (walk-in (in-stores-rows classes values refs b flags cells previous-flags previous-cells) h) (walk-in in-previous k) s₄ l
+        clause-walk left s₁ s₂ s₃ (walk-in (in-stores-rows classes values refs b flags cells previous-flags previous-cells) h) (walk-in in-now k) s₄ l
         λ c t f x p₁ p₂ p₃ q y z.
         let ew = ee ∙ ap (bound b) er in
         let located : Locates (c .rule .count) (c .rule .spots (t .name .bytes) (nth-token (c .rule .rows .tokens) name .bytes)) e m =

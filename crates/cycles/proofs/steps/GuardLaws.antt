@@ -36,8 +36,11 @@ use Rattle.cycles.specs.contracts.Guards.{
   spot-named,
   Part,
   Guard,
+  EQUAL-NOW,
+  UNEQUAL-BEFORE,
+  CELL-CHANGES,
+  GROUP-HOLDS,
   equals-now,
-  equals-before,
   differs-before,
   changes,
   group,
@@ -55,7 +58,6 @@ use Rattle.cycles.specs.contracts.Failing.{
   Group-fails,
   Guard-fails,
   unequal-now,
-  unequal-before,
   equal-before,
   unchanged,
   group-false,
@@ -226,22 +228,17 @@ module _ {classes values d refs scopes flags cells previous-flags previous-cells
       → Guard (world-rows c rest among) refs silence (level + 1) inner kind n m at → Fails inner n m at kind → Silent silence
   fails-silent silence {inner} {kind} {n} {m} {at} (equals-now e names covered most p quiet) f = go (rw e at f)
     where
-      go : Fails inner n m at 0 → Silent silence
+      go : Fails inner n m at EQUAL-NOW → Silent silence
       go (unequal-now h) =
           quiet (world-spots c rest among) (c .given .now) (c .given .previous) (value-fails (c .given .now-stored) names covered most p h)
-  fails-silent silence {inner} {kind} {n} {m} {at} (equals-before e names covered most p quiet) f = go (rw e at f)
-    where
-      go : Fails inner n m at 1 → Silent silence
-      go (unequal-before h) =
-          quiet (world-spots c rest among) (c .given .now) (c .given .previous) (value-fails (c .given .previous-stored) names covered most p h)
   fails-silent silence {inner} {kind} {n} {m} {at} (differs-before e names covered most p quiet) f = go (rw e at f)
     where
-      go : Fails inner n m at 2 → Silent silence
+      go : Fails inner n m at UNEQUAL-BEFORE → Silent silence
       go (equal-before h) =
           quiet (world-spots c rest among) (c .given .now) (c .given .previous) (value-fails (c .given .previous-stored) names covered most p h)
   fails-silent silence {inner} {kind} {n} {m} {at} (changes e names covered quiet) f = go (rw e at f)
     where
-      go : Fails inner n m at 3 → Silent silence
+      go : Fails inner n m at CELL-CHANGES → Silent silence
       go (unchanged h) =
           let same = added-agree added (h .added) below-three in
           quiet (world-spots c rest among) (c .given .now) (c .given .previous)
@@ -250,7 +247,7 @@ module _ {classes values d refs scopes flags cells previous-flags previous-cells
           ∙ h .same)
   fails-silent silence {inner} {kind} {n} {m} {at} (group e p quiet) f = go (rw e at f)
     where
-      go : Fails inner n m at 4 → Silent silence
+      go : Fails inner n m at GROUP-HOLDS → Silent silence
       go (group-false h) =
           quiet (world-spots c rest among) (c .given .now) (c .given .previous)
           (sym (group-is c rest among (h .binding) (omega arith) (added-agree added (h .added) below-three) p (h .walk)))
@@ -418,26 +415,20 @@ module _ {classes values refs : List ℕ} {b : Binding} {level : ℕ} where
 
     -- by the kind
     module _ {kind inner n m at r i : ℕ} (owner : r ≡ getD refs n 0 % 256) (member : i ≡ getD refs m 0 / 256) where
-      pub by-change : kind ≡ 3 → (e : ℕ) → Unchanged b level flags cells previous-flags previous-cells r i e
+      pub by-change : kind ≡ CELL-CHANGES → (e : ℕ) → Unchanged b level flags cells previous-flags previous-cells r i e
           → Guard-fails classes values refs b level flags cells previous-flags previous-cells inner n m at e kind
       by-change k e h = rw k (unchanged (rw (owner, member) at h))
 
-      pub by-value-now : kind ≡ 0 → (e : ℕ) → Value-fails classes values refs b level flags cells inner r i at false e
+      pub by-value-now : kind ≡ EQUAL-NOW → (e : ℕ) → Value-fails classes values refs b level flags cells inner r i at false e
           → Guard-fails classes values refs b level flags cells previous-flags previous-cells inner n m at e kind
       by-value-now k e h = rw k (unequal-now (rw (owner, member) at h))
 
-      pub by-value-before : (kind ≡ 0 → ⊥) → kind ≤ 2
-          → (e : ℕ) → Value-fails classes values refs b level previous-flags previous-cells inner r i at (eqb kind 2) e
+      pub by-value-before : kind ≡ UNEQUAL-BEFORE
+          → (e : ℕ) → Value-fails classes values refs b level previous-flags previous-cells inner r i at true e
           → Guard-fails classes values refs b level flags cells previous-flags previous-cells inner n m at e kind
-      by-value-before z k e h = go (eqb kind 2) refl (rw (owner, member) at h)
-        where
-          go : (t : Bool) → eqb kind 2 ≡ t
-              → Value-fails classes values refs b level previous-flags previous-cells inner (getD refs n 0 % 256) (getD refs m 0 / 256) at t e
-              → Guard-fails classes values refs b level flags cells previous-flags previous-cells inner n m at e kind
-          go true q h = rw (eqb-true kind 2 q) (equal-before h)
-          go false q h = let o : kind ≡ 1 = omega (arith, eqb-false kind 2 q, z) in rw o (unequal-before h)
+      by-value-before k e h = rw k (equal-before (rw (owner, member) at h))
 
-    pub by-group : {kind inner n m at : ℕ} → kind ≡ 4
+    pub by-group : {kind inner n m at : ℕ} → kind ≡ GROUP-HOLDS
         → (e : ℕ) → Group-fails classes values refs b level flags cells previous-flags previous-cells at e
         → Guard-fails classes values refs b level flags cells previous-flags previous-cells inner n m at e kind
     by-group k e h = rw k (group-false h)

@@ -15,7 +15,6 @@ use Rattle.cycles.specs.contracts.Guards.{
   Covered,
   Guard,
   equals-now,
-  equals-before,
   differs-before,
   changes,
   group,
@@ -105,7 +104,6 @@ module _ {classes : List ℕ} {w : Rows classes} {refs : List ℕ} {silence : Sp
       → ((sp : Spots) (now previous : Store) → silence sp now previous → other sp now previous)
       → Guard w refs silence level inner kind n m at → Guard w refs other level inner kind n m at
   guard-along f (equals-now k names own h part q) = equals-now k names own h part (λ sp now previous e. f sp now previous (q sp now previous e))
-  guard-along f (equals-before k names own h part q) = equals-before k names own h part (λ sp now previous e. f sp now previous (q sp now previous e))
   guard-along f (differs-before k names own h part q) = differs-before k names own h part (λ sp now previous e. f sp now previous (q sp now previous e))
   guard-along f (changes k names own q) = changes k names own (λ sp now previous e. f sp now previous (q sp now previous e))
   guard-along f (group k part q) = group k part (λ sp now previous e. f sp now previous (q sp now previous e))

@@ -2,7 +2,7 @@
 use Prim.Native.Nat.{ℕ, _+_}
 use mathlib.Core.Path.{_≡_, refl, sym, ap, _∙_}
 use mathlib.Core.List.{List}
-use mathlib.Core.Bool.{Bool, true, false, _&&_}
+use mathlib.Core.Bool.{false, _&&_, and-false}
 use mathlib.Core.Option.{Option}
 use mathlib.Core.Logic.{inl}
 use native.Mathlib.Omega.{arith}
@@ -36,8 +36,11 @@ use Rattle.cycles.specs.contracts.Guards.{
   attribute,
   spot-named,
   Part,
+  EQUAL-NOW,
+  UNEQUAL-BEFORE,
+  CELL-CHANGES,
+  GROUP-HOLDS,
   equals-now,
-  equals-before,
   differs-before,
   changes,
   group,
@@ -46,10 +49,6 @@ use Rattle.cycles.specs.contracts.Finding.{Growth, Part-put, condition-g
 use Rattle.cycles.proofs.steps.EvaluationLaws.{target-named}
 use Rattle.cycles.proofs.steps.ConditionValues.{and-joins}
 use Rattle.cycles.proofs.steps.GuardPuts.{extends-same, extends-put, extends-then, extends-whole}
-
-pub and-false : (a : Bool) → (a && false) ≡ false
-and-false true = refl
-and-false false = refl
 
 -- ---- expressions and filters
 
@@ -88,18 +87,18 @@ module _ {classes refs : List ℕ} {at class : ℕ} (is : class ≡ getD classes
   filter-no-guard n = filter-none OPENERS (λ q. n (is ∙ q)) (λ w. record { filters = λ t e names. extends-same refl refl })
 
   pub filter-a-guard : class ≡ WITH → {n name j inside next : ℕ} {g : Growth} → Steps (length classes) at name → Steps (length classes) name j
-      → Steps (length classes) j inside → Ends classes (expression-reader OPENERS) inside next → Part-put refs 1 n name inside next g
+      → Steps (length classes) j inside → Ends classes (expression-reader OPENERS) inside next → Part-put refs EQUAL-NOW n name inside next g
       → Filter-guards-walk classes refs n at g next
   filter-a-guard q {n} s t u h put = walk-then (λ w f l k y. record {
     filters = λ t e names. extends-put put (omega arith)
-        (equals-before refl (rw (y .follows) (names (y .word) (y .named))) (put .own) (put .within)
+        (equals-now refl (rw (y .follows) (names (y .word) (y .named))) (put .own) (put .within)
         (y .part (put .inner) (put .alone (omega arith)))
-        (λ sp now previous z. y .holding sp previous t e ∙ z));
+        (λ sp now previous z. y .holding sp now t e ∙ z));
   }) (filter-part q n s t u h)
 
   -- ---- tests
 
-  pub test-changed-guard : class ≡ CHANGED → {n m i j next : ℕ} {g : Growth} → Steps (length classes) at next → Part-put refs 3 n m i j g
+  pub test-changed-guard : class ≡ CHANGED → {n m i j next : ℕ} {g : Growth} → Steps (length classes) at next → Part-put refs CELL-CHANGES n m i j g
       → Test-guards-walk classes refs n m at g next
   unfolding test-holds
   test-changed-guard q s put = test-changed OPENERS (sym is ∙ q) s λ w. record {
@@ -108,8 +107,8 @@ module _ {classes refs : List ℕ} {at class : ℕ} (is : class ≡ getD classes
 
   pub test-equals-guards : (class ≡ CHANGED → ⊥) → {n m inside next : ℕ} {a b c : List ℕ} {i j k : ℕ} → Steps (length classes) at inside
       → Ends classes (expression-reader OPENERS) inside next
-      → Part-put refs 0 n m inside next (record { before = a; count = i; after = b; total = j })
-      → Part-put refs 2 n m inside next (record { before = b; count = j; after = c; total = k })
+      → Part-put refs EQUAL-NOW n m inside next (record { before = a; count = i; after = b; total = j })
+      → Part-put refs UNEQUAL-BEFORE n m inside next (record { before = b; count = j; after = c; total = k })
       → Test-guards-walk classes refs n m at (record { before = a; count = i; after = c; total = k }) next
   unfolding test-holds
   test-equals-guards q s h first second = test-equals OPENERS (λ z. q (is ∙ z)) s (part-walk refs h) λ w x p y. record {
@@ -123,7 +122,7 @@ module _ {classes refs : List ℕ} {at class : ℕ} (is : class ≡ getD classes
 -- ---- clauses
 
 module _ (sp : Spots) (now previous : Store) (c : Clause) where
-  clause-filter-fails : filter-holds sp previous (c .target) (c .filter) ≡ false → holds sp now previous (clause c) ≡ false
+  clause-filter-fails : filter-holds sp now (c .target) (c .filter) ≡ false → holds sp now previous (clause c) ≡ false
   unfolding holds
   clause-filter-fails e = rw e (and-false (is-present-at now (sp (c .target .name .bytes) (c .event .bytes))))
 
@@ -131,7 +130,7 @@ module _ (sp : Spots) (now previous : Store) (c : Clause) where
       → holds sp now previous (clause c) ≡ false
   unfolding holds
   clause-test-fails e =
-      rw (e, and-false (filter-holds sp previous (c .target) (c .filter))) (and-false (is-present-at now (sp (c .target .name .bytes) (c .event .bytes))))
+      rw (e, and-false (filter-holds sp now (c .target) (c .filter))) (and-false (is-present-at now (sp (c .target .name .bytes) (c .event .bytes))))
 
 module _ {classes refs : List ℕ} {at : ℕ} where
   pub clause-guards-are : {name from owner i j o next : ℕ} {a b c : List ℕ} {k l m : ℕ} → Steps (length classes) at name
@@ -160,7 +159,7 @@ module _ {classes refs : List ℕ} {at : ℕ} where
       → Condition-guards-walk classes refs (clause-reader OPENERS) at g next → Condition-guards-walk classes refs (atom-reader OPENERS) at g next
   atom-guards-clause is n h = atom-clause OPENERS (λ z. omega arith) (λ q. n (is ∙ q)) h
 
-  pub atom-guards-group : {n m next : ℕ} {g : Growth} → Ends classes (atom-reader OPENERS) at next → Part-put refs 4 n m at next g
+  pub atom-guards-group : {n m next : ℕ} {g : Growth} → Ends classes (atom-reader OPENERS) at next → Part-put refs GROUP-HOLDS n m at next g
       → Condition-guards-walk classes refs (atom-reader OPENERS) at g next
   atom-guards-group h put =
       walk-then (λ w a l k y. extends-put put (omega arith) (group refl (y (put .level) (put .inside)) (λ sp now previous e. e)))

@@ -2,7 +2,7 @@
 use Prim.Native.Nat.{ℕ, _+_, _≤_}
 use mathlib.Core.Path.{_≡_, refl, ap, _∙_}
 use mathlib.Core.List.{List, [], _∷_, flatMap}
-use mathlib.Core.Bool.{Bool, true, false}
+use mathlib.Core.Bool.{Bool, true, false, and-false}
 use mathlib.Core.Logic.{inr}
 use native.Mathlib.Omega.{arith}
 use lib.ListN.{length, getD, drop}
@@ -41,7 +41,7 @@ use Rattle.cycles.specs.definitions.Store.{Store}
 use Rattle.cycles.specs.definitions.Spots.{Spots}
 use Rattle.cycles.specs.contracts.TotalMachine.{is-present-at, filter-holds, holds, call-writes, writes-if, binding-writes}
 use Rattle.cycles.specs.contracts.Evaluation.{Targeted, all-rows, Target-walk}
-use Rattle.cycles.specs.contracts.Guards.{Names, attribute, equals-now, Guarded, Guards-found}
+use Rattle.cycles.specs.contracts.Guards.{Names, attribute, EQUAL-NOW, equals-now, Guarded, Guards-found}
 use Rattle.cycles.specs.contracts.Finding.{
   Growth,
   Part-put,
@@ -55,7 +55,7 @@ use Rattle.cycles.specs.contracts.Finding.{
 use Rattle.cycles.proofs.steps.ConditionValues.{or-joins}
 use Rattle.cycles.proofs.steps.CallWrites.{rule-condition}
 use Rattle.cycles.proofs.steps.GuardPuts.{extends-put}
-use Rattle.cycles.proofs.steps.GuardWalks.{and-false, Filter-part, filter-part}
+use Rattle.cycles.proofs.steps.GuardWalks.{Filter-part, filter-part}
 
 -- ---- what silences a rule
 
@@ -91,7 +91,7 @@ module _ {classes refs : List ℕ} {at : ℕ} where
       → Ends classes (expression-reader OPENERS) i j → Steps (length classes) j on → Steps (length classes) on owner → Target-walk classes owner k
       → class ≡ getD classes k 0 → class ≡ WITH → Steps (length classes) k attr → Steps (length classes) attr p → Steps (length classes) p inside
       → Ends classes (expression-reader OPENERS) inside next → after ≡ getD classes next 0 → (after ≡ COMMA → ⊥)
-      → Part-put refs 0 owner attr inside next g → Call-guarded classes refs at g
+      → Part-put refs EQUAL-NOW owner attr inside next g → Call-guarded classes refs at g
   unfolding call-reader
   call-a-guard {on = on} {owner = owner} {k = k} {attr = attr} {inside = inside} {next = next} s₁ s₂ s₃ x s₄ s₅ t is q s₆ s₇ s₈ y ia na put =
       let f : Walks (all-rows classes) (Filter-part refs owner k attr inside next) (filter-reader OPENERS) k tt next =

@@ -14,6 +14,7 @@ use Rattle.checking.specs.contracts.Resolution.{FIRST-VARIABLE}
 use Rattle.cycles.specs.declared.evaluate.Binding.{Binding}
 use Rattle.cycles.specs.contracts.Evaluation.{bound, Cell-read, Expression-walk, Condition-walk}
 use Rattle.cycles.specs.contracts.AllRules.{Entity-added}
+use Rattle.cycles.specs.contracts.Guards.{EQUAL-NOW, UNEQUAL-BEFORE, CELL-CHANGES, GROUP-HOLDS}
 
 -- marks are taken of no entities but those that fail
 pub record Marks-taken (Failing : ℕ → Type 0) (before after : List ℕ) : Type 0 where
@@ -59,10 +60,9 @@ module _ (classes values refs : List ℕ) (b : Binding) (level : ℕ) (flags cel
   -- a guard of the kind fails, of tokens number n, m and `at`
   pub data Guard-fails (inner n m at e : ℕ) : ℕ → Type 0 where
     unequal-now : Value-fails classes values refs b level flags cells inner (getD refs n 0 % 256) (getD refs m 0 / 256) at false e
-        → Guard-fails inner n m at e 0
-    unequal-before : Value-fails classes values refs b level previous-flags previous-cells inner (getD refs n 0 % 256) (getD refs m 0 / 256) at false e
-        → Guard-fails inner n m at e 1
+        → Guard-fails inner n m at e EQUAL-NOW
     equal-before : Value-fails classes values refs b level previous-flags previous-cells inner (getD refs n 0 % 256) (getD refs m 0 / 256) at true e
-        → Guard-fails inner n m at e 2
-    unchanged : Unchanged b level flags cells previous-flags previous-cells (getD refs n 0 % 256) (getD refs m 0 / 256) e → Guard-fails inner n m at e 3
-    group-false : Group-fails at e → Guard-fails inner n m at e 4
+        → Guard-fails inner n m at e UNEQUAL-BEFORE
+    unchanged : Unchanged b level flags cells previous-flags previous-cells (getD refs n 0 % 256) (getD refs m 0 / 256) e
+        → Guard-fails inner n m at e CELL-CHANGES
+    group-false : Group-fails at e → Guard-fails inner n m at e GROUP-HOLDS

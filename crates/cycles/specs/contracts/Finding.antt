@@ -16,7 +16,7 @@ use Rattle.cycles.specs.definitions.Store.{Store}
 use Rattle.cycles.specs.definitions.Spots.{Spots}
 use Rattle.cycles.specs.contracts.TotalMachine.{filter-holds, test-holds, holds, call-writes, binding-writes}
 use Rattle.cycles.specs.contracts.Evaluation.{all-rows}
-use Rattle.cycles.specs.contracts.Guards.{GUARD-ROWS, Covered, Names, spot-named, Guarded}
+use Rattle.cycles.specs.contracts.Guards.{CELL-CHANGES, GUARD-ROWS, Covered, Names, spot-named, Guarded}
 
 -- memory of guards and how many there are, before and after
 pub record Growth : Type 0 where
@@ -42,7 +42,7 @@ pub record Part-put (refs : List ℕ) (kind n m at next : ℕ) (g : Growth) : Ty
   pub within : inner ≤ level
   pub own : Covered refs level n (n + 1)
   pub inside : Covered refs level at next
-  pub alone : kind < 3 → Covered refs inner at next
+  pub alone : kind < CELL-CHANGES → Covered refs inner at next
   pub put : Guard-put level inner kind n m at g
 
 -- guards of each rule that writes nothing where a part of it fails
@@ -55,7 +55,7 @@ module _ {classes : List ℕ} (refs : List ℕ) where
   -- of what may stand after a clause's target, whose name is token number n
   pub record Filter-guards (n at : ℕ) (w : Rows classes) (f : Option Filter) (g : Growth) : Type 0 where
     pub filters : (t : Target) → t .name .bytes ≡ nth-token (w .tokens) n .bytes → (Stands w at WITH → Stands w (at + 1) NAME → Names w n (at + 1))
-        → Extends w refs (λ sp now previous. filter-holds sp previous t f ≡ false) g
+        → Extends w refs (λ sp now previous. filter-holds sp now t f ≡ false) g
 
   -- of what is asked of the event that tokens number n and m name
   pub record Test-guards (n m : ℕ) (w : Rows classes) (x : Test) (g : Growth) : Type 0 where

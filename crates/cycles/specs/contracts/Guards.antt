@@ -48,26 +48,38 @@ pub record Part {A : Type 0} {classes : List ℕ} (reader : Parser A) (w : Rows 
   pub before : at + used ≤ w .high
   pub covered : Covered refs level at (at + used)
 
+-- the kinds of guards, those with an expression first: what tokens n and m name is equal to an expression now,
+abbrev pub EQUAL-NOW : ℕ
+EQUAL-NOW = 0
+
+-- is not equal to it before,
+abbrev pub UNEQUAL-BEFORE : ℕ
+UNEQUAL-BEFORE = 1
+
+-- changes,
+abbrev pub CELL-CHANGES : ℕ
+CELL-CHANGES = 2
+
+-- or a condition in parentheses holds
+abbrev pub GROUP-HOLDS : ℕ
+GROUP-HOLDS = 3
+
 -- a guard of this kind, for tokens number n, m and `at`: where it fails, there is silence. Its expression may need fewer variables than its cell
 pub data Guard {classes : List ℕ} (w : Rows classes) (refs : List ℕ) (silence : Spots → Store → Store → Type 0) (level inner kind n m at : ℕ)
     : Type 0 where
-  equals-now : kind ≡ 0 → Names w n m → Covered refs level n (n + 1) → inner ≤ level
+  equals-now : kind ≡ EQUAL-NOW → Names w n m → Covered refs level n (n + 1) → inner ≤ level
       → {x : Expression} → Part (expression-reader OPENERS) w refs inner at x
       → ((sp : Spots) (now previous : Store) → equal (value-at now (spot-named w sp n m)) (value sp now x) ≡ false → silence sp now previous)
       → Guard w refs silence level inner kind n m at
-  equals-before : kind ≡ 1 → Names w n m → Covered refs level n (n + 1) → inner ≤ level
-      → {x : Expression} → Part (expression-reader OPENERS) w refs inner at x
-      → ((sp : Spots) (now previous : Store) → equal (value-at previous (spot-named w sp n m)) (value sp previous x) ≡ false → silence sp now previous)
-      → Guard w refs silence level inner kind n m at
-  differs-before : kind ≡ 2 → Names w n m → Covered refs level n (n + 1) → inner ≤ level
+  differs-before : kind ≡ UNEQUAL-BEFORE → Names w n m → Covered refs level n (n + 1) → inner ≤ level
       → {x : Expression} → Part (expression-reader OPENERS) w refs inner at x
       → ((sp : Spots) (now previous : Store) → equal (value-at previous (spot-named w sp n m)) (value sp previous x) ≡ true → silence sp now previous)
       → Guard w refs silence level inner kind n m at
-  changes : kind ≡ 3 → Names w n m → Covered refs level n (n + 1)
+  changes : kind ≡ CELL-CHANGES → Names w n m → Covered refs level n (n + 1)
       → ((sp : Spots) (now previous : Store) → differ (value-at now (spot-named w sp n m)) (value-at previous (spot-named w sp n m)) ≡ false
       → silence sp now previous)
       → Guard w refs silence level inner kind n m at
-  group : kind ≡ 4 → {a : Condition} → Part (atom-reader OPENERS) w refs level at a
+  group : kind ≡ GROUP-HOLDS → {a : Condition} → Part (atom-reader OPENERS) w refs level at a
       → ((sp : Spots) (now previous : Store) → holds sp now previous a ≡ false → silence sp now previous)
       → Guard w refs silence level inner kind n m at
 

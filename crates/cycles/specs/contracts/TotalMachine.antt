@@ -73,7 +73,7 @@ unfoldable pub clause-holds : Spots → Store → Store → Clause → Bool
 unfolding is-present-at filter-holds test-holds
 clause-holds sp now previous c =
     is-present-at now (sp (c .target .name .bytes) (c .event .bytes))
-    && (filter-holds sp previous (c .target) (c .filter)
+    && (filter-holds sp now (c .target) (c .filter)
     && test-holds sp now previous (sp (c .target .name .bytes) (c .event .bytes)) (c .test))
 
 unfoldable pub holds : Spots → Store → Store → Condition → Bool

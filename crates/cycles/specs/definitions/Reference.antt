@@ -94,12 +94,13 @@ ref-test sp now previous p (equals at a) =
     proceed (ref-equal (read-spot previous p) y) λ j.
     running (i && not j)
 
--- "A clause's `with` reads the cycle before"; "A clause at an absent entity is false"
+-- "A clause at an absent entity is false"; document 02, order 1: "a clause's `with` reads the present cycle, as a call's does; `value = X` and
+-- `changed` still compare two cycles"
 unfoldable pub ref-clause : Spots → Store → Store → Clause → Outcome Bool
 unfolding with-sort is-event proceed ref-filter ref-test
 ref-clause sp now previous c =
     with-sort is-event (sp (c .target .name .bytes) (c .event .bytes)) λ p.
-    proceed (ref-filter sp previous (c .target) (c .filter)) λ i.
+    proceed (ref-filter sp now (c .target) (c .filter)) λ i.
     proceed (ref-test sp now previous p (c .test)) λ j.
     running (now .present (p .entity) && (i && j))
 

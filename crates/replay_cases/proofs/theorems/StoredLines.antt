@@ -144,10 +144,10 @@ unfolding replay ascii
     Ieee.add Ieee.sub Ieee.mul Ieee.div Ieee.neg Ieee.eq Ieee.ofInt Ieee.ofBits Ieee.toBits Ieee.isNan
 run-value-fires-once = refl
 
-pub run-clause-filter-reads-before : replay (ascii "interface G { event t : whole } interface S { attribute id : whole event v : whole action k ( whole ) } entity g : G { } entity s : S { id = 7 } rules when event v from s with id = g.t value changed trigger action k ( s.v ) on s end end") (ascii "n g.t s.v s\n1 7 1 -\n2 8 2 -\n3 7 3 -\n4 - 4 -\n5 - - false\n6 - 5 true\n7 - 6 -\n8 ? 7 -\n9 7 8 -\n") ≡ ascii "n s.k\n1 -\n2 2\n3 -\n4 4\n5 -\n6 -\n7 6\n8 7\n9 -\n"
+pub run-clause-filter-reads-now : replay (ascii "interface G { event t : whole } interface S { attribute id : whole event v : whole action k ( whole ) } entity g : G { } entity s : S { id = 7 } rules when event v from s with id = g.t value changed trigger action k ( s.v ) on s end end") (ascii "n g.t s.v s\n1 7 1 -\n2 8 2 -\n3 7 3 -\n4 - 4 -\n5 - - false\n6 - 5 true\n7 - 6 -\n8 ? 7 -\n9 7 8 -\n") ≡ ascii "n s.k\n1 1\n2 -\n3 3\n4 4\n5 -\n6 5\n7 6\n8 -\n9 8\n"
 unfolding replay ascii
     Ieee.add Ieee.sub Ieee.mul Ieee.div Ieee.neg Ieee.eq Ieee.ofInt Ieee.ofBits Ieee.toBits Ieee.isNan
-run-clause-filter-reads-before = refl
+run-clause-filter-reads-now = refl
 
 pub run-call-filter-reads-now : replay (ascii "interface G { event t : whole } interface S { attribute id : whole action k ( whole ) } entity g : G { } entity s : S { id = 7 } entity r : S { id = 8 } rules when event t from g value changed trigger action k ( g.t ) on s with id = g.t , action k ( x.id ) on x : S with id = g.t + 0 end end") (ascii "n g.t s\n1 7 -\n2 8 -\n3 9 -\n4 ? -\n5 7 -\n6 8 false\n7 7 -\n8 - true\n9 ? -\n10 7 -\n") ≡ ascii "n s.k r.k\n1 7 -\n2 - 8\n3 - -\n4 - -\n5 7 -\n6 - 8\n7 - -\n8 - -\n9 - -\n10 7 -\n"
 unfolding replay ascii
@@ -158,6 +158,36 @@ pub run-and-or : replay (ascii "interface O { action o ( whole ) action p ( whol
 unfolding replay ascii
     Ieee.add Ieee.sub Ieee.mul Ieee.div Ieee.neg Ieee.eq Ieee.ofInt Ieee.ofBits Ieee.toBits Ieee.isNan
 run-and-or = refl
+
+pub run-filter-lamp-joins-late : replay (ascii "interface Lamp { attribute bay : whole event seen : bool action one ( whole ) action any ( whole ) } entity p : Lamp { bay = 2 } entity q : Lamp { bay = 3 } rules when event seen from p with bay = 2 value = true trigger action one ( 1 ) on p end when event seen from q with bay = 2 value = true trigger action one ( 1 ) on q end when event seen from l : Lamp with bay = 2 value changed trigger action any ( l.bay ) on l end end") (ascii "n p q p.seen q.seen\n1 false false - -\n2 true true true true\n3 - - true true\n4 false - - false\n5 true - true true\n6 - - - -\n7 false - - -\n8 true - - -\n9 - - true -\n10 - - false -\n") ≡ ascii "n p.one p.any q.one q.any\n1 - - - -\n2 1 2 - -\n3 - - - -\n4 - - - -\n5 1 2 - -\n6 - - - -\n7 - - - -\n8 - - - -\n9 1 2 - -\n10 - 2 - -\n"
+unfolding replay ascii
+    Ieee.add Ieee.sub Ieee.mul Ieee.div Ieee.neg Ieee.eq Ieee.ofInt Ieee.ofBits Ieee.toBits Ieee.isNan
+run-filter-lamp-joins-late = refl
+
+pub run-filter-sum-of-the-line : replay (ascii "interface G { event t : whole } interface S { attribute id : whole event v : whole action c ( whole ) action e ( whole ) } entity g : G { } entity s : S { id = 7 } rules when event v from s with id = 14 / g.t value changed trigger action c ( s.v ) on s end when event v from s with id = 14 / g.t value = 5 trigger action e ( g.t ) on s end end") (ascii "n g.t s.v\n1 2 0\n2 3 5\n3 - 0\n4 2 5\n5 - 0\n6 0 5\n7 - 0\n8 2 5\n9 - 0\n10 ? 5\n11 2 6\n") ≡ ascii "n s.c s.e\n1 0 -\n2 - -\n3 - -\n4 5 2\n5 0 -\n6 - -\n7 - -\n8 5 2\n9 0 -\n10 - -\n11 6 -\n"
+unfolding replay ascii
+    Ieee.add Ieee.sub Ieee.mul Ieee.div Ieee.neg Ieee.eq Ieee.ofInt Ieee.ofBits Ieee.toBits Ieee.isNan
+run-filter-sum-of-the-line = refl
+
+pub run-filter-compares-two-cycles : replay (ascii "interface S { attribute id : whole event f : whole event v : whole event w : whole action c ( whole ) action e ( whole ) } entity s : S { id = 1 } rules when event v from s with id = s.f value changed trigger action c ( s.v ) on s end when event v from s with id = s.f value = s.w trigger action e ( s.w ) on s end end") (ascii "n s.f s.v s.w\n1 0 5 5\n2 1 5 5\n3 - 6 6\n4 - - 7\n5 - 7 8\n6 - - 7\n7 0 8 8\n8 1 9 9\n9 0 ? ?\n10 1 4 4\n") ≡ ascii "n s.c s.e\n1 - -\n2 - -\n3 6 -\n4 - -\n5 7 -\n6 - 7\n7 - -\n8 9 -\n9 - -\n10 4 4\n"
+unfolding replay ascii
+    Ieee.add Ieee.sub Ieee.mul Ieee.div Ieee.neg Ieee.eq Ieee.ofInt Ieee.ofBits Ieee.toBits Ieee.isNan
+run-filter-compares-two-cycles = refl
+
+pub run-filter-reads-action-one-cycle-later : replay (ascii "interface H { event t : whole action pick ( whole ) } interface Lamp { attribute bay : whole event seen : bool action lit ( whole ) } entity h : H { } entity p : Lamp { bay = 2 } entity q : Lamp { bay = 3 } rules when event t from h value changed trigger action pick ( h.t ) on h end when event seen from l : Lamp with bay = h.pick value changed trigger action lit ( h.pick ) on l end end") (ascii "n h.t p.seen q.seen\n1 2 true true\n2 3 false false\n3 - true true\n4 - false false\n5 2 true true\n5 2 true true\n6 - true false\n7 3 false true\n8 - true false\n") ≡ ascii "n h.pick p.lit q.lit\n1 2 - -\n2 3 2 -\n3 - - 3\n4 - - -\n5 2 - -\n5 2 - -\n6 - - -\n7 3 - -\n8 - - 3\n"
+unfolding replay ascii
+    Ieee.add Ieee.sub Ieee.mul Ieee.div Ieee.neg Ieee.eq Ieee.ofInt Ieee.ofBits Ieee.toBits Ieee.isNan
+run-filter-reads-action-one-cycle-later = refl
+
+pub run-filter-lamp-leaves : replay (ascii "interface O { action o ( whole ) action p ( whole ) action q ( whole ) } interface Lamp { attribute bay : whole event seen : bool } entity a : Lamp { bay = 2 } entity b : Lamp { bay = 5 } entity z : O { } rules when event seen from a with bay = 2 value changed trigger action o ( 1 ) on z end when event seen from l : Lamp with bay = 2 value changed trigger action p ( 1 ) on z end when event seen from b with bay = a.bay + 3 value changed trigger action q ( 1 ) on z end end") (ascii "n a a.seen b.seen\n1 - true true\n2 false - false\n3 - - true\n4 true - false\n5 - true -\n6 false - -\n7 true false true\n") ≡ ascii "n z.o z.p z.q\n1 1 1 1\n2 - - -\n3 - - -\n4 - - 1\n5 1 1 -\n6 - - -\n7 1 1 1\n"
+unfolding replay ascii
+    Ieee.add Ieee.sub Ieee.mul Ieee.div Ieee.neg Ieee.eq Ieee.ofInt Ieee.ofBits Ieee.toBits Ieee.isNan
+run-filter-lamp-leaves = refl
+
+pub run-filter-reads-variable-that-joins : replay (ascii "interface Lamp { attribute bay : whole attribute next : whole event seen : bool action lit ( whole ) } entity p : Lamp { bay = 1 next = 2 } entity q : Lamp { bay = 2 next = 1 } rules when event seen from x : Lamp with next = y.bay value = true trigger action lit ( x.bay ) on y : Lamp end end") (ascii "n p q p.seen q.seen\n1 - false true -\n2 - true - true\n3 - - false false\n4 - - true true\n5 false - - false\n6 true - - true\n7 - - true -\n") ≡ ascii "n p.lit q.lit\n1 - -\n2 2 -\n3 - -\n4 2 1\n5 - -\n6 2 -\n7 - 1\n"
+unfolding replay ascii
+    Ieee.add Ieee.sub Ieee.mul Ieee.div Ieee.neg Ieee.eq Ieee.ofInt Ieee.ofBits Ieee.toBits Ieee.isNan
+run-filter-reads-variable-that-joins = refl
 
 pub run-action-seen-one-cycle-later : replay (ascii "interface O { action o ( whole ) action p ( whole ) } interface S { event e : whole action k ( whole ) } entity s : S { } entity z : O { } rules when event e from s value changed trigger action k ( s.e ) on s end when event k from s value changed trigger action o ( s.k ) on z , action p ( 1 ) on z end end") (ascii "n s.e\n1 5\n2 -\n3 -\n4 -\n5 6\n6 6\n7 7\n8 8\n9 9\n") ≡ ascii "n s.k z.o z.p\n1 5 - -\n2 - 5 1\n3 - - 1\n4 - - -\n5 6 - -\n6 - 6 1\n7 7 - 1\n8 8 7 1\n9 9 8 1\n"
 unfolding replay ascii
@@ -189,7 +219,7 @@ unfolding replay ascii
     Ieee.add Ieee.sub Ieee.mul Ieee.div Ieee.neg Ieee.eq Ieee.ofInt Ieee.ofBits Ieee.toBits Ieee.isNan
 run-real-rounding = refl
 
-pub run-random : replay (ascii "interface D { attribute id : whole event on_ : bool event v : whole action set ( whole ) action flag ( bool ) } interface H { event w : whole action sum ( whole ) } entity a : D { id = 1 } entity b : D { id = 2 } entity h : H { } rules when event v from x : D value changed and ( event on_ from y : D with id = 3 - x.id value changed or event w from h value = x.v ) trigger action sum ( x.v * 10 + y.id ) on h , action flag ( y.on_ ) on x with id = 1 end when event sum from h value changed trigger action set ( h.sum - z.v ) on z : D end when event set from x : D value = x.v or event flag from a value = true trigger action sum ( - h.w / x.id ) on h end end") (ascii "n a.v h.w a.on_ b.on_ b.v b a\n1 -3 2 true true -3 - -\n2 2 2 - true 2 - true\n3 0 2 false - -3 true true\n3 0 2 false - -3 true true\n4 1 1 ? false 2 - -\n5 2 1 ? false 0 - -\n6 - 0 true true -3 true -\n7 1 2 - true 1 true false\n7 1 2 - true 1 true false\n7 -3 -3 false ? 2 - -\n7 2 1 ? true -3 true true\n8 ? 2 true - 2 - true\n") ≡ ascii "n a.set a.flag b.set b.flag h.sum\n1 - - - - -\n2 - true - - 22\n3 22 - 25 - -1\n3 22 - 25 - -1\n4 -2 false -3 - 21\n5 19 - 21 - -\n6 - - - - -29\nrefused 23\nrefused 23\n7 -26 false -31 - 21\nrefused 25\n8 - - 19 - -\n"
+pub run-random : replay (ascii "interface D { attribute id : whole event on_ : bool event v : whole action set ( whole ) action flag ( bool ) } interface H { event w : whole action sum ( whole ) } entity a : D { id = 1 } entity b : D { id = 2 } entity h : H { } rules when event v from x : D value changed and ( event on_ from y : D with id = 3 - x.id value changed or event w from h value = x.v ) trigger action sum ( x.v * 10 + y.id ) on h , action flag ( y.on_ ) on x with id = 1 end when event sum from h value changed trigger action set ( h.sum - z.v ) on z : D end when event set from x : D value = x.v or event flag from a value = true trigger action sum ( - h.w / x.id ) on h end end") (ascii "n a.v h.w a.on_ b.on_ b.v b a\n1 -3 2 true true -3 - -\n2 2 2 - true 2 - true\n3 0 2 false - -3 true true\n3 0 2 false - -3 true true\n4 1 1 ? false 2 - -\n5 2 1 ? false 0 - -\n6 - 0 true true -3 true -\n7 1 2 - true 1 true false\n7 1 2 - true 1 true false\n7 -3 -3 false ? 2 - -\n7 2 1 ? true -3 true true\n8 ? 2 true - 2 - true\n") ≡ ascii "n a.set a.flag b.set b.flag h.sum\n1 - true - - -29\n2 -31 true -31 - -1\n3 -1 - 2 - -29\n3 -1 - 2 - -29\n4 -30 false -31 - 0\n5 -2 - 0 - -\n6 - - - - -29\nrefused 23\nrefused 23\n7 -26 false -31 - 21\nrefused 25\n8 - - 19 - -\n"
 unfolding replay ascii
     Ieee.add Ieee.sub Ieee.mul Ieee.div Ieee.neg Ieee.eq Ieee.ofInt Ieee.ofBits Ieee.toBits Ieee.isNan
 run-random = refl

@@ -1,20 +1,24 @@
--- The cases that document 01 marks P, in one statement, from raw bytes through check, fresh, line, header and row.
+-- The cases that document 01 marks P, as document 02 amends them, in one statement, from raw bytes through check, fresh, line, header and row; and
+-- what document 02's order 1 is for, as two laws about a clause.
 use Prim.Native.Nat.{ℕ, _+_, _*_}
 use mathlib.Core.Path.{_≡_, refl}
 use mathlib.Core.List.{List, [], _∷_}
-use mathlib.Core.Bool.{Bool, false}
+use mathlib.Core.Bool.{Bool, true, false, _&&_}
 use mathlib.Core.Option.{some}
 use lib.Ieee as Ieee
+use Rattle.values.specs.declared.Value.{Value}
+use Rattle.values.specs.definitions.Value.{equal}
 use Rattle.text.specs.definitions.Bytes.{ascii}
-use Rattle.text.specs.definitions.Syntax.{Filter, Clause, File}
+use Rattle.text.specs.definitions.Syntax.{Expression, equals, Clause}
+use Rattle.cycles.specs.definitions.Outcome.{running}
 use Rattle.cycles.specs.definitions.Store.{Store}
-use Rattle.cycles.specs.definitions.Spots.{Spots}
-use Rattle.cycles.specs.contracts.TotalMachine.{clause-holds}
-use Rattle.cycles.specs.definitions.Cycle.{fresh}
+use Rattle.cycles.specs.definitions.Spots.{Spot, Spots}
+use Rattle.cycles.specs.definitions.Reference.{read-spot, ref-value, ref-filter, ref-clause}
 use Rattle.trial_cases.specs.definitions.Trials.{
   pedal,
   calling,
   filtered,
+  lamps,
   lines-printed,
   header-printed,
   row-call-printed,
@@ -22,7 +26,7 @@ use Rattle.trial_cases.specs.definitions.Trials.{
   refused-with,
   checked-as,
 }
-use Rattle.trial_cases.proofs.laws.FirstCycle.{no-filter-holds-first}
+use Rattle.trial_cases.proofs.laws.Joining.{clause-on-joining, clause-once}
 
 pub record Trial-cases : Type 0 where
   -- the pedal table
@@ -42,14 +46,27 @@ pub record Trial-cases : Type 0 where
   pub third : lines-printed (calling "real" "action keep ( 1r / 3r ) on k") "n p.down" ("1 true" ∷ []) ≡ row-printed "1 3fd5555555555555" ∷ []
   -- "Calls keep(1), keep(2) leave 2"
   pub last-stands : lines-printed (calling "whole" "action keep ( 1 ) on k , action keep ( 2 ) on k") "n p.down" ("1 true" ∷ []) ≡ row-printed "1 2" ∷ []
-  -- "Any clause `with` is false in cycle 1": in any file, at any names and any store after the first line
-  pub filters-false : (f : File) (sp : Spots) (now : Store) (c : Clause) (g : Filter) → c .filter ≡ some g → clause-holds sp now (fresh f .previous) c ≡ false
-  pub filter-false : lines-printed filtered "n p.down" ("1 true" ∷ "2 false" ∷ "3 true" ∷ []) ≡ row-printed "1 -" ∷ row-printed "2 -" ∷ row-printed "3 1" ∷ []
+  -- document 02, order 1: "a clause's `with` reads the present cycle, as a call's does", and so in cycle 1 too
+  pub filter-in-first : lines-printed filtered "n p.down" ("1 true" ∷ "2 false" ∷ "3 true" ∷ []) ≡ row-printed "1 1" ∷ row-printed "2 -" ∷ row-printed "3 1" ∷ []
+  -- "A lamp plugged in during a core": the one in bay 2 is away, comes with its switch on and fires in that very line, and not again while it is
+  -- held on; switched off and on it fires as ever. The one in bay 1 never does.
+  pub lamp-joins-late : lines-printed lamps "n west east west.switch east.switch"
+      ("1 - false false -" ∷ "2 - - true -" ∷ "3 - true - true" ∷ "4 - - true true" ∷ "5 - - - false" ∷ "6 - - - true" ∷ [])
+      ≡ row-printed "1 - -" ∷ row-printed "2 - -" ∷ row-printed "3 - 2" ∷ row-printed "4 - -" ∷ row-printed "5 - -" ∷ row-printed "6 - 2" ∷ []
+  -- and of the reference machine, at any names and in any stores, wherever it runs. At an entity that was absent one cycle before, a clause
+  -- `value = X` holds exactly if the entity is there, its `with` holds and its event is equal to X, all of it now;
+  pub holds-on-joining : (sp : Spots) (c : Clause) (at : ℕ) (x : Expression) → c .test ≡ equals at x
+      → (now previous : Store) (p : Spot) → sp (c .target .name .bytes) (c .event .bytes) ≡ some p → previous .present (p .entity) ≡ false
+      → (filter : Bool) → ref-filter sp now (c .target) (c .filter) ≡ running filter → (v : Value) → ref-value sp now x ≡ running v
+      → (r : Bool) → ref-clause sp now previous c ≡ running r → r ≡ (now .present (p .entity) && (filter && equal (read-spot now p) v))
+  -- and one that holds does not hold, at the same entities, in the cycle after: that one compares with the store that the rules saw now
+  pub holds-once : (sp : Spots) (c : Clause) (at : ℕ) (x : Expression) → c .test ≡ equals at x
+      → (next now previous : Store) → ref-clause sp now previous c ≡ running true → (r : Bool) → ref-clause sp next now c ≡ running r → r ≡ false
   -- "After names `n`, `1` is taken, `0` is 24, `01` is 21"
   pub only-numbers : lines-printed pedal "n" ("0" ∷ "01" ∷ "1" ∷ []) ≡ refused-with 24 ∷ refused-with 21 ∷ row-printed "1 -" ∷ []
 
 pub trial-cases : Trial-cases
-unfolding pedal calling filtered lines-printed header-printed row-call-printed row-printed refused-with checked-as ascii
+unfolding pedal calling filtered lamps lines-printed header-printed row-call-printed row-printed refused-with checked-as ascii
     Ieee.div Ieee.ofInt Ieee.toBits Ieee.isNan
 trial-cases = record {
   pedal-names = refl;
@@ -63,7 +80,9 @@ trial-cases = record {
   quotient-unset = refl;
   third = refl;
   last-stands = refl;
-  filters-false = no-filter-holds-first;
-  filter-false = refl;
+  filter-in-first = refl;
+  lamp-joins-late = refl;
+  holds-on-joining = clause-on-joining;
+  holds-once = clause-once;
   only-numbers = refl;
 }

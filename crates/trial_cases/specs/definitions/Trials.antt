@@ -1,4 +1,4 @@
--- Document 01's trial benches as texts, and runs of them over zeroed memory of the stated sizes.
+-- Document 01's trial benches as texts, a bench for what document 02 asks in its order 1, and runs of them over zeroed memory of the stated sizes.
 use Prim.Native.Nat.{ℕ, _/_, _%_}
 use Prim.Native.String.{String}
 use mathlib.Core.List.{List, [], _∷_, _++_, map}
@@ -29,6 +29,11 @@ calling kind calls = ascii "interface P { event down : bool } interface L { acti
 unfoldable pub filtered : List ℕ
 unfolding ascii
 filtered = ascii "interface P { attribute bay : whole event down : bool } interface L { action keep ( whole ) } entity p : P { bay = 2 } entity k : L { } rules when event down from p with bay = 2 value = true trigger action keep ( 1 ) on k end end"
+
+-- "A lamp plugged in during a core arrives with its bay known": a lamp in bay 1, one in bay 2, and a clause `with bay = 2` for any lamp
+unfoldable pub lamps : List ℕ
+unfolding ascii
+lamps = ascii "interface Lamp { attribute bay : whole event switch : bool action glow ( whole ) } entity west : Lamp { bay = 1 } entity east : Lamp { bay = 2 } rules when event switch from l : Lamp with bay = 2 value = true trigger action glow ( l.bay ) on l end end"
 
 unfoldable pub bench-memory : List ℕ → List ℕ
 unfolding check-call

@@ -211,10 +211,10 @@ struct Target {
     declares: bool,
 }
 
-/// A rule under way: what its sums may read.
+/// A rule under way: what its sums may read, each member with its owner's name.
 struct Scope<'p> {
     plan: &'p Plan,
-    readable: Vec<(String, String, Kind)>,
+    readable: Vec<(String, PlanMember)>,
 }
 
 /// A rule, or none if the plan has nothing to fire.
@@ -276,11 +276,11 @@ fn fill(prng: &mut Prng, plan: &Plan, named: &[Target], sorts: &[Sort], most: us
     (!targets.is_empty()).then_some(())
 }
 
-fn readable(plan: &Plan, named: &[Target]) -> Vec<(String, String, Kind)> {
+fn readable(plan: &Plan, named: &[Target]) -> Vec<(String, PlanMember)> {
     let members = |target: &Target| {
         let owner = target.name.clone();
         let members = plan.interfaces[target.interface].members.clone();
-        members.into_iter().map(move |member| (owner.clone(), member.name, member.kind))
+        members.into_iter().map(move |member| (owner.clone(), member))
     };
     named.iter().flat_map(members).collect()
 }
@@ -309,7 +309,7 @@ impl Scope<'_> {
         let event = (*prng.pick(&choices)).clone();
         let mut words = Vec::new();
         push(&mut words, &["event", &event.name, "from"]);
-        self.place(prng, target, 20, &mut words);
+        self.place(prng, target, 35, &mut words);
         words.push("value".into());
         if prng.chance(35) {
             words.push("changed".into());
@@ -344,23 +344,24 @@ impl Scope<'_> {
         }
         let attribute = *prng.pick(&attributes);
         push(words, &["with", &attribute.name, "="]);
-        let own = prng.chance(40);
-        if own {
-            // Certain to hold, unless unset.
-            push(words, &[&target.name, ".", &attribute.name]);
-        } else {
-            words.extend(self.sum(prng, attribute.kind, 1));
+        match prng.weighted(&[30, 40, 15, 15]) {
+            // Certain to hold where the entity is there.
+            0 => push(words, &[&target.name, ".", &attribute.name]),
+            // May start or cease to hold in the very line that reads the event.
+            1 => words.extend(self.leaf(prng, attribute.kind, &[Sort::Event])),
+            2 => words.extend(self.literal_or_member(prng, attribute.kind)),
+            _ => words.extend(self.sum(prng, attribute.kind, 1)),
         }
     }
 
     /// A sum of a kind; `fuel` bounds how deep it nests.
     fn sum(&self, prng: &mut Prng, kind: Kind, fuel: usize) -> Vec<String> {
         if fuel == 0 {
-            return self.leaf(prng, kind);
+            return self.literal_or_member(prng, kind);
         }
         match (kind, prng.below(8)) {
             (_, 0) => parenthesised(self.sum(prng, kind, fuel - 1)),
-            (Kind::Bool, _) => self.leaf(prng, kind),
+            (Kind::Bool, _) => self.literal_or_member(prng, kind),
             (_, 1) => joined(&["-"], self.sum(prng, kind, fuel - 1)),
             (Kind::Real, 2 | 3) => joined(&["real"], parenthesised(self.sum(prng, Kind::Whole, fuel - 1))),
             _ => {
@@ -372,13 +373,22 @@ impl Scope<'_> {
         }
     }
 
-    fn leaf(&self, prng: &mut Prng, kind: Kind) -> Vec<String> {
-        let fitting: Vec<_> = self.readable.iter().filter(|(_, _, of)| *of == kind).collect();
-        if fitting.is_empty() || prng.chance(45) {
+    fn literal_or_member(&self, prng: &mut Prng, kind: Kind) -> Vec<String> {
+        if prng.chance(45) {
             return vec![literal(prng, kind)];
         }
-        let (owner, member, _) = *prng.pick(&fitting);
-        vec![owner.clone(), ".".into(), member.clone()]
+        self.leaf(prng, kind, &[Sort::Attribute, Sort::Event, Sort::Action])
+    }
+
+    /// A member of a kind and one of these sorts; a literal if there is none.
+    fn leaf(&self, prng: &mut Prng, kind: Kind, sorts: &[Sort]) -> Vec<String> {
+        let fits = |member: &PlanMember| member.kind == kind && sorts.contains(&member.sort);
+        let fitting: Vec<_> = self.readable.iter().filter(|(_, member)| fits(member)).collect();
+        if fitting.is_empty() {
+            return vec![literal(prng, kind)];
+        }
+        let (owner, member) = *prng.pick(&fitting);
+        vec![owner.clone(), ".".into(), member.name.clone()]
     }
 }
 

@@ -1,4 +1,4 @@
-//! Lines of readings for a plan: valid ones, resent ones, and each kind of damage.
+//! Lines of readings for a plan: valid ones, among them many in which an entity comes, resent ones, and each kind of damage.
 
 use super::bench::Plan;
 use super::prng::Prng;
@@ -9,6 +9,14 @@ use crate::interpreter::value::Kind;
 pub enum Column {
     Presence(usize),
     Event(usize, usize),
+}
+
+impl Column {
+    pub fn entity(self) -> usize {
+        match self {
+            Column::Presence(entity) | Column::Event(entity, _) => entity,
+        }
+    }
 }
 
 /// A line as columns with their fields; the number stands apart.
@@ -66,35 +74,62 @@ pub fn some_columns(prng: &mut Prng, plan: &Plan) -> Vec<Column> {
     columns
 }
 
+/// One of these entities for a line to switch: one at which filters can stand rather than another, an absent one rather than one there.
+pub fn to_switch(prng: &mut Prng, plan: &Plan, present: &[bool], mut entities: Vec<usize>) -> Option<usize> {
+    let has = |entity: usize, sort: Sort| plan.members(entity).iter().any(|member| member.sort == sort);
+    prng.shuffle(&mut entities);
+    entities.into_iter().max_by_key(|&entity| (has(entity, Sort::Attribute) && has(entity, Sort::Event), !present[entity]))
+}
+
+/// Puts in the columns of an entity that are missing.
+pub fn complete(prng: &mut Prng, plan: &Plan, entity: usize, columns: &mut Vec<Column>) {
+    for column in all_columns(plan) {
+        if column.entity() == entity && !columns.contains(&column) {
+            columns.insert(prng.below(columns.len() + 1), column);
+        }
+    }
+}
+
 /// A valid line; `present` is moved on as the line says.
 pub fn line(prng: &mut Prng, plan: &Plan, columns: &[Column], present: &mut [bool]) -> Line {
+    line_switching(prng, plan, columns, present, None)
+}
+
+/// A valid line in which the entity to switch, if any, comes where it was absent and else goes. Its presence is among the columns.
+pub fn line_switching(prng: &mut Prng, plan: &Plan, columns: &[Column], present: &mut [bool], to_switch: Option<usize>) -> Line {
+    let before = present.to_vec();
     let mut fields = vec![String::new(); columns.len()];
     for (column, field) in columns.iter().zip(&mut fields) {
         if let Column::Presence(entity) = *column {
-            *field = presence(prng);
+            *field = if to_switch == Some(entity) { (!before[entity]).to_string() } else { presence(prng, before[entity]) };
             present[entity] = field == "true" || (field == "-" && present[entity]);
         }
     }
     for (column, field) in columns.iter().zip(&mut fields) {
         if let Column::Event(entity, member) = *column {
-            *field = event(prng, plan.members(entity)[member].kind, present[entity]);
+            *field = event(prng, plan.members(entity)[member].kind, before[entity], present[entity]);
         }
     }
     Line { columns: columns.to_vec(), fields }
 }
 
-pub fn presence(prng: &mut Prng) -> String {
-    ["-", "true", "false"][prng.weighted(&[55, 28, 17])].to_string()
+/// Who is absent comes back soon, so that many lines have somebody come.
+fn presence(prng: &mut Prng, before: bool) -> String {
+    let weights = if before { [58, 22, 20] } else { [25, 60, 15] };
+    ["-", "true", "false"][prng.weighted(&weights)].to_string()
 }
 
-pub fn event(prng: &mut Prng, kind: Kind, present: bool) -> String {
-    if !present || prng.chance(20) {
+/// Who comes in this line mostly brings readings: clauses at it can hold at once.
+fn event(prng: &mut Prng, kind: Kind, before: bool, present: bool) -> String {
+    if !present {
         return "-".into();
     }
-    if prng.chance(8) {
-        return "?".into();
+    let weights = if before { [20, 6, 74] } else { [5, 3, 92] };
+    match prng.weighted(&weights) {
+        0 => "-".into(),
+        1 => "?".into(),
+        _ => value(prng, kind),
     }
-    value(prng, kind)
 }
 
 /// A value in the form of readings: mostly small ones, some at the edges, some random.

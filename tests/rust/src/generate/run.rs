@@ -36,14 +36,15 @@ impl<'p> Run<'p> {
         if prng.chance(10) {
             self.columns = lines::some_columns(prng, self.plan);
         }
-        let (names, values) = match prng.weighted(&[62, 5, 5, 4, 6, 6, 6, 6]) {
+        let (names, values) = match prng.weighted(&[44, 18, 5, 5, 4, 6, 6, 6, 6]) {
             0 => self.next(prng),
-            1 => self.lent(&self.last, self.number),
-            2 => self.lent(&lines::same_readings(prng, self.plan, &self.last), self.number),
-            3 => self.other_readings(prng),
-            4 => self.other_number(prng),
-            5 => self.bad_names(prng),
-            6 => self.bad_values(prng),
+            1 => self.switch(prng),
+            2 => self.lent(&self.last, self.number),
+            3 => self.lent(&lines::same_readings(prng, self.plan, &self.last), self.number),
+            4 => self.other_readings(prng),
+            5 => self.other_number(prng),
+            6 => self.bad_names(prng),
+            7 => self.bad_values(prng),
             _ => self.bad_field(prng),
         };
         Call::Line { names, values }
@@ -54,7 +55,20 @@ impl<'p> Run<'p> {
     }
 
     pub fn next(&mut self, prng: &mut Prng) -> Lent {
-        self.last = lines::line(prng, self.plan, &self.columns, &mut self.present);
+        self.next_switching(prng, None)
+    }
+
+    /// The next line, in which an entity comes with its readings, or goes so that it can come later.
+    fn switch(&mut self, prng: &mut Prng) -> Lent {
+        let to_switch = lines::to_switch(prng, self.plan, &self.present, (0..self.present.len()).collect());
+        if let Some(entity) = to_switch {
+            lines::complete(prng, self.plan, entity, &mut self.columns);
+        }
+        self.next_switching(prng, to_switch)
+    }
+
+    fn next_switching(&mut self, prng: &mut Prng, to_switch: Option<usize>) -> Lent {
+        self.last = lines::line_switching(prng, self.plan, &self.columns, &mut self.present, to_switch);
         self.number += 1;
         self.lent(&self.last, self.number)
     }

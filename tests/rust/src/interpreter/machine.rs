@@ -1,4 +1,5 @@
-//! The bare machine. It looks names up at each step and runs any grammatical bench, until it stops.
+//! The bare machine of document 01, its clause filters as order 1 of document 02 has them. It looks names up at each step and runs any
+//! grammatical bench, until it stops.
 
 use super::check::READABLE;
 use super::grammar::{Bench, Call, Clause, Condition, Filter, Interface, Link, Name, Rule, Sort, Sum, Test};
@@ -99,10 +100,16 @@ fn set_attributes(bench: &Bench, entity: usize, cells: &mut [Cell]) -> Result<()
 
 /// One cycle: the state after a line of this number with these readings.
 pub fn cycle(bench: &Bench, state: &State, number: u32, readings: &Readings) -> Result<State, Stop> {
+    cycle_with_late_filters(bench, state, number, readings, &vec![false; bench.entities.len()])
+}
+
+/// A cycle in which the `with` of a clause at a late entity reads the cycle before. Document 01 had all of them so; now any late entity
+/// makes the machine wrong. Tests ask whether generated cases tell it from the right one.
+pub fn cycle_with_late_filters(bench: &Bench, state: &State, number: u32, readings: &Readings, late: &[bool]) -> Result<State, Stop> {
     let mut seen = state.now.clone();
     apply_presence(bench, &mut seen, readings);
     apply_readings(bench, &mut seen, readings)?;
-    let writes = fire(bench, &seen, &state.before)?;
+    let writes = fire(bench, &seen, &state.before, late)?;
     let mut now = seen.clone();
     unset(bench, &mut now, None, &[Sort::Action]);
     for write in writes {
@@ -156,12 +163,12 @@ struct Write {
 }
 
 /// All writes, by rule, choice, call.
-fn fire(bench: &Bench, now: &Store, before: &Store) -> Result<Vec<Write>, Stop> {
+fn fire(bench: &Bench, now: &Store, before: &Store, late: &[bool]) -> Result<Vec<Write>, Stop> {
     let mut writes = Vec::new();
     for rule in &bench.rules {
         let variables = rule.variables();
         let clauses = rule.clauses();
-        let mut trial = Trial { bench, now, before, rule, clauses, variables, choice: Vec::new() };
+        let mut trial = Trial { bench, now, before, late, rule, clauses, variables, choice: Vec::new() };
         trial.choose(&mut writes)?;
     }
     Ok(writes)
@@ -172,6 +179,8 @@ struct Trial<'b, 't> {
     bench: &'b Bench<'t>,
     now: &'b Store,
     before: &'b Store,
+    /// The entities whose clauses have their filters read in the cycle before; none in the right machine.
+    late: &'b [bool],
     rule: &'b Rule<'t>,
     clauses: Vec<&'b Clause<'t>>,
     variables: Vec<(Name<'t>, Name<'t>)>,
@@ -223,7 +232,9 @@ impl<'b, 't> Trial<'b, 't> {
     fn clause(&self, clause: &Clause) -> Result<bool, Stop> {
         let entity = self.entity(clause.from.name)?;
         let member = self.interface(entity)?.member_of_sort(clause.event.text, &READABLE).ok_or(Stop)?;
-        let filtered = self.filter(entity, &clause.filter, self.before)?;
+        // Document 02, order 1: "From now on a clause's `with` reads the present cycle, as a call's does; `value = X` and `changed` still
+        // compare two cycles."
+        let filtered = self.filter(entity, &clause.filter, if self.late[entity] { self.before } else { self.now })?;
         let now = self.now.read(entity, member);
         let before = self.before.read(entity, member);
         let met = match &clause.test {

@@ -1,4 +1,4 @@
-//! The interpreter: each file is one part of document 01.
+//! The interpreter: each file is one part of document 01. Order 1 of document 02 changes one of them, the machine.
 
 pub mod check;
 pub mod grammar;

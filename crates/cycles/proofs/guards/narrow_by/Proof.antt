@@ -54,8 +54,7 @@ same-length-4 c = c .before .before .unmark-by-value2 .kept .1 .1 .1 .1 .1 .1 .1
 returns-5 : tie.Need-returns-5
 returns-5 c =
     let s = c .before .before .before .before in
-    taken-for (by-value-before (s .before .before .before .before .owner .ensures) (s .before .before .before .member .ensures)
-    (s .before .if3 .left) (s .if4 .left))
+    taken-for (by-value-before (s .before .before .before .before .owner .ensures) (s .before .before .before .member .ensures) (s .if4 .left))
     (c .before .before .unmark-by-value2 .ensures)
 
 pub narrow-by-spec : {M : Type 1} → statement M
