@@ -9,7 +9,9 @@ from pathlib import Path
 
 SEED = 300
 RINGS = 300
+START = 137000  # right of zero: the stage was zeroed in mid travel
 TURN = 151  # the core came in two pieces; the first ring of the second, measured on the way back
+LEFT, RIGHT = -1, 1
 MISSING = (88, 214)  # rings without width
 UNREADABLE = (45, 46)  # rings of which the camera has no width
 LONG_PRESSES = (1, 50, 100, 200, 250, 300)
@@ -62,13 +64,13 @@ def readings():
     draw = random.Random(SEED)
     lines = ["n stage.pos stage.edge stage.dir pedal.count pedal.held camera.width"]
     number = 1
-    pos = 1000
-    lines.append(record(number, pos, pos, 1, "-", "false", "-"))
+    pos = START
+    lines.append(record(number, pos, pos, LEFT, "-", "false", "-"))
     for ring in range(1, RINGS + 1):
         width = width_of(ring, draw)
         edge = pos
-        pos = edge + width if ring < TURN else edge - width
-        direction = {1: 1, TURN: -1}.get(ring, "-")
+        pos = edge + width * (LEFT if ring < TURN else RIGHT)
+        direction = {1: LEFT, TURN: RIGHT}.get(ring, "-")
         held = "true" if ring in LONG_PRESSES else "false"
         number += 1
         good = record(number, pos, edge, direction, ring, held, camera_of(ring, width, draw))

@@ -254,6 +254,26 @@ static void lamp_joins_late(void)
     check_rows(rows, sizeof rows / sizeof rows[0]);
 }
 
+/* A stage that was zeroed in mid travel: quotients are rounded to the left on both sides of zero, by a divisor of either sign. */
+static void halves_left_of_zero(void)
+{
+    static const char *const rows[][2] = {
+        {"1 7", "1 3 -4 -7"},    {"2 1", "2 0 -1 -1"},   {"3 0", "3 0 0 0"},
+        {"4 -1", "4 -1 0 1"},    {"5 -2", "5 -1 1 2"},   {"6 -7", "6 -4 3 7"},
+        {"7 2147483647", "7 1073741823 -1073741824 -2147483647"},
+        {"8 -2147483648", "8 -1073741824 1073741824 -"}, {"8 -2147483648", "8 -1073741824 1073741824 -"},
+    };
+    lend_exact();
+    state_used = STATE_USED(1);
+    put_text(&text, "interface Stage { event pos : whole action half ( whole ) action back ( whole ) action turned ( whole ) } entity stage : Stage { } "
+                    "rules when event pos from stage value changed trigger action half ( stage.pos / 2 ) on stage , "
+                    "action back ( stage.pos / -2 ) on stage , action turned ( stage.pos / -1 ) on stage end end");
+    check_answer(checked(), 0, 0, "the bench of a stage is accepted");
+    check_answer(fresh(), 0, 0, "its fresh state");
+    put_text(&names, "n stage.pos");
+    check_rows(rows, sizeof rows / sizeof rows[0]);
+}
+
 /* Memory longer than stated: the bytes past the size stay. */
 static void longer_memory(void)
 {
@@ -520,6 +540,7 @@ int main(void)
     for (lend_at_start = 0; lend_at_start < 2; lend_at_start++) {
         pedal_rows();
         lamp_joins_late();
+        halves_left_of_zero();
         longer_memory();
         short_memory();
         refused_texts();

@@ -1,5 +1,5 @@
-"""An executable reading of document 01 ("The Pantagruel bench engine") with order 1
-of document 02 ("Requests that came later"); no later order is in force here.
+"""An executable reading of document 01 ("The Pantagruel bench engine") with orders 1
+and 2 of document 02 ("Requests that came later"); no later order is in force here.
 
 The module follows the order of document 01: values and sums, words, grammar,
 counts, names, kinds, the bare machine, lines of readings, the runner.  It aims
@@ -107,10 +107,17 @@ def differ(left: Cell, right: Cell) -> bool:
 # --------------------------------------------------------------------------
 
 
-def divide_dropping_fraction(left: int, right: int) -> int:
-    """ "`/` drops the fraction": the quotient goes towards zero.  right is not 0."""
-    quotient = abs(left) // abs(right)
-    return quotient if (left < 0) == (right < 0) else -quotient
+def rounded_toward_minus_infinity(left: int, right: int) -> int:
+    """The greatest whole number that is not above the exact quotient of left by right.  right is not 0.
+
+    Document 02, order 2: "Whole `/` rounds toward minus infinity: -7 / 2 is -4, 7 / -2 is -4,
+    -7 / -2 is 3."  It stands in the place of document 01's "`/` drops the fraction".
+
+    Python's `//` of two ints is this number, whatever their signs are; the division of many
+    other languages goes toward zero instead, and differs wherever the exact quotient is
+    negative and no whole.  make_cases.py (check_quotients) holds it to a statement without division.
+    """
+    return left // right
 
 
 def whole_operation(mark: bytes, left: int, right: int) -> Cell:
@@ -120,13 +127,17 @@ def whole_operation(mark: bytes, left: int, right: int) -> Cell:
         return whole_or_unset(left - right)
     if mark == b"*":
         return whole_or_unset(left * right)
+    # Document 02, order 2: "A zero divisor and -2147483648 / -1 still give unset"; the latter is 2147483648
     if right == 0:
-        return None  # "a zero divisor give[s] unset"
-    return whole_or_unset(divide_dropping_fraction(left, right))
+        return None
+    return whole_or_unset(rounded_toward_minus_infinity(left, right))
 
 
 def real_operation(mark: bytes, left: float, right: float) -> Cell:
-    """ "Reals round once per operation": one float operation, then the test."""
+    """ "Reals round once per operation": one float operation, then the test.
+
+    Readings of document 02, order 2: "Reals stay."
+    """
     if mark == b"+":
         return real_or_unset(left + right)
     if mark == b"-":

@@ -1,7 +1,7 @@
 """Makes cases.json: bench texts and readings with the results of bench_oracle.
 
 Every stored result comes from bench_oracle; next to each written case stands the
-result worked out by hand from document 01 with order 1 of document 02, and the two
+result worked out by hand from document 01 with orders 1 and 2 of document 02, and the two
 must agree.  In a refused bench text the mark @ (no byte of any such text otherwise)
 shows the expected place.
 
@@ -13,7 +13,7 @@ import dataclasses
 import json
 import random
 import sys
-from itertools import zip_longest
+from itertools import product, zip_longest
 from pathlib import Path
 
 from bench_oracle import Bench, check, run
@@ -959,11 +959,11 @@ def ran_sums(name, kind, table):
 def make_sums():
     ran_sums("run-whole-limits", "whole", [
         ("2147483647 + 1", "-"),
-        ("-7 / 2", "-3"),
+        ("-7 / 2", "-4"),
         ("7 / 0", "-"),
         ("(-2147483647 - 1) / -1", "-"),
         ("-2147483647 - 1", "-2147483648"),
-        ("7 / -2", "-3"),
+        ("7 / -2", "-4"),
         ("-(-2147483647 - 1)", "-"),
         ("-65536 * 32768", "-2147483648"),
     ])
@@ -1013,6 +1013,174 @@ def make_sums():
 
 
 # --------------------------------------------------------------------------
+# Readings: whole quotients (document 02, order 2)
+# --------------------------------------------------------------------------
+
+QUOTIENT = (
+    "interface S { event x : whole event y : whole action q ( whole ) action r ( whole ) } entity s : S { } "
+    "rules when event x from s value changed or event y from s value changed "
+    "trigger action q ( s.x / s.y ) on s , action r ( s.x - s.x / s.y * s.y ) on s end end"
+)
+
+
+def make_quotients():
+    # q is rounded toward minus infinity, so what is left over, r, has the sign of the divisor or is 0
+    ran("run-quotient-of-all-signs", QUOTIENT, [
+        ("n s.x s.y", "n s.q s.r"),
+        # 3.5 and -3.5, from both signs of each
+        ("1 7 2", "1 3 1"),
+        ("2 -7 2", "2 -4 1"),
+        ("3 7 -2", "3 -4 -1"),
+        ("4 -7 -2", "4 3 -1"),
+        # exact: no step down
+        ("5 6 -3", "5 -2 0"),
+        ("6 -6 3", "6 -2 0"),
+        ("7 -6 -3", "7 2 0"),
+        ("8 0 -5", "8 0 0"),
+        # nearer to zero than to -1, and yet -1
+        ("9 -1 3", "9 -1 2"),
+        ("10 1 -3", "10 -1 -2"),
+        # between 0 and 1
+        ("11 -1 -3", "11 0 -1"),
+        # no quotient
+        ("12 -5 0", "12 - -"),
+    ])
+    # no number of a bench text is -2147483648, but a reading can be; r is unset where the
+    # product of quotient and divisor leaves the 32 bits, the quotient itself in line 1 (and by the zero divisor of line 12)
+    ran("run-quotient-at-the-ends", QUOTIENT, [
+        ("n s.x s.y", "n s.q s.r"),
+        ("1 -2147483648 -1", "1 - -"),
+        ("2 -2147483648 1", "2 -2147483648 0"),
+        ("3 -2147483647 -1", "3 2147483647 0"),
+        # -1073741823.5; the product is -2147483648, just within
+        ("4 -2147483647 2", "4 -1073741824 1"),
+        # -1073741823.5 again; the product is 2147483648
+        ("5 2147483647 -2", "5 -1073741824 -"),
+        # a little below -1; the product is -4294967294
+        ("6 -2147483648 2147483647", "6 -2 -"),
+        # a little above -1; the product is 2147483648
+        ("7 2147483647 -2147483648", "7 -1 -"),
+        ("8 -2147483648 -2147483648", "8 1 0"),
+        ("9 -1 2147483647", "9 -1 2147483646"),
+        ("10 -1 -2147483648", "10 0 -1"),
+        ("11 0 -2147483648", "11 0 0"),
+        ("12 -2147483648 0", "12 - -"),
+    ])
+    # half goes down by one every second line and back goes up so, across zero too; two
+    # further to the right the half is always one more
+    ran(
+        "run-halving-across-zero",
+        "interface Stage { attribute by : whole event pos : whole "
+        "action half ( whole ) action back ( whole ) action step ( whole ) } entity s : Stage { by = -2 } "
+        "rules when event pos from s value changed trigger action half ( s.pos / 2 ) on s , "
+        "action back ( s.pos / s.by ) on s , action step ( ( s.pos + 2 ) / 2 - s.pos / 2 ) on s end end",
+        [
+            ("n s.pos", "n s.half s.back s.step"),
+            ("1 3", "1 1 -2 1"),
+            ("2 2", "2 1 -1 1"),
+            ("3 1", "3 0 -1 1"),
+            ("4 0", "4 0 0 1"),
+            ("5 -1", "5 -1 0 1"),
+            ("6 -2", "6 -1 1 1"),
+            ("7 -3", "7 -2 1 1"),
+            ("8 -4", "8 -2 2 1"),
+        ],
+    )
+    # halved again and again, a negative value comes to rest at -1 and a positive one at 0;
+    # the value at rest is fired once more, and then k no longer changes
+    ran(
+        "run-halving-feeds-itself",
+        "interface S { event e : whole action k ( whole ) } entity s : S { } "
+        "rules when event e from s value changed trigger action k ( s.e ) on s end "
+        "when event k from s value changed trigger action k ( s.k / 2 ) on s end end",
+        [
+            ("n s.e", "n s.k"),
+            ("1 -5", "1 -5"),
+            ("2 -", "2 -3"),
+            ("3 -", "3 -2"),
+            ("4 -", "4 -1"),
+            ("5 -", "5 -1"),
+            ("6 -", "6 -"),
+            # k was -1 and is unset, which has no half
+            ("7 -", "7 -"),
+            ("8 5", "8 5"),
+            ("9 -", "9 2"),
+            ("10 -", "10 1"),
+            ("11 -", "11 0"),
+            ("12 -", "12 0"),
+        ],
+    )
+    # e by `value = sum`, f by a clause's filter, g by a call's filter with a negative divisor
+    ran(
+        "run-quotient-in-conditions",
+        "interface S { attribute id : whole event u : whole event v : whole "
+        "action e ( whole ) action f ( whole ) action g ( whole ) } entity s : S { id = -4 } "
+        "rules when event v from s value = s.u / 2 trigger action e ( s.v ) on s end "
+        "when event v from s with id = s.u / 2 value changed trigger action f ( s.v ) on s end "
+        "when event u from s value changed trigger action g ( s.u ) on s with id = s.u / -2 end end",
+        [
+            ("n s.u s.v", "n s.e s.f s.g"),
+            # -7 / 2 is not -3, but is the id
+            ("1 -7 -3", "1 - -3 -"),
+            ("2 - -4", "2 -4 -4 -"),
+            # -8 / 2 is -4 as well, so v was equal one cycle before
+            ("3 -8 -", "3 - - -"),
+            # v goes with -9 / 2, which is -5 and no longer the id
+            ("4 -9 -5", "4 - - -"),
+            # 7 / -2 is the id
+            ("5 7 4", "5 - - 7"),
+            # 9 / -2 is -5; v comes to be 9 / 2
+            ("6 9 -", "6 4 - -"),
+            # 8 / -2 is the id; v was equal to 9 / 2 before
+            ("7 8 -", "7 - - 8"),
+            ("8 ? -", "8 - - -"),
+            # -1 / 2 is not 0
+            ("9 -1 0", "9 - - -"),
+            ("10 - -1", "10 -1 - -"),
+        ],
+    )
+    # each quotient is rounded before the next operator takes it, from left to right
+    ran_sums("run-quotient-in-longer-sums", "whole", [
+        ("-7 / 2 * 2", "-8"),
+        ("2 * -7 / 2", "-7"),
+        # -5, then -3
+        ("-9 / 2 / 2", "-3"),
+        # by -3
+        ("100 / (-7 / 3)", "-34"),
+        # 1 + 4 - 3
+        ("1 - 7 / -2 - -7 / -2", "2"),
+        ("-7 - -7 / 2 * 2", "1"),
+        # -1073741824 twice is within 32 bits, and not so its opposite
+        ("-2147483647 / 2 * 2", "-2147483648"),
+        ("2147483647 / -2 * -2", "-"),
+    ])
+    # a minus on the operand against one on the result; a divisor that is zero, or is not, by rounding
+    ran_sums("run-quotient-and-minus", "whole", [
+        ("-7 / 2", "-4"),
+        ("-(7 / 2)", "-3"),
+        ("7 / -2", "-4"),
+        ("-7 / -2", "3"),
+        ("-(-7 / 2)", "4"),
+        ("-(-7) / 2", "3"),
+        # by -1
+        ("7 / (-1 / 2)", "-7"),
+        # by 4 - 4
+        ("0 / (4 + -7 / 2)", "-"),
+    ])
+    # reals stay: -3.5 and 3.5, a third below zero, minus zero; but a whole quotient is rounded before `real`
+    ran_sums("run-real-quotients-stay", "real", [
+        ("-7r / 2r", "c00c000000000000"),
+        ("7r / -2r", "c00c000000000000"),
+        ("-7r / -2r", "400c000000000000"),
+        ("-1r / 3r", "bfd5555555555555"),
+        ("0r / -5r", "8000000000000000"),
+        ("-1r / 0r", "-"),
+        ("real ( -7 / 2 )", "c010000000000000"),
+        ("real ( -7 ) / real ( 2 )", "c00c000000000000"),
+    ])
+
+
+# --------------------------------------------------------------------------
 # Readings drawn at random
 # --------------------------------------------------------------------------
 
@@ -1058,7 +1226,11 @@ def make_random():
     draw = random.Random(SEED)
     columns = ["a", "a.on_", "a.v", "b", "b.on_", "b.v", "h.w"]
     draw.shuffle(columns)
-    add("run-random", MAZE, random_readings(draw, columns))
+    case = add("run-random", MAZE, random_readings(draw, columns))
+    # worked out by hand, the rows that document 02, order 2 moves: in line 4 b.set becomes b.v,
+    # so sum takes - h.w / b.id, which is -1 / 2; in line 5 each set takes that sum less its v, 2 and 0
+    assert "\n4 1 1 ? false 2 - -\n5 2 1 ? false 0 - -\n" in case["readings"], case
+    assert "\n4 -30 false -31 - -1\n5 -3 - -1 - -\n" in case["printed"], case
 
 
 # --------------------------------------------------------------------------
@@ -1072,7 +1244,7 @@ def one_action(parameter, kind="whole"):
 
 
 def check_trials():
-    """Every trial case of document 01, P or not, except the one that document 02 drops."""
+    """Every trial case of document 01, P or not, as document 02 amends them, except the one that it drops."""
     table = [
         ("n p.down s.pos", "n k.keep"),
         ("1 false 100", "1 -"),
@@ -1087,7 +1259,11 @@ def check_trials():
     assert check(b"rules end") == (0, 0)
     assert check(b"") == (13, 0)
     assert one_action("2147483647 + 1") == b"-"
-    assert one_action("-7 / 2") == b"-3"
+    # document 02, order 2: "-7 / 2 is -4, 7 / -2 is -4, -7 / -2 is 3 [...] The -7 / 2 case is amended"
+    assert one_action("-7 / 2") == b"-4"
+    assert one_action("7 / -2") == b"-4"
+    assert one_action("-7 / -2") == b"3"
+    # document 02, order 2: "A zero divisor and -2147483648 / -1 still give unset"
     assert one_action("7 / 0") == b"-"
     assert one_action("(-2147483647 - 1) / -1") == b"-"
     assert one_action("1r / 3r", "real") == b"3fd5555555555555"
@@ -1110,6 +1286,35 @@ def check_trials():
     assert check(seventeen.encode()) == (14, seventeen.rindex("interface"))
     assert check(b"interface " + b"a" * 24 + b" { } rules end") == (0, 0)
     assert check(b"interface " + b"a" * 25 + b" { } rules end") == (12, 10)
+
+
+def rounds_down(quotient, left, right):
+    """Whether this is left / right rounded toward minus infinity, said without a division.
+
+    quotient <= left / right < quotient + 1, all three times the divisor; a negative divisor
+    turns the comparisons round.  right is not 0.
+    """
+    if right > 0:
+        return quotient * right <= left < quotient * right + right
+    return quotient * right >= left > quotient * right + right
+
+
+def check_quotients():
+    """Whole `/` over all small operands and over those at the ends of 32 bits, each pair in a fresh state."""
+    small = range(-20, 21)
+    ends = [-2147483648, -2147483647, -2147483646, -3, -2, -1, 0, 1, 2, 3, 2147483646, 2147483647]
+    bench = Bench(QUOTIENT.encode())
+    for left, right in [*product(small, small), *product(ends, ends)]:
+        code, row, _ = bench.line(bench.fresh(), b"n s.x s.y", b"1 %d %d" % (left, right))
+        assert code == 0, (left, right, code)
+        written = row.split()[1]
+        if right == 0 or (left, right) == (-2147483648, -1):
+            assert written == b"-", (left, right, written)
+        else:
+            assert written != b"-" and rounds_down(int(written), left, right), (left, right, written)
+    # what rounds_down says has one answer
+    for left, right in product(small, small):
+        assert right == 0 or sum(rounds_down(quotient, left, right) for quotient in range(-21, 22)) == 1, (left, right)
 
 
 def check_sizes():
@@ -1148,7 +1353,7 @@ def check_missing_columns():
 
 def check_folder_of_cases():
     """What the list must hold."""
-    assert 70 <= len(CASES) <= 100, len(CASES)
+    assert 70 <= len(CASES) <= 110, len(CASES)
     codes = [case["check"][0] for case in CASES if case["readings"] is None]
     assert codes.count(0) >= 3
     for code in range(12, 19):
@@ -1175,7 +1380,9 @@ def make_all():
     make_filters()
     make_actions()
     make_sums()
+    make_quotients()
     make_random()
+    check_quotients()
     check_sizes()
     check_missing_columns()
     check_folder_of_cases()

@@ -1,6 +1,7 @@
 -- Laws about definitions and about the forms of memory that contracts speak of: crates above may cite them.
 pub mod Variants
 pub mod WholeLaws
+pub mod DivisionLaws
 pub mod RealLaws
 pub mod ByteLaws
 pub mod DigitLaws

@@ -1,5 +1,6 @@
 // Operators and comparisons. A result that no cell holds is unset.
 ghost use mathlib.Core.Path.{_≡_};
+ghost use Rattle.values.specs.declared.Operator.the-variants.{Divide};
 ghost use Rattle.values.specs.definitions.Value.{is-set, fitted, settled, whole-op, real-op, operated, negated, as-real, equal, differ};
 use crate::Operator;
 use crate::Value;
@@ -40,7 +41,25 @@ pub fn settle(x: f64) -> Value
     Value::Unset
 }
 
-// 64 bits hold the exact result of each operation on two numbers of 32.
+// `/` rounds toward zero, and what `%` leaves has the dividend's sign or is 0: where it has the other sign than the divisor, the floor is one less.
+// On 64 bits, which hold the quotient of -2147483648 by -1 and the product in the test.
+pub fn divide(x: i32, y: i32) -> Value
+    ensures { λ r. ⌜ r ≡ whole-op Divide x y ⌝ }
+{
+    let a = x as i64;
+    let b = y as i64;
+    if b == 0 {
+        return Value::Unset;
+    }
+    let quotient = a / b;
+    let one_less = quotient - 1;
+    if (a % b) * b < 0 {
+        return fit(one_less);
+    }
+    fit(quotient)
+}
+
+// 64 bits hold each sum, difference and product of two numbers of 32.
 pub fn whole_op(op: Operator, x: i32, y: i32) -> Value
     ensures { λ r. ⌜ r ≡ whole-op op x y ⌝ }
 {
@@ -50,12 +69,7 @@ pub fn whole_op(op: Operator, x: i32, y: i32) -> Value
         Operator::Plus => fit(a + b),
         Operator::Minus => fit(a - b),
         Operator::Times => fit(a * b),
-        Operator::Divide => {
-            if b == 0 {
-                return Value::Unset;
-            }
-            fit(a / b)
-        }
+        Operator::Divide => divide(x, y),
     }
 }
 

@@ -1,5 +1,5 @@
-//! A second interpreter of the Pantagruel bench engine, written from document 01 and order 1 of document 02 alone, and the means to
-//! compare it with the engine.
+//! A second interpreter of the Pantagruel bench engine, written from document 01 and orders 1 and 2 of document 02 alone, and the means
+//! to compare it with the engine.
 //!
 //! What needs the engine's archive exists only with it: the interpreter is never compared with itself.
 

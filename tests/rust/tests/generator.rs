@@ -1,5 +1,5 @@
-//! The generator itself: its valid benches are accepted, its cases draw every answer of the table and tell a machine that reads clause
-//! filters in the wrong cycle from the right one, a seed makes a case again.
+//! The generator itself: its valid benches are accepted, its cases draw every answer of the table and tell machines that read clause
+//! filters in the wrong cycle or divide wholes by another rule from the right one, a seed makes a case again.
 
 use second::generate::bench::{bench, render, LARGE, LOOSE, SMALL};
 use second::generate::case::{Call, Case};
@@ -8,10 +8,12 @@ use second::generate::states::odd_state;
 use second::image::{decode_bench, decode_state, state_bytes};
 use second::interpreter::accept;
 use second::interpreter::grammar::{Bench, Sort};
-use second::interpreter::machine::{cycle_with_late_filters, State};
+use second::interpreter::machine::{cycle_of, Stands, State, Variant, RIGHT};
 use second::interpreter::row::row;
+use second::interpreter::value::{quotient, whole, Cell};
 use second::memory::{self, Memory, Tally, OURS};
 use second::{generate, show};
+use std::cell::RefCell;
 
 const NUMBERS: [u8; 17] = [0, 11, 12, 13, 14, 15, 16, 17, 18, 21, 22, 23, 24, 25, 31, 32, 33];
 
@@ -43,6 +45,29 @@ fn cases_draw_every_answer() {
     assert!(tally.fired * 20 > taken, "only {} of {taken} accepted calls fired", tally.fired);
 }
 
+/// Hands on each line that is taken and not resent: the bench, and the states before and after it.
+fn each_cycle(case: &Case, mut look: impl FnMut(&Bench, &State, &State)) {
+    let mut memory = Memory::new(case.fill);
+    for step in &case.steps {
+        let state = memory.state.clone();
+        let answer = OURS.answer(&case.text, step, &mut memory);
+        if !matches!(step.call, Call::Line { .. }) || answer.is_none_or(|answer| answer & 255 != 0) {
+            continue;
+        }
+        let bench = accept(decode_bench(&memory.bench).expect("a bench's text")).expect("a checked bench");
+        let [before, after] = [&state, &memory.state].map(|bytes| decode_state(&bench, bytes).expect("a state of the bench"));
+        if before.number != after.number {
+            look(&bench, &before, &after);
+        }
+    }
+}
+
+/// Whether a wrong machine gives another row to the line between two states, from the state that the right one is in.
+fn other_row(wrong: Variant, bench: &Bench, before: &State, after: &State) -> bool {
+    let wrong = cycle_of(wrong, bench, before, after.number, &after.last);
+    row(bench, &wrong.expect("the machine never stops on an accepted bench")) != row(bench, after)
+}
+
 /// How a case tells a machine whose clause filters read the cycle before, as document 01 had them, from the right one.
 #[derive(Default)]
 struct LateFilters {
@@ -56,31 +81,14 @@ struct LateFilters {
 }
 
 impl LateFilters {
-    /// Gives both machines each line that is taken and not resent, in the state that the right one is in.
     fn of(case: &Case) -> LateFilters {
         let mut found = LateFilters::default();
-        let mut memory = Memory::new(case.fill);
-        for step in &case.steps {
-            let state = memory.state.clone();
-            let answer = OURS.answer(&case.text, step, &mut memory);
-            if !matches!(step.call, Call::Line { .. }) || answer.is_none_or(|answer| answer & 255 != 0) {
-                continue;
-            }
-            let bench = accept(decode_bench(&memory.bench).expect("a bench's text")).expect("a checked bench");
-            let [before, after] = [&state, &memory.state].map(|bytes| decode_state(&bench, bytes).expect("a state of the bench"));
-            if before.number != after.number {
-                found.look(&bench, &before, &after);
-            }
-        }
+        each_cycle(case, |bench, before, after| found.look(bench, before, after));
         found
     }
 
     fn look(&mut self, bench: &Bench, before: &State, after: &State) {
-        let other_row = |is_late: &dyn Fn(usize) -> bool| {
-            let late: Vec<bool> = (0..bench.entities.len()).map(is_late).collect();
-            let wrong = cycle_with_late_filters(bench, before, after.number, &after.last, &late);
-            row(bench, &wrong.expect("the machine never stops on an accepted bench")) != row(bench, after)
-        };
+        let other_row = |late: &dyn Fn(usize) -> bool| other_row(Variant { late, ..RIGHT }, bench, before, after);
         if !other_row(&|_| true) {
             return;
         }
@@ -107,6 +115,165 @@ fn cases_show_late_filters() {
         shown >= 90 && at_joining >= 30 && at_staying >= 12,
         "{shown} shown, {at_joining} at joining, {at_staying} at staying entities"
     );
+}
+
+fn unless_zero(b: i64, value: impl FnOnce() -> i64) -> Cell {
+    if b == 0 {
+        None
+    } else {
+        whole(value())
+    }
+}
+
+/// Document 01: "`/` drops the fraction".
+fn dropping(a: i64, b: i64) -> Cell {
+    unless_zero(b, || a / b)
+}
+
+fn nearest(a: i64, b: i64) -> Cell {
+    unless_zero(b, || (a as f64 / b as f64).round() as i64)
+}
+
+fn rounding_up(a: i64, b: i64) -> Cell {
+    unless_zero(b, || (a as f64 / b as f64).ceil() as i64)
+}
+
+fn down_for_negative_dividends(a: i64, b: i64) -> Cell {
+    if a < 0 {
+        quotient(a, b)
+    } else {
+        dropping(a, b)
+    }
+}
+
+fn down_for_negative_divisors(a: i64, b: i64) -> Cell {
+    if b < 0 {
+        quotient(a, b)
+    } else {
+        dropping(a, b)
+    }
+}
+
+fn euclidean(a: i64, b: i64) -> Cell {
+    unless_zero(b, || a.div_euclid(b))
+}
+
+/// A value where the divisor is zero.
+fn set_by_zero(a: i64, b: i64) -> Cell {
+    if b == 0 {
+        whole(0)
+    } else {
+        quotient(a, b)
+    }
+}
+
+/// A value where the quotient needs more than 32 bits.
+fn set_beyond(a: i64, b: i64) -> Cell {
+    if is_beyond(a, b) {
+        whole(a)
+    } else {
+        quotient(a, b)
+    }
+}
+
+fn is_beyond(a: i64, b: i64) -> bool {
+    (a, b) == (i64::from(i32::MIN), -1)
+}
+
+/// What a rule gives for two wholes, and whether two wholes are of a sort.
+type Over = fn(i64, i64) -> Cell;
+type Fits = fn(i64, i64) -> bool;
+
+/// Wrong rules for whole `/`, and how many cases at least must tell each from the right one.
+const WRONG: [(&str, Over, usize); 8] = [
+    ("dropping the fraction", dropping, 150),
+    ("to the nearest", nearest, 220),
+    ("rounding up", rounding_up, 320),
+    ("down for negative dividends alone", down_for_negative_dividends, 80),
+    ("down for negative divisors alone", down_for_negative_divisors, 75),
+    ("euclidean", euclidean, 190),
+    ("zero divisor set", set_by_zero, 30),
+    ("-2147483648 / -1 set", set_beyond, 6),
+];
+
+/// Where sums stand, and how many cases at least must tell a machine that drops the fraction there and nowhere else.
+const PLACES: [(Stands, usize); 3] = [(Stands::Filter, 18), (Stands::Test, 35), (Stands::Parameter, 100)];
+
+/// Sorts of whole divisions, and how many of each at least must be worked out. An exact one has no fraction.
+const SORTS: [(&str, Fits, usize); 10] = [
+    ("no sign", |a, b| a >= 0 && b > 0 && a % b != 0, 4_000),
+    ("no sign, exact", |a, b| a >= 0 && b > 0 && a % b == 0, 1_000),
+    ("negative dividend", |a, b| a < 0 && b > 0 && a % b != 0, 1_600),
+    ("negative dividend, exact", |a, b| a < 0 && b > 0 && a % b == 0, 500),
+    ("negative divisor", |a, b| a >= 0 && b < 0 && a % b != 0, 1_700),
+    ("negative divisor, exact", |a, b| a >= 0 && b < 0 && a % b == 0, 700),
+    ("both negative", |a, b| a < 0 && b < 0 && a % b != 0, 3_800),
+    ("both negative, exact", |a, b| a < 0 && b < 0 && a % b == 0 && !is_beyond(a, b), 400),
+    ("zero divisor", |_, b| b == 0, 800),
+    ("-2147483648 / -1", is_beyond, 100),
+];
+
+/// How a case tells machines that divide wholes by wrong rules from the right one, and what it divides.
+#[derive(Default)]
+struct Divisions {
+    /// For each wrong rule whether some line gets another row.
+    told: [bool; WRONG.len()],
+    /// For each place whether some line would if only sums there dropped the fraction.
+    told_in: [bool; PLACES.len()],
+    /// How many of each sort are worked out.
+    sorts: [usize; SORTS.len()],
+}
+
+impl Divisions {
+    fn of(case: &Case) -> Divisions {
+        let mut found = Divisions::default();
+        each_cycle(case, |bench, before, after| found.look(bench, before, after));
+        found
+    }
+
+    fn look(&mut self, bench: &Bench, before: &State, after: &State) {
+        let other_row = |over: &dyn Fn(Stands, i64, i64) -> Cell| other_row(Variant { over, ..RIGHT }, bench, before, after);
+        let divided = RefCell::new(Vec::new());
+        let looking_on = other_row(&|_, a, b| {
+            divided.borrow_mut().push((a, b));
+            quotient(a, b)
+        });
+        assert!(!looking_on, "the right machine gives another row");
+        if divided.borrow().is_empty() {
+            return;
+        }
+        for (count, (_, fits, _)) in self.sorts.iter_mut().zip(SORTS) {
+            *count += divided.borrow().iter().filter(|&&(a, b)| fits(a, b)).count();
+        }
+        for (told, (_, wrong, _)) in self.told.iter_mut().zip(WRONG) {
+            *told |= other_row(&|_, a, b| wrong(a, b));
+        }
+        for (told, (place, _)) in self.told_in.iter_mut().zip(PLACES) {
+            *told |= other_row(&|stands, a, b| if stands == place { dropping(a, b) } else { quotient(a, b) });
+        }
+    }
+}
+
+/// Catches a generator whose rows seldom show how wholes are divided: whose divisions are mostly exact, of one sign or by zero, whose
+/// results are seldom written or compared.
+#[test]
+fn cases_show_how_wholes_are_divided() {
+    let (mut told, mut told_in, mut sorts) = ([0; WRONG.len()], [0; PLACES.len()], [0; SORTS.len()]);
+    for case in (0..10_000).map(|number| generate::case(3, number)) {
+        let found = Divisions::of(&case);
+        told.iter_mut().zip(found.told).for_each(|(count, told)| *count += usize::from(told));
+        told_in.iter_mut().zip(found.told_in).for_each(|(count, told)| *count += usize::from(told));
+        sorts.iter_mut().zip(found.sorts).for_each(|(count, more)| *count += more);
+    }
+    for ((name, _, least), count) in WRONG.iter().zip(told) {
+        assert!(count >= *least, "{name}: told by {count} cases");
+    }
+    for ((place, least), count) in PLACES.iter().zip(told_in) {
+        assert!(count >= *least, "{place:?}: told by {count} cases");
+    }
+    for ((name, _, least), count) in SORTS.iter().zip(sorts) {
+        assert!(count >= *least, "{name}: {count} divisions");
+    }
 }
 
 /// Catches a generator whose states never have an attribute unset one cycle before, or all of them, at an entity that was absent; and one

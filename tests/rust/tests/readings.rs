@@ -1,4 +1,5 @@
-//! The points that document 01 leaves open and that were decided, and what order 1 of document 02 changes.
+//! The points that document 01 leaves open and that were decided, and what order 1 of document 02 changes. What order 2 changes is in
+//! tests/division.rs.
 
 mod common;
 use common::{accepted, keeping, printed, prints, sum};
@@ -55,8 +56,8 @@ fn sums_group_to_the_left() {
     assert_eq!(sum("whole", "10 - 3 - 2"), "5");
     assert_eq!(sum("whole", "100 / 10 / 5 * 3"), "6");
     assert_eq!(sum("whole", "1 + 2 * 3"), "7");
-    assert_eq!(sum("whole", "- 7 / 2 * 2"), "-6");
-    assert_eq!(sum("whole", "7 / - 2"), "-3");
+    assert_eq!(sum("whole", "- 7 / 2 * 2"), "-8");
+    assert_eq!(sum("whole", "7 / - 2"), "-4");
     assert_eq!(sum("whole", "- ( - 2147483647 - 1 )"), "-");
     assert_eq!(sum("whole", "46341 * 46341"), "-");
     assert_eq!(sum("real", "real ( 7 / 2 ) / 2r"), "3ff8000000000000");

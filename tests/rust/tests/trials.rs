@@ -1,4 +1,5 @@
-//! Every trial of document 01, but for the one that order 1 of document 02 drops: any clause `with` is false in cycle 1.
+//! Every trial of document 01, but for what document 02 makes of them: order 1 drops the one that any clause `with` is false in cycle 1,
+//! order 2 amends that of -7 / 2.
 
 mod common;
 use common::{keeping, prints, refusal, sum, PEDAL};
@@ -22,7 +23,8 @@ fn smallest_texts() {
 #[test]
 fn sums() {
     assert_eq!(sum("whole", "2147483647 + 1"), "-");
-    assert_eq!(sum("whole", "-7 / 2"), "-3");
+    // The amended trial.
+    assert_eq!(sum("whole", "-7 / 2"), "-4");
     assert_eq!(sum("whole", "7 / 0"), "-");
     assert_eq!(sum("whole", "(-2147483647 - 1) / -1"), "-");
     assert_eq!(sum("real", "1r / 3r"), "3fd5555555555555");

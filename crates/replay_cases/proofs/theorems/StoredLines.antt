@@ -199,7 +199,7 @@ unfolding replay ascii
     Ieee.add Ieee.sub Ieee.mul Ieee.div Ieee.neg Ieee.eq Ieee.ofInt Ieee.ofBits Ieee.toBits Ieee.isNan
 run-action-feeds-itself = refl
 
-pub run-whole-limits : replay (ascii "interface C { event t : bool } interface O { action a ( whole ) action b ( whole ) action c ( whole ) action d ( whole ) action e ( whole ) action f ( whole ) action g ( whole ) action h ( whole ) } entity c : C { } entity o : O { } rules when event t from c value = true trigger action a ( 2147483647 + 1 ) on o , action b ( -7 / 2 ) on o , action c ( 7 / 0 ) on o , action d ( (-2147483647 - 1) / -1 ) on o , action e ( -2147483647 - 1 ) on o , action f ( 7 / -2 ) on o , action g ( -(-2147483647 - 1) ) on o , action h ( -65536 * 32768 ) on o end end") (ascii "n c.t\n1 true\n2 false\n3 true\n3 true\n") ≡ ascii "n o.a o.b o.c o.d o.e o.f o.g o.h\n1 - -3 - - -2147483648 -3 - -2147483648\n2 - - - - - - - -\n3 - -3 - - -2147483648 -3 - -2147483648\n3 - -3 - - -2147483648 -3 - -2147483648\n"
+pub run-whole-limits : replay (ascii "interface C { event t : bool } interface O { action a ( whole ) action b ( whole ) action c ( whole ) action d ( whole ) action e ( whole ) action f ( whole ) action g ( whole ) action h ( whole ) } entity c : C { } entity o : O { } rules when event t from c value = true trigger action a ( 2147483647 + 1 ) on o , action b ( -7 / 2 ) on o , action c ( 7 / 0 ) on o , action d ( (-2147483647 - 1) / -1 ) on o , action e ( -2147483647 - 1 ) on o , action f ( 7 / -2 ) on o , action g ( -(-2147483647 - 1) ) on o , action h ( -65536 * 32768 ) on o end end") (ascii "n c.t\n1 true\n2 false\n3 true\n3 true\n") ≡ ascii "n o.a o.b o.c o.d o.e o.f o.g o.h\n1 - -4 - - -2147483648 -4 - -2147483648\n2 - - - - - - - -\n3 - -4 - - -2147483648 -4 - -2147483648\n3 - -4 - - -2147483648 -4 - -2147483648\n"
 unfolding replay ascii
     Ieee.add Ieee.sub Ieee.mul Ieee.div Ieee.neg Ieee.eq Ieee.ofInt Ieee.ofBits Ieee.toBits Ieee.isNan
 run-whole-limits = refl
@@ -219,7 +219,47 @@ unfolding replay ascii
     Ieee.add Ieee.sub Ieee.mul Ieee.div Ieee.neg Ieee.eq Ieee.ofInt Ieee.ofBits Ieee.toBits Ieee.isNan
 run-real-rounding = refl
 
-pub run-random : replay (ascii "interface D { attribute id : whole event on_ : bool event v : whole action set ( whole ) action flag ( bool ) } interface H { event w : whole action sum ( whole ) } entity a : D { id = 1 } entity b : D { id = 2 } entity h : H { } rules when event v from x : D value changed and ( event on_ from y : D with id = 3 - x.id value changed or event w from h value = x.v ) trigger action sum ( x.v * 10 + y.id ) on h , action flag ( y.on_ ) on x with id = 1 end when event sum from h value changed trigger action set ( h.sum - z.v ) on z : D end when event set from x : D value = x.v or event flag from a value = true trigger action sum ( - h.w / x.id ) on h end end") (ascii "n a.v h.w a.on_ b.on_ b.v b a\n1 -3 2 true true -3 - -\n2 2 2 - true 2 - true\n3 0 2 false - -3 true true\n3 0 2 false - -3 true true\n4 1 1 ? false 2 - -\n5 2 1 ? false 0 - -\n6 - 0 true true -3 true -\n7 1 2 - true 1 true false\n7 1 2 - true 1 true false\n7 -3 -3 false ? 2 - -\n7 2 1 ? true -3 true true\n8 ? 2 true - 2 - true\n") ≡ ascii "n a.set a.flag b.set b.flag h.sum\n1 - true - - -29\n2 -31 true -31 - -1\n3 -1 - 2 - -29\n3 -1 - 2 - -29\n4 -30 false -31 - 0\n5 -2 - 0 - -\n6 - - - - -29\nrefused 23\nrefused 23\n7 -26 false -31 - 21\nrefused 25\n8 - - 19 - -\n"
+pub run-quotient-of-all-signs : replay (ascii "interface S { event x : whole event y : whole action q ( whole ) action r ( whole ) } entity s : S { } rules when event x from s value changed or event y from s value changed trigger action q ( s.x / s.y ) on s , action r ( s.x - s.x / s.y * s.y ) on s end end") (ascii "n s.x s.y\n1 7 2\n2 -7 2\n3 7 -2\n4 -7 -2\n5 6 -3\n6 -6 3\n7 -6 -3\n8 0 -5\n9 -1 3\n10 1 -3\n11 -1 -3\n12 -5 0\n") ≡ ascii "n s.q s.r\n1 3 1\n2 -4 1\n3 -4 -1\n4 3 -1\n5 -2 0\n6 -2 0\n7 2 0\n8 0 0\n9 -1 2\n10 -1 -2\n11 0 -1\n12 - -\n"
+unfolding replay ascii
+    Ieee.add Ieee.sub Ieee.mul Ieee.div Ieee.neg Ieee.eq Ieee.ofInt Ieee.ofBits Ieee.toBits Ieee.isNan
+run-quotient-of-all-signs = refl
+
+pub run-quotient-at-the-ends : replay (ascii "interface S { event x : whole event y : whole action q ( whole ) action r ( whole ) } entity s : S { } rules when event x from s value changed or event y from s value changed trigger action q ( s.x / s.y ) on s , action r ( s.x - s.x / s.y * s.y ) on s end end") (ascii "n s.x s.y\n1 -2147483648 -1\n2 -2147483648 1\n3 -2147483647 -1\n4 -2147483647 2\n5 2147483647 -2\n6 -2147483648 2147483647\n7 2147483647 -2147483648\n8 -2147483648 -2147483648\n9 -1 2147483647\n10 -1 -2147483648\n11 0 -2147483648\n12 -2147483648 0\n") ≡ ascii "n s.q s.r\n1 - -\n2 -2147483648 0\n3 2147483647 0\n4 -1073741824 1\n5 -1073741824 -\n6 -2 -\n7 -1 -\n8 1 0\n9 -1 2147483646\n10 0 -1\n11 0 0\n12 - -\n"
+unfolding replay ascii
+    Ieee.add Ieee.sub Ieee.mul Ieee.div Ieee.neg Ieee.eq Ieee.ofInt Ieee.ofBits Ieee.toBits Ieee.isNan
+run-quotient-at-the-ends = refl
+
+pub run-halving-across-zero : replay (ascii "interface Stage { attribute by : whole event pos : whole action half ( whole ) action back ( whole ) action step ( whole ) } entity s : Stage { by = -2 } rules when event pos from s value changed trigger action half ( s.pos / 2 ) on s , action back ( s.pos / s.by ) on s , action step ( ( s.pos + 2 ) / 2 - s.pos / 2 ) on s end end") (ascii "n s.pos\n1 3\n2 2\n3 1\n4 0\n5 -1\n6 -2\n7 -3\n8 -4\n") ≡ ascii "n s.half s.back s.step\n1 1 -2 1\n2 1 -1 1\n3 0 -1 1\n4 0 0 1\n5 -1 0 1\n6 -1 1 1\n7 -2 1 1\n8 -2 2 1\n"
+unfolding replay ascii
+    Ieee.add Ieee.sub Ieee.mul Ieee.div Ieee.neg Ieee.eq Ieee.ofInt Ieee.ofBits Ieee.toBits Ieee.isNan
+run-halving-across-zero = refl
+
+pub run-halving-feeds-itself : replay (ascii "interface S { event e : whole action k ( whole ) } entity s : S { } rules when event e from s value changed trigger action k ( s.e ) on s end when event k from s value changed trigger action k ( s.k / 2 ) on s end end") (ascii "n s.e\n1 -5\n2 -\n3 -\n4 -\n5 -\n6 -\n7 -\n8 5\n9 -\n10 -\n11 -\n12 -\n") ≡ ascii "n s.k\n1 -5\n2 -3\n3 -2\n4 -1\n5 -1\n6 -\n7 -\n8 5\n9 2\n10 1\n11 0\n12 0\n"
+unfolding replay ascii
+    Ieee.add Ieee.sub Ieee.mul Ieee.div Ieee.neg Ieee.eq Ieee.ofInt Ieee.ofBits Ieee.toBits Ieee.isNan
+run-halving-feeds-itself = refl
+
+pub run-quotient-in-conditions : replay (ascii "interface S { attribute id : whole event u : whole event v : whole action e ( whole ) action f ( whole ) action g ( whole ) } entity s : S { id = -4 } rules when event v from s value = s.u / 2 trigger action e ( s.v ) on s end when event v from s with id = s.u / 2 value changed trigger action f ( s.v ) on s end when event u from s value changed trigger action g ( s.u ) on s with id = s.u / -2 end end") (ascii "n s.u s.v\n1 -7 -3\n2 - -4\n3 -8 -\n4 -9 -5\n5 7 4\n6 9 -\n7 8 -\n8 ? -\n9 -1 0\n10 - -1\n") ≡ ascii "n s.e s.f s.g\n1 - -3 -\n2 -4 -4 -\n3 - - -\n4 - - -\n5 - - 7\n6 4 - -\n7 - - 8\n8 - - -\n9 - - -\n10 -1 - -\n"
+unfolding replay ascii
+    Ieee.add Ieee.sub Ieee.mul Ieee.div Ieee.neg Ieee.eq Ieee.ofInt Ieee.ofBits Ieee.toBits Ieee.isNan
+run-quotient-in-conditions = refl
+
+pub run-quotient-in-longer-sums : replay (ascii "interface C { event t : bool } interface O { action a ( whole ) action b ( whole ) action c ( whole ) action d ( whole ) action e ( whole ) action f ( whole ) action g ( whole ) action h ( whole ) } entity c : C { } entity o : O { } rules when event t from c value = true trigger action a ( -7 / 2 * 2 ) on o , action b ( 2 * -7 / 2 ) on o , action c ( -9 / 2 / 2 ) on o , action d ( 100 / (-7 / 3) ) on o , action e ( 1 - 7 / -2 - -7 / -2 ) on o , action f ( -7 - -7 / 2 * 2 ) on o , action g ( -2147483647 / 2 * 2 ) on o , action h ( 2147483647 / -2 * -2 ) on o end end") (ascii "n c.t\n1 true\n2 false\n3 true\n3 true\n") ≡ ascii "n o.a o.b o.c o.d o.e o.f o.g o.h\n1 -8 -7 -3 -34 2 1 -2147483648 -\n2 - - - - - - - -\n3 -8 -7 -3 -34 2 1 -2147483648 -\n3 -8 -7 -3 -34 2 1 -2147483648 -\n"
+unfolding replay ascii
+    Ieee.add Ieee.sub Ieee.mul Ieee.div Ieee.neg Ieee.eq Ieee.ofInt Ieee.ofBits Ieee.toBits Ieee.isNan
+run-quotient-in-longer-sums = refl
+
+pub run-quotient-and-minus : replay (ascii "interface C { event t : bool } interface O { action a ( whole ) action b ( whole ) action c ( whole ) action d ( whole ) action e ( whole ) action f ( whole ) action g ( whole ) action h ( whole ) } entity c : C { } entity o : O { } rules when event t from c value = true trigger action a ( -7 / 2 ) on o , action b ( -(7 / 2) ) on o , action c ( 7 / -2 ) on o , action d ( -7 / -2 ) on o , action e ( -(-7 / 2) ) on o , action f ( -(-7) / 2 ) on o , action g ( 7 / (-1 / 2) ) on o , action h ( 0 / (4 + -7 / 2) ) on o end end") (ascii "n c.t\n1 true\n2 false\n3 true\n3 true\n") ≡ ascii "n o.a o.b o.c o.d o.e o.f o.g o.h\n1 -4 -3 -4 3 4 3 -7 -\n2 - - - - - - - -\n3 -4 -3 -4 3 4 3 -7 -\n3 -4 -3 -4 3 4 3 -7 -\n"
+unfolding replay ascii
+    Ieee.add Ieee.sub Ieee.mul Ieee.div Ieee.neg Ieee.eq Ieee.ofInt Ieee.ofBits Ieee.toBits Ieee.isNan
+run-quotient-and-minus = refl
+
+pub run-real-quotients-stay : replay (ascii "interface C { event t : bool } interface O { action a ( real ) action b ( real ) action c ( real ) action d ( real ) action e ( real ) action f ( real ) action g ( real ) action h ( real ) } entity c : C { } entity o : O { } rules when event t from c value = true trigger action a ( -7r / 2r ) on o , action b ( 7r / -2r ) on o , action c ( -7r / -2r ) on o , action d ( -1r / 3r ) on o , action e ( 0r / -5r ) on o , action f ( -1r / 0r ) on o , action g ( real ( -7 / 2 ) ) on o , action h ( real ( -7 ) / real ( 2 ) ) on o end end") (ascii "n c.t\n1 true\n2 false\n3 true\n3 true\n") ≡ ascii "n o.a o.b o.c o.d o.e o.f o.g o.h\n1 c00c000000000000 c00c000000000000 400c000000000000 bfd5555555555555 8000000000000000 - c010000000000000 c00c000000000000\n2 - - - - - - - -\n3 c00c000000000000 c00c000000000000 400c000000000000 bfd5555555555555 8000000000000000 - c010000000000000 c00c000000000000\n3 c00c000000000000 c00c000000000000 400c000000000000 bfd5555555555555 8000000000000000 - c010000000000000 c00c000000000000\n"
+unfolding replay ascii
+    Ieee.add Ieee.sub Ieee.mul Ieee.div Ieee.neg Ieee.eq Ieee.ofInt Ieee.ofBits Ieee.toBits Ieee.isNan
+run-real-quotients-stay = refl
+
+pub run-random : replay (ascii "interface D { attribute id : whole event on_ : bool event v : whole action set ( whole ) action flag ( bool ) } interface H { event w : whole action sum ( whole ) } entity a : D { id = 1 } entity b : D { id = 2 } entity h : H { } rules when event v from x : D value changed and ( event on_ from y : D with id = 3 - x.id value changed or event w from h value = x.v ) trigger action sum ( x.v * 10 + y.id ) on h , action flag ( y.on_ ) on x with id = 1 end when event sum from h value changed trigger action set ( h.sum - z.v ) on z : D end when event set from x : D value = x.v or event flag from a value = true trigger action sum ( - h.w / x.id ) on h end end") (ascii "n a.v h.w a.on_ b.on_ b.v b a\n1 -3 2 true true -3 - -\n2 2 2 - true 2 - true\n3 0 2 false - -3 true true\n3 0 2 false - -3 true true\n4 1 1 ? false 2 - -\n5 2 1 ? false 0 - -\n6 - 0 true true -3 true -\n7 1 2 - true 1 true false\n7 1 2 - true 1 true false\n7 -3 -3 false ? 2 - -\n7 2 1 ? true -3 true true\n8 ? 2 true - 2 - true\n") ≡ ascii "n a.set a.flag b.set b.flag h.sum\n1 - true - - -29\n2 -31 true -31 - -1\n3 -1 - 2 - -29\n3 -1 - 2 - -29\n4 -30 false -31 - -1\n5 -3 - -1 - -\n6 - - - - -29\nrefused 23\nrefused 23\n7 -26 false -31 - 21\nrefused 25\n8 - - 19 - -\n"
 unfolding replay ascii
     Ieee.add Ieee.sub Ieee.mul Ieee.div Ieee.neg Ieee.eq Ieee.ofInt Ieee.ofBits Ieee.toBits Ieee.isNan
 run-random = refl

@@ -2,7 +2,7 @@
 -- what document 02's order 1 is for, as two laws about a clause.
 use Prim.Native.Nat.{ℕ, _+_, _*_}
 use mathlib.Core.Path.{_≡_, refl}
-use mathlib.Core.List.{List, [], _∷_}
+use mathlib.Core.List.{[], _∷_}
 use mathlib.Core.Bool.{Bool, true, false, _&&_}
 use mathlib.Core.Option.{some}
 use lib.Ieee as Ieee
@@ -38,12 +38,15 @@ pub record Trial-cases : Type 0 where
   -- "`rules end` accepted; no bytes: 13 at 0"
   pub smallest : checked-as (ascii "rules end") ≡ 0
   pub no-bytes : checked-as [] ≡ 13 + 256 * 0
-  -- "2147483647 + 1 unset. -7 / 2 is -3; 7 / 0 unset. (-2147483647 - 1) / -1 unset. 1r / 3r is 3fd5555555555555 (hexadecimal)"
+  -- "2147483647 + 1 unset. .. 7 / 0 unset. (-2147483647 - 1) / -1 unset. 1r / 3r is 3fd5555555555555 (hexadecimal)"
   pub sum-unset : lines-printed (calling "whole" "action keep ( 2147483647 + 1 ) on k") "n p.down" ("1 true" ∷ []) ≡ row-printed "1 -" ∷ []
-  pub truncated : lines-printed (calling "whole" "action keep ( -7 / 2 ) on k") "n p.down" ("1 true" ∷ []) ≡ row-printed "1 -3" ∷ []
   pub zero-divisor : lines-printed (calling "whole" "action keep ( 7 / 0 ) on k") "n p.down" ("1 true" ∷ []) ≡ row-printed "1 -" ∷ []
   pub quotient-unset : lines-printed (calling "whole" "action keep ( (-2147483647 - 1) / -1 ) on k") "n p.down" ("1 true" ∷ []) ≡ row-printed "1 -" ∷ []
   pub third : lines-printed (calling "real" "action keep ( 1r / 3r ) on k") "n p.down" ("1 true" ∷ []) ≡ row-printed "1 3fd5555555555555" ∷ []
+  -- document 02, order 2: "-7 / 2 is -4, 7 / -2 is -4, -7 / -2 is 3"
+  pub dividend-negative : lines-printed (calling "whole" "action keep ( -7 / 2 ) on k") "n p.down" ("1 true" ∷ []) ≡ row-printed "1 -4" ∷ []
+  pub divisor-negative : lines-printed (calling "whole" "action keep ( 7 / -2 ) on k") "n p.down" ("1 true" ∷ []) ≡ row-printed "1 -4" ∷ []
+  pub both-negative : lines-printed (calling "whole" "action keep ( -7 / -2 ) on k") "n p.down" ("1 true" ∷ []) ≡ row-printed "1 3" ∷ []
   -- "Calls keep(1), keep(2) leave 2"
   pub last-stands : lines-printed (calling "whole" "action keep ( 1 ) on k , action keep ( 2 ) on k") "n p.down" ("1 true" ∷ []) ≡ row-printed "1 2" ∷ []
   -- document 02, order 1: "a clause's `with` reads the present cycle, as a call's does", and so in cycle 1 too
@@ -75,10 +78,12 @@ trial-cases = record {
   smallest = refl;
   no-bytes = refl;
   sum-unset = refl;
-  truncated = refl;
   zero-divisor = refl;
   quotient-unset = refl;
   third = refl;
+  dividend-negative = refl;
+  divisor-negative = refl;
+  both-negative = refl;
   last-stands = refl;
   filter-in-first = refl;
   lamp-joins-late = refl;

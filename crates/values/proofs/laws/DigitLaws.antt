@@ -13,11 +13,12 @@ use lib.Pow.{pow-add, pow-mono}
 use lib.Arith.{digits-lt}
 use lib.IntN.{ℤ, pos, negsuc, natAbs, _-ℤ_}
 use lib.Signed.{ltZ, nonNeg}
-use borrow.Author.Tests.{ltb-true, lt-ltb, le-ltb, le-leb, lt-leb, ne-eqb}
+use borrow.Author.Tests.{lt-ltb, le-ltb, le-leb, lt-leb, ne-eqb}
 use Rattle.values.specs.declared.Number.the-variants.{Not}
 use Rattle.values.specs.declared.Field.the-variants.{Malformed}
 use Rattle.values.specs.definitions.Bytes.{overwritten}
 use Rattle.values.specs.definitions.Forms.{digit-byte, digit-of, decimal-digits, hexadecimal, scanned, led, decimal, whole-field, whole-text}
+use Rattle.values.proofs.laws.WholeLaws.{none-below}
 use Rattle.values.proofs.laws.ByteLaws.{overwritten-append}
 
 -- ---- put
@@ -71,9 +72,6 @@ module _ {ds : List ℕ} (xs : List ℕ) (g : ℕ) (d : ds ≡ xs ++ (g ∷ []))
   last-put e f = rw (d, length-snoc xs g, e, f) (omega arith, sym (overwritten-append l at xs (g ∷ [])))
 
 -- a whole's text, by its sign
-none-below : (n : ℕ) → ltb n 0 ≡ true → ⊥
-none-below n h = omega (arith, ltb-true n 0 h)
-
 pub text-negative : (z : ℤ) → ltZ z (pos 0) ≡ true → whole-text z ≡ 45 ∷ decimal (natAbs z)
 text-negative (pos n) h = absurd (none-below n h)
 text-negative (negsuc n) h = refl

@@ -24,7 +24,8 @@ use Rattle.values.specs.declared.Number.{Number}
 use Rattle.values.specs.declared.Number.the-variants.{Is, Not}
 use Rattle.values.specs.declared.Field.{Field}
 use Rattle.values.specs.declared.Field.the-variants.{Blank, Given, Malformed}
-use Rattle.values.specs.definitions.Value.{is-finite, is-zero, fitted, settled, whole-op, real-op, operated, negated, as-real}
+use Rattle.values.specs.definitions.Division.{is-zero}
+use Rattle.values.specs.definitions.Value.{is-finite, fitted, settled, whole-op, real-op, operated, negated, as-real}
 use Rattle.values.specs.definitions.Storable.{of-kind, in-range, storable}
 use Rattle.values.specs.definitions.Fitting.{number-kind, has-kind}
 use Rattle.values.specs.definitions.Bytes.{same-bytes}

@@ -1,17 +1,19 @@
--- Wholes: what a test of an `i64` against the ends of 32 bits tells, that 64 bits hold each operator's exact result, and the number of a whole in a cell.
+-- Wholes: what a test of an `i64` against the ends of 32 bits tells, that 64 bits hold each sum, difference and product, and the number of a
+-- whole in a cell.
 use mathlib.Core.Path.{_≡_, refl, sym, ap, _∙_}
 use mathlib.Core.Bool.{Bool, true, false, false≢true}
-use Prim.Native.Nat.{ℕ, zero, suc, _+_, _-_, _*_, _/_, _^_, _≤_, _<_, zero-le}
-use native.Mathlib.Nat.{div-le-self, mul-le-mul-left, mul-le-mul-right, le-trans, lt-trans, lt-of-le-of-lt, le-of-lt}
+use Prim.Native.Nat.{ℕ, zero, suc, _+_, _-_, _*_, _^_, _≤_, _<_, zero-le}
+use native.Mathlib.Nat.{mul-le-mul-left, mul-le-mul-right, le-trans, lt-trans, lt-of-le-of-lt, le-of-lt}
 use native.Mathlib.Omega.{arith}
 use lib.Dec.{T, ltb, eqb, lit<}
 use lib.IntN.{ℤ, pos, negsuc, negℤ, natAbs, subℕ, _+ℤ_, _-ℤ_, _*ℤ_, +ℤ-idl}
-use lib.Signed.{mag, ltZ, nonNeg, quotZ}
+use lib.Signed.{mag, ltZ, nonNeg}
 use mir.Syntax.{w32, w64}
 use mir.Val.{Fits, SFits, toZ, ofZ}
 use mir.Facts.{toZ-ofZ, toZ-pos, sfits-widen}
 use borrow.Author.Tests.{ltb-true, ltb-false, lt-ltb, le-ltb, eq-eqb, ne-eqb, eqb-true, eqb-false}
-use Rattle.values.specs.definitions.Value.{is-zero, same-whole}
+use Rattle.values.specs.definitions.Division.{is-zero}
+use Rattle.values.specs.definitions.Value.{same-whole}
 use Rattle.values.specs.definitions.Cells.{raised}
 
 -- ---- the ends of 32 bits
@@ -31,7 +33,7 @@ pub in-range : (z : ℤ) → ltZ z (negsuc 2147483647) ≡ false → ltZ (pos 21
 in-range (pos n) l h = below-end n (ltb-false 2147483647 n h)
 in-range (negsuc n) l h = below-end n (ltb-false 2147483647 n l)
 
--- ---- 64 bits hold each result on two numbers of 32
+-- ---- 64 bits hold each sum, difference and product of two numbers of 32
 
 apart-mag : (a b m : ℕ) → a ≤ m → b ≤ suc m → mag (subℕ a b) ≤ m
 apart-mag a b m p q = go (ltb a b) refl
@@ -58,11 +60,12 @@ add-mag x y p q = sum-mag x y p (le-of-lt q)
 pub sub-mag : (x y : ℤ) → mag x < 2 ^ 31 → mag y < 2 ^ 31 → mag (x -ℤ y) < 2 ^ 63
 sub-mag x y p q = sum-mag x (negℤ y) p (neg-mag y q)
 
--- a product and a quotient are, but for the sign, those of the magnitudes
-turned-mag : (n m : ℕ) → n ≤ m → mag (negℤ (pos n)) ≤ m
+-- a number turned round is at most as far from 0
+pub turned-mag : (n m : ℕ) → n ≤ m → mag (negℤ (pos n)) ≤ m
 turned-mag zero m h = zero-le
 turned-mag (suc n) m h = omega arith
 
+-- a product is, but for the sign, that of the magnitudes
 times-le : (a b : ℕ) → a ≤ 2 ^ 31 → b ≤ 2 ^ 31 → a * b ≤ 2 ^ 62
 times-le a b p q = le-trans (mul-le-mul-left a q) (mul-le-mul-right (2 ^ 31) p)
 
@@ -71,12 +74,6 @@ mul-mag (pos a) (pos b) p q = lt-of-le-of-lt (times-le a b (le-of-lt p) (le-of-l
 mul-mag (pos a) (negsuc b) p q = lt-of-le-of-lt (turned-mag (a * suc b) (2 ^ 62) (times-le a (suc b) (le-of-lt p) q)) (lit< tt)
 mul-mag (negsuc a) (pos b) p q = lt-of-le-of-lt (turned-mag (suc a * b) (2 ^ 62) (times-le (suc a) b p (le-of-lt q))) (lit< tt)
 mul-mag (negsuc a) (negsuc b) p q = lt-of-le-of-lt (times-le (suc a) (suc b) p q) (lit< tt)
-
-pub quot-mag : (x y : ℤ) → mag x < 2 ^ 31 → mag y < 2 ^ 31 → mag (quotZ x y) < 2 ^ 63
-quot-mag (pos a) (pos b) p q = lt-of-le-of-lt (le-trans (div-le-self a b) (le-of-lt p)) (lit< tt)
-quot-mag (pos a) (negsuc b) p q = lt-of-le-of-lt (turned-mag (a / suc b) (2 ^ 31) (le-trans (div-le-self a (suc b)) (le-of-lt p))) (lit< tt)
-quot-mag (negsuc a) (pos b) p q = lt-of-le-of-lt (turned-mag (suc a / b) (2 ^ 31) (le-trans (div-le-self (suc a) b) p)) (lit< tt)
-quot-mag (negsuc a) (negsuc b) p q = lt-of-le-of-lt (le-trans (div-le-self (suc a) (suc b)) p) (lit< tt)
 
 -- 0 - y, as an operation on two numbers
 unfoldable pub from-zero : ℤ → ℤ → ℤ
@@ -132,7 +129,10 @@ module _ {z : ℤ} {n : ℕ} (e : z ≡ pos n) (h : n < 2 ^ 63) where
   pub unsigned-is : natAbs (toZ w64 (ofZ w64 z)) ≡ n
   unsigned-is = rw (toZ-ofZ unsigned-wide, e)
 
--- ---- tests of bits
+-- ---- tests
+
+pub none-below : (n : ℕ) → ltb n 0 ≡ true → ⊥
+none-below n h = omega (arith, ltb-true n 0 h)
 
 -- a divisor's bits are 0 exactly where it is
 pub zero-is : (y : ℤ) → mag y < 2 ^ 31 → ofZ w64 y ≡ 0 → is-zero y ≡ true

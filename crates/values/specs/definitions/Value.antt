@@ -1,15 +1,16 @@
--- Values under the operators and comparisons of document 01 ("The bare machine").
-use Prim.Native.Nat.{ℕ, _^_}
+-- Values under the operators and comparisons of document 01 ("The bare machine"); whole `/` is document 02's.
+use Prim.Native.Nat.{_^_}
 use mathlib.Core.Bool.{Bool, true, false, not, cond, Bool·beq}
 use lib.Dec.{ltb, eqb}
 use lib.IntN.{ℤ, pos, negsuc, _+ℤ_, _-ℤ_, _*ℤ_, negℤ}
-use lib.Signed.{mag, quotZ}
+use lib.Signed.{mag}
 use lib.Ieee as Ieee
 use lib.Ieee.{Float, nan, inf, fin, binary64}
 use Rattle.values.specs.declared.Value.{Value}
 use Rattle.values.specs.declared.Value.the-variants.{Whole, Truth, Real, Unset}
 use Rattle.values.specs.declared.Operator.{Operator}
 use Rattle.values.specs.declared.Operator.the-variants.{Plus, Minus, Times, Divide}
+use Rattle.values.specs.definitions.Division.{is-zero, floor-quotient}
 
 -- "a cell holding a value or unset"
 abbrev pub is-set : Value → Bool
@@ -31,16 +32,12 @@ is-finite (fin s m e) = true
 unfoldable pub settled : Float → Value
 settled x = cond (is-finite x) (Real x) Unset
 
-abbrev pub is-zero : ℤ → Bool
-is-zero (pos n) = eqb n 0
-is-zero (negsuc n) = false
-
--- "Wholes outside 32 bits and a zero divisor give unset; `/` drops the fraction"
+-- "Wholes outside 32 bits and a zero divisor give unset"; document 02, order 2: "Whole `/` rounds toward minus infinity"
 abbrev pub whole-op : Operator → ℤ → ℤ → Value
 whole-op Plus x y = fitted (x +ℤ y)
 whole-op Minus x y = fitted (x -ℤ y)
 whole-op Times x y = fitted (x *ℤ y)
-whole-op Divide x y = cond (is-zero y) Unset (fitted (quotZ x y))
+whole-op Divide x y = cond (is-zero y) Unset (fitted (floor-quotient x y))
 
 -- "Reals round once per operation; a result not finite gives unset"
 abbrev pub real-op : Operator → Float → Float → Value

@@ -1,6 +1,7 @@
 //! Valid benches: a plan of interfaces and entities, and the words of the file.
 
 use super::prng::Prng;
+use super::quotients;
 use crate::interpreter::grammar::Sort;
 use crate::interpreter::value::Kind;
 
@@ -181,7 +182,7 @@ pub fn entity_words(prng: &mut Prng, plan: &Plan) -> Vec<String> {
         prng.shuffle(&mut attributes);
         for attribute in attributes {
             push(&mut words, &[&attribute.name, "="]);
-            if attribute.kind != Kind::Bool && prng.chance(25) {
+            if attribute.kind != Kind::Bool && prng.chance(40) {
                 push(&mut words, &["-"]);
             }
             words.push(literal(prng, attribute.kind));
@@ -313,8 +314,12 @@ impl Scope<'_> {
         words.push("value".into());
         if prng.chance(35) {
             words.push("changed".into());
+            return words;
+        }
+        words.push("=".into());
+        if event.kind == Kind::Whole && prng.chance(15) {
+            words.extend(quotients::with_rest(prng, member_of(&target.name, &event)));
         } else {
-            words.push("=".into());
             let fuel = prng.weighted(&[60, 20, 15, 5]);
             words.extend(self.sum(prng, event.kind, fuel));
         }
@@ -344,26 +349,29 @@ impl Scope<'_> {
         }
         let attribute = *prng.pick(&attributes);
         push(words, &["with", &attribute.name, "="]);
-        match prng.weighted(&[30, 40, 15, 15]) {
+        let leaf = match prng.weighted(&[30, 40, 15, 15]) {
             // Certain to hold where the entity is there.
-            0 => push(words, &[&target.name, ".", &attribute.name]),
+            0 => member_of(&target.name, attribute),
             // May start or cease to hold in the very line that reads the event.
-            1 => words.extend(self.leaf(prng, attribute.kind, &[Sort::Event])),
-            2 => words.extend(self.literal_or_member(prng, attribute.kind)),
-            _ => words.extend(self.sum(prng, attribute.kind, 1)),
-        }
+            1 => self.leaf(prng, attribute.kind, &[Sort::Event]),
+            2 => self.literal_or_member(prng, attribute.kind),
+            _ => return words.extend(self.sum(prng, attribute.kind, 1)),
+        };
+        words.extend(sometimes_rounded(prng, 60, attribute.kind, leaf));
     }
 
     /// A sum of a kind; `fuel` bounds how deep it nests.
     fn sum(&self, prng: &mut Prng, kind: Kind, fuel: usize) -> Vec<String> {
         if fuel == 0 {
-            return self.literal_or_member(prng, kind);
+            let leaf = self.literal_or_member(prng, kind);
+            return sometimes_rounded(prng, 15, kind, leaf);
         }
         match (kind, prng.below(8)) {
             (_, 0) => parenthesised(self.sum(prng, kind, fuel - 1)),
             (Kind::Bool, _) => self.literal_or_member(prng, kind),
             (_, 1) => joined(&["-"], self.sum(prng, kind, fuel - 1)),
             (Kind::Real, 2 | 3) => joined(&["real"], parenthesised(self.sum(prng, Kind::Whole, fuel - 1))),
+            (Kind::Whole, 2 | 3) => self.quotient(prng, fuel - 1),
             _ => {
                 let mut words = self.sum(prng, kind, fuel - 1);
                 words.push(prng.pick(&["+", "-", "*", "/"]).to_string());
@@ -373,9 +381,33 @@ impl Scope<'_> {
         }
     }
 
+    /// A quotient of wholes.
+    fn quotient(&self, prng: &mut Prng, fuel: usize) -> Vec<String> {
+        match prng.weighted(&[40, 30, 15, 15]) {
+            0 => {
+                let leaf = self.leaf(prng, Kind::Whole, &[Sort::Attribute, Sort::Event]);
+                quotients::rounded(prng, leaf)
+            }
+            1 => {
+                let dividend = self.factor(prng, fuel);
+                quotients::divided(prng, dividend)
+            }
+            2 => [self.factor(prng, fuel), vec!["/".into()], self.factor(prng, 0)].concat(),
+            _ => quotients::at_the_ends(prng),
+        }
+    }
+
+    /// A whole factor.
+    fn factor(&self, prng: &mut Prng, fuel: usize) -> Vec<String> {
+        if fuel == 0 {
+            return self.literal_or_member(prng, Kind::Whole);
+        }
+        parenthesised(self.sum(prng, Kind::Whole, fuel))
+    }
+
     fn literal_or_member(&self, prng: &mut Prng, kind: Kind) -> Vec<String> {
         if prng.chance(45) {
-            return vec![literal(prng, kind)];
+            return signed_literal(prng, kind);
         }
         self.leaf(prng, kind, &[Sort::Attribute, Sort::Event, Sort::Action])
     }
@@ -388,8 +420,29 @@ impl Scope<'_> {
             return vec![literal(prng, kind)];
         }
         let (owner, member) = *prng.pick(&fitting);
-        vec![owner.clone(), ".".into(), member.name.clone()]
+        member_of(owner, member)
     }
+}
+
+fn member_of(owner: &str, member: &PlanMember) -> Vec<String> {
+    vec![owner.to_string(), ".".into(), member.name.clone()]
+}
+
+/// A literal of a sum; wholes have a sign now and then, as they have in readings.
+fn signed_literal(prng: &mut Prng, kind: Kind) -> Vec<String> {
+    let literal = vec![literal(prng, kind)];
+    if kind == Kind::Whole && prng.chance(25) {
+        return joined(&["-"], literal);
+    }
+    literal
+}
+
+/// Rounds a whole factor so many times in a hundred. Unless it is very great the factor itself comes out, so what is equal stays so.
+fn sometimes_rounded(prng: &mut Prng, percent: usize, kind: Kind, factor: Vec<String>) -> Vec<String> {
+    if kind == Kind::Whole && prng.chance(percent) {
+        return quotients::rounded(prng, factor);
+    }
+    factor
 }
 
 pub fn parenthesised(words: Vec<String>) -> Vec<String> {

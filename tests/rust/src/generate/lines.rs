@@ -145,7 +145,7 @@ pub fn whole(prng: &mut Prng) -> i32 {
     match prng.below(10) {
         0 => *prng.pick(&[i32::MAX, i32::MIN, i32::MIN + 1, 46341, -46341, 65536]),
         1 => prng.draw() as i32,
-        _ => *prng.pick(&[0, 1, 2, 3, -1]),
+        _ => *prng.pick(&[0, 1, 2, 3, -1, -2, -3]),
     }
 }
 

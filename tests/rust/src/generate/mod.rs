@@ -6,6 +6,7 @@ pub mod damage;
 pub mod limits;
 pub mod lines;
 pub mod prng;
+pub mod quotients;
 pub mod run;
 pub mod states;
 

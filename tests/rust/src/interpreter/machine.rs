@@ -1,9 +1,9 @@
-//! The bare machine of document 01, its clause filters as order 1 of document 02 has them. It looks names up at each step and runs any
-//! grammatical bench, until it stops.
+//! The bare machine of document 01, its clause filters as order 1 of document 02 has them, its whole `/` as order 2. It looks names up at
+//! each step and runs any grammatical bench, until it stops.
 
 use super::check::READABLE;
 use super::grammar::{Bench, Call, Clause, Condition, Filter, Interface, Link, Name, Rule, Sort, Sum, Test};
-use super::value::{differ, equal, negate, operate, to_real, Cell, Stop, Value};
+use super::value::{differ, equal, negate, operate, quotient, to_real, Cell, Stop, Value};
 
 #[derive(Clone, Debug)]
 pub struct Store {
@@ -98,18 +98,40 @@ fn set_attributes(bench: &Bench, entity: usize, cells: &mut [Cell]) -> Result<()
     Ok(())
 }
 
-/// One cycle: the state after a line of this number with these readings.
-pub fn cycle(bench: &Bench, state: &State, number: u32, readings: &Readings) -> Result<State, Stop> {
-    cycle_with_late_filters(bench, state, number, readings, &vec![false; bench.entities.len()])
+/// Where a sum stands.
+#[derive(Clone, Copy, Debug, PartialEq, Eq)]
+pub enum Stands {
+    /// After `with` and its `=`.
+    Filter,
+    /// After `value` and its `=`.
+    Test,
+    /// In a call's parentheses.
+    Parameter,
 }
 
-/// A cycle in which the `with` of a clause at a late entity reads the cycle before. Document 01 had all of them so; now any late entity
-/// makes the machine wrong. Tests ask whether generated cases tell it from the right one.
-pub fn cycle_with_late_filters(bench: &Bench, state: &State, number: u32, readings: &Readings, late: &[bool]) -> Result<State, Stop> {
+/// What document 02 changed, each as some machine has it. Tests ask whether generated cases tell a wrong machine from the right one.
+#[derive(Clone, Copy)]
+pub struct Variant<'v> {
+    /// Whether the `with` of a clause at this entity reads the cycle before. Document 01 had all of them so, order 1 has none.
+    pub late: &'v dyn Fn(usize) -> bool,
+    /// What `/` gives for two wholes in a sum that stands there.
+    pub over: &'v dyn Fn(Stands, i64, i64) -> Cell,
+}
+
+/// The machine of the documents.
+pub const RIGHT: Variant<'static> = Variant { late: &|_| false, over: &|_, a, b| quotient(a, b) };
+
+/// One cycle: the state after a line of this number with these readings.
+pub fn cycle(bench: &Bench, state: &State, number: u32, readings: &Readings) -> Result<State, Stop> {
+    cycle_of(RIGHT, bench, state, number, readings)
+}
+
+/// One cycle of a machine that may be wrong.
+pub fn cycle_of(variant: Variant, bench: &Bench, state: &State, number: u32, readings: &Readings) -> Result<State, Stop> {
     let mut seen = state.now.clone();
     apply_presence(bench, &mut seen, readings);
     apply_readings(bench, &mut seen, readings)?;
-    let writes = fire(bench, &seen, &state.before, late)?;
+    let writes = fire(variant, bench, &seen, &state.before)?;
     let mut now = seen.clone();
     unset(bench, &mut now, None, &[Sort::Action]);
     for write in writes {
@@ -163,12 +185,12 @@ struct Write {
 }
 
 /// All writes, by rule, choice, call.
-fn fire(bench: &Bench, now: &Store, before: &Store, late: &[bool]) -> Result<Vec<Write>, Stop> {
+fn fire(variant: Variant, bench: &Bench, now: &Store, before: &Store) -> Result<Vec<Write>, Stop> {
     let mut writes = Vec::new();
     for rule in &bench.rules {
         let variables = rule.variables();
         let clauses = rule.clauses();
-        let mut trial = Trial { bench, now, before, late, rule, clauses, variables, choice: Vec::new() };
+        let mut trial = Trial { variant, bench, now, before, rule, clauses, variables, choice: Vec::new() };
         trial.choose(&mut writes)?;
     }
     Ok(writes)
@@ -176,11 +198,10 @@ fn fire(bench: &Bench, now: &Store, before: &Store, late: &[bool]) -> Result<Vec
 
 /// One rule under trial, with the entities chosen so far for its variables.
 struct Trial<'b, 't> {
+    variant: Variant<'b>,
     bench: &'b Bench<'t>,
     now: &'b Store,
     before: &'b Store,
-    /// The entities whose clauses have their filters read in the cycle before; none in the right machine.
-    late: &'b [bool],
     rule: &'b Rule<'t>,
     clauses: Vec<&'b Clause<'t>>,
     variables: Vec<(Name<'t>, Name<'t>)>,
@@ -234,14 +255,14 @@ impl<'b, 't> Trial<'b, 't> {
         let member = self.interface(entity)?.member_of_sort(clause.event.text, &READABLE).ok_or(Stop)?;
         // Document 02, order 1: "From now on a clause's `with` reads the present cycle, as a call's does; `value = X` and `changed` still
         // compare two cycles."
-        let filtered = self.filter(entity, &clause.filter, if self.late[entity] { self.before } else { self.now })?;
+        let filtered = self.filter(entity, &clause.filter, if (self.variant.late)(entity) { self.before } else { self.now })?;
         let now = self.now.read(entity, member);
         let before = self.before.read(entity, member);
         let met = match &clause.test {
             Test::Changed => differ(now, before)?,
             Test::Equals(_, sum) => {
-                let equal_now = equal(now, self.sum(sum, self.now)?)?;
-                let equal_before = equal(before, self.sum(sum, self.before)?)?;
+                let equal_now = equal(now, self.sum(sum, self.now, Stands::Test)?)?;
+                let equal_before = equal(before, self.sum(sum, self.before, Stands::Test)?)?;
                 equal_now && !equal_before
             }
         };
@@ -251,7 +272,7 @@ impl<'b, 't> Trial<'b, 't> {
     fn filter(&self, entity: usize, filter: &Option<Filter>, store: &Store) -> Result<bool, Stop> {
         let Some(filter) = filter else { return Ok(true) };
         let member = self.interface(entity)?.member_of_sort(filter.attribute.text, &[Sort::Attribute]).ok_or(Stop)?;
-        equal(store.read(entity, member), self.sum(&filter.sum, store)?)
+        equal(store.read(entity, member), self.sum(&filter.sum, store, Stands::Filter)?)
     }
 
     fn call(&self, call: &Call) -> Result<Option<Write>, Stop> {
@@ -259,7 +280,7 @@ impl<'b, 't> Trial<'b, 't> {
         let interface = self.interface(entity)?;
         let member = interface.member_of_sort(call.action.text, &[Sort::Action]).ok_or(Stop)?;
         let filtered = self.filter(entity, &call.filter, self.now)?;
-        let Some(value) = self.sum(&call.parameter, self.now)? else { return Ok(None) };
+        let Some(value) = self.sum(&call.parameter, self.now, Stands::Parameter)? else { return Ok(None) };
         if value.kind() != interface.members[member].kind {
             return Err(Stop);
         }
@@ -267,7 +288,7 @@ impl<'b, 't> Trial<'b, 't> {
         Ok(written.then_some(Write { entity, member, value }))
     }
 
-    fn sum(&self, sum: &Sum, store: &Store) -> Result<Cell, Stop> {
+    fn sum(&self, sum: &Sum, store: &Store, stands: Stands) -> Result<Cell, Stop> {
         match sum {
             Sum::Literal(value) => Ok(Some(*value)),
             Sum::Member(owner, member) => {
@@ -275,16 +296,17 @@ impl<'b, 't> Trial<'b, 't> {
                 let member = self.interface(entity)?.member(member.text).ok_or(Stop)?;
                 Ok(store.read(entity, member))
             }
-            Sum::Real(_, inner) => to_real(self.sum(inner, store)?),
-            Sum::Minus(_, inner) => negate(self.sum(inner, store)?),
-            Sum::Chain(first, rest) => self.chain(first, rest, store),
+            Sum::Real(_, inner) => to_real(self.sum(inner, store, stands)?),
+            Sum::Minus(_, inner) => negate(self.sum(inner, store, stands)?),
+            Sum::Chain(first, rest) => self.chain(first, rest, store, stands),
         }
     }
 
-    fn chain(&self, first: &Sum, rest: &[Link], store: &Store) -> Result<Cell, Stop> {
-        let mut left = self.sum(first, store)?;
+    fn chain(&self, first: &Sum, rest: &[Link], store: &Store, stands: Stands) -> Result<Cell, Stop> {
+        let over = |a, b| (self.variant.over)(stands, a, b);
+        let mut left = self.sum(first, store, stands)?;
         for link in rest {
-            left = operate(link.operator, left, self.sum(&link.right, store)?)?;
+            left = operate(link.operator, left, self.sum(&link.right, store, stands)?, over)?;
         }
         Ok(left)
     }

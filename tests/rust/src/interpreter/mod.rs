@@ -1,4 +1,5 @@
-//! The interpreter: each file is one part of document 01. Order 1 of document 02 changes one of them, the machine.
+//! The interpreter: each file is one part of document 01. Order 1 of document 02 changes one of them, the machine; order 2 another, the
+//! values.
 
 pub mod check;
 pub mod grammar;

@@ -1,4 +1,4 @@
-//! Kinds, values and the arithmetic of sums.
+//! Kinds, values and the arithmetic of sums, whole `/` as order 2 of document 02 has it.
 
 #[derive(Clone, Copy, Debug, PartialEq, Eq)]
 pub enum Kind {
@@ -69,29 +69,44 @@ pub fn differ(a: Cell, b: Cell) -> Result<bool, Stop> {
     }
 }
 
-pub fn operate(operator: Operator, a: Cell, b: Cell) -> Result<Cell, Stop> {
+/// What `a` and `b` give. `over` is whole `/`: `quotient`, but for machines that are wrong on purpose.
+pub fn operate(operator: Operator, a: Cell, b: Cell, over: impl Fn(i64, i64) -> Cell) -> Result<Cell, Stop> {
     match (a, b) {
         // A bool never fits an operator, not even beside unset.
         (Some(Value::Bool(_)), _) | (_, Some(Value::Bool(_))) => Err(Stop),
         (None, _) | (_, None) => Ok(None),
-        (Some(Value::Whole(a)), Some(Value::Whole(b))) => Ok(wholes(operator, i64::from(a), i64::from(b))),
+        (Some(Value::Whole(a)), Some(Value::Whole(b))) => Ok(wholes(operator, i64::from(a), i64::from(b), over)),
         (Some(Value::Real(a)), Some(Value::Real(b))) => Ok(reals(operator, a, b)),
         _ => Err(Stop),
     }
 }
 
-fn wholes(operator: Operator, a: i64, b: i64) -> Cell {
+fn wholes(operator: Operator, a: i64, b: i64, over: impl Fn(i64, i64) -> Cell) -> Cell {
     match operator {
         Operator::Plus => whole(a + b),
         Operator::Minus => whole(a - b),
         Operator::Times => whole(a * b),
-        Operator::Over if b == 0 => None,
-        Operator::Over => whole(a / b),
+        Operator::Over => over(a, b),
     }
 }
 
-fn whole(value: i64) -> Cell {
+/// A whole, or unset outside 32 bits.
+pub fn whole(value: i64) -> Cell {
     i32::try_from(value).ok().map(Value::Whole)
+}
+
+/// Document 02, order 2: "Whole `/` rounds toward minus infinity: -7 / 2 is -4, 7 / -2 is -4, -7 / -2 is 3. A zero divisor and
+/// -2147483648 / -1 still give unset."
+pub fn quotient(a: i64, b: i64) -> Cell {
+    if b == 0 {
+        return None;
+    }
+    // Rust's `/` drops the fraction. That rounds down as well, unless there is a fraction and the quotient is below zero: then the next
+    // whole below is meant.
+    let dropped = a / b;
+    let has_fraction = dropped * b != a;
+    let below_zero = (a < 0) != (b < 0);
+    whole(if has_fraction && below_zero { dropped - 1 } else { dropped })
 }
 
 fn reals(operator: Operator, a: f64, b: f64) -> Cell {

@@ -1,11 +1,9 @@
--- `whole_op` meets its contract: 64 bits hold each operator's exact result on two numbers of 32.
+-- `whole_op` meets its contract: 64 bits hold each sum, difference and product of two numbers of 32.
 use mathlib.Core.Path.{ap, _∙_}
 use lib.IntN.{_+ℤ_, _-ℤ_, _*ℤ_}
-use lib.Signed.{quotZ}
-use native.Mathlib.Omega.{arith}
 use mir.Facts.{toZ-ofZ}
 use Rattle.values.specs.definitions.Value.{fitted}
-use Rattle.values.proofs.laws.WholeLaws.{widen-fits, op-fits, op-is, add-mag, sub-mag, mul-mag, quot-mag, zero-is, zero-not}
+use Rattle.values.proofs.laws.WholeLaws.{widen-fits, op-fits, op-is, add-mag, sub-mag, mul-mag}
 use borrow.Author.Needs.{needs}
 use Rattle.values.proofs.operators.whole_op.Statement.{statement}
 use Rattle.values.proofs.operators.whole_op.Tie as tie
@@ -46,40 +44,28 @@ fit-requires-3 c κs = search needs
 enum-told-4 : tie.Need-enum-told-4
 enum-told-4 c = search needs
 
+divide-requires : tie.Need-divide-requires
+divide-requires c κs = search needs
+
 returns : tie.Need-returns
 returns c =
-    let args = c .before .before .before .args in
     let ranges = c .before .before .before .fits in
-    rw (c .before .enum-told4 .given .1, zero-is (args .y) (ranges .y .sfits) (rw (toZ-ofZ (ranges .y)) at (c .if1 .taken)))
-
-div-fit : tie.Need-div-fit
-div-fit c = (omega (arith, c .if1 .left), op-fits quotZ quot-mag (c .before .before .before .fits .x) (c .before .before .before .fits .y))
-
-fit-requires-4 : tie.Need-fit-requires-4
-fit-requires-4 c κs = search needs
+    rw (c .before .enum-told .given .1) (c .fit .ensures ∙ ap fitted (op-is _+ℤ_ add-mag (ranges .x) (ranges .y)))
 
 returns-2 : tie.Need-returns-2
 returns-2 c =
     let ranges = c .before .before .before .fits in
-    rw (c .before .enum-told .given .1) (c .fit .ensures ∙ ap fitted (op-is _+ℤ_ add-mag (ranges .x) (ranges .y)))
+    rw (c .before .enum-told2 .given .1) (c .fit2 .ensures ∙ ap fitted (op-is _-ℤ_ sub-mag (ranges .x) (ranges .y)))
 
 returns-3 : tie.Need-returns-3
 returns-3 c =
     let ranges = c .before .before .before .fits in
-    rw (c .before .enum-told2 .given .1) (c .fit2 .ensures ∙ ap fitted (op-is _-ℤ_ sub-mag (ranges .x) (ranges .y)))
+    rw (c .before .enum-told3 .given .1) (c .fit3 .ensures ∙ ap fitted (op-is _*ℤ_ mul-mag (ranges .x) (ranges .y)))
 
 returns-4 : tie.Need-returns-4
 returns-4 c =
     let ranges = c .before .before .before .fits in
-    rw (c .before .enum-told3 .given .1) (c .fit3 .ensures ∙ ap fitted (op-is _*ℤ_ mul-mag (ranges .x) (ranges .y)))
-
-returns-5 : tie.Need-returns-5
-returns-5 c =
-    let enum-told4-call = c .before .before .enum-told4 in
-    let args = c .before .before .before .before .args in
-    let ranges = c .before .before .before .before .fits in
-    rw (enum-told4-call .given .1, zero-not (args .y) (rw (toZ-ofZ (ranges .y)) at (c .before .if1 .left)))
-    (c .fit4 .ensures ∙ ap fitted (op-is quotZ quot-mag (ranges .x) (ranges .y)))
+    rw (c .before .enum-told4 .given .1) (rw (toZ-ofZ (ranges .x), toZ-ofZ (ranges .y)) at (c .divide .ensures))
 
 pub whole-op-spec : {M : Type 1} → statement M
 whole-op-spec =
@@ -97,10 +83,8 @@ whole-op-spec =
     mul-fit
     fit-requires-3
     enum-told-4
+    divide-requires
     returns
-    div-fit
-    fit-requires-4
     returns-2
     returns-3
-    returns-4
-    returns-5)
+    returns-4)
