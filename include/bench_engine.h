@@ -1,10 +1,10 @@
 /* The Pantagruel bench engine: a bench file is checked once; then each line of readings is one call.
  *
  * Every call answers with one number. Its low 8 bits are 0 for acceptance or the number of a refusal; the bits above them are the offset
- * of a refused text, or the length of a written row. A refused call changes no byte that was lent to it.
+ * of a refused text, or the length of a written row or sheet. A refused call changes no byte that was lent to it.
  *
  * Memory is lent as a pointer and a length; the slices lent to one call must not overlap. Any bytes and any lengths may be lent. Memory
- * longer than its stated size is fine: what lies past the written part stays as it was. A call takes some 340 KB of stack.
+ * longer than its stated size is fine: what lies past the written part stays as it was. A call takes some 360 KB of stack.
  */
 #ifndef BENCH_ENGINE_H
 #define BENCH_ENGINE_H
@@ -20,6 +20,9 @@ extern "C" {
 #define BENCH_SIZE 32772u
 #define BENCH_STATE_SIZE 10468u
 #define BENCH_ROW_SIZE 32768u
+
+/* That of a sheet depends on the readings, by the line feeds in them: two rows of 81 bytes for each, and 30 rows that close the sheet. */
+#define BENCH_SHEET_SIZE(line_feeds) ((size_t)2430 + (size_t)162 * (size_t)(line_feeds))
 
 /* An answer's number (0: accepted), and what stands above it: an offset or a length. */
 #define BENCH_NUMBER(answer) ((unsigned)((answer) & 255u))
@@ -43,6 +46,14 @@ uint64_t bench_header(const uint8_t *bench, size_t bench_length, uint8_t *row, s
 /* Writes the row of the line that a state was left by. 31, 32, 33; or 0 with its length. */
 uint64_t bench_row(const uint8_t *bench, size_t bench_length, const uint8_t *state, size_t state_length,
                    uint8_t *row, size_t row_length);
+
+/* Writes the day sheet of a text of readings (names, then lines of values, as in readings.txt), run on from a state, which stays as it
+ * is. Rows of 80 bytes and a line feed: for each new line its number and the chosen cells as they read after it; at the end, of each real
+ * cell, the lowest, highest and last value. Lines that are refused or sent again are passed over. cells: one to five `entity.member`, of
+ * any sort, one space between them. 31, 32, 33, 41 (no cell, more than five, an unknown one), 22; or 0 with the sheet's length. */
+uint64_t bench_sheet(const uint8_t *bench, size_t bench_length, const uint8_t *state, size_t state_length,
+                     const uint8_t *readings, size_t readings_length, const uint8_t *cells, size_t cells_length,
+                     uint8_t *sheet, size_t sheet_length);
 
 #ifdef __cplusplus
 }

@@ -41,8 +41,9 @@ struct region {
     size_t length;
 };
 
-static struct region text, bench, state, names, values, row;
-static struct region *const regions[6] = {&text, &bench, &state, &names, &values, &row};
+static struct region text, bench, state, names, values, row, readings, cells, sheet;
+static struct region *const regions[] = {&text, &bench, &state, &names, &values, &row, &readings, &cells, &sheet};
+#define REGIONS (sizeof regions / sizeof regions[0])
 static int lend_at_start;
 
 static void make(struct region *region, size_t least)
@@ -82,7 +83,7 @@ static void put_text(struct region *region, const char *words)
 
 static void save(void)
 {
-    for (int i = 0; i < 6; i++)
+    for (size_t i = 0; i < REGIONS; i++)
         memcpy(regions[i]->copy, regions[i]->base, regions[i]->bytes);
 }
 
@@ -91,12 +92,18 @@ static int same(const struct region *region)
     return memcmp(region->copy, region->base, region->bytes) == 0;
 }
 
-static int all_same(void)
+/* Whether nothing changed in any region but these two, which may be the same. */
+static int all_same_but(const struct region *one, const struct region *other)
 {
-    for (int i = 0; i < 6; i++)
-        if (!same(regions[i]))
+    for (size_t i = 0; i < REGIONS; i++)
+        if (regions[i] != one && regions[i] != other && !same(regions[i]))
             return 0;
     return 1;
+}
+
+static int all_same(void)
+{
+    return all_same_but(NULL, NULL);
 }
 
 /* Whether nothing changed outside the first `written` bytes of what was lent. */
@@ -107,7 +114,7 @@ static int rest_same(const struct region *region, size_t written)
         && memcmp(region->copy + start + written, region->lent + written, region->bytes - start - written) == 0;
 }
 
-/* The five calls on the regions. Each checks what holds for every answer. */
+/* The six calls on the regions. Each checks what holds for every answer. */
 
 /* Bytes that the state of a bench of this many entities takes. */
 #define STATE_USED(entities) (4u + 327u * (entities))
@@ -128,7 +135,7 @@ static uint64_t checked(void)
     if (BENCH_NUMBER(answer) != 0)
         check(all_same(), "a refused bench_check leaves every byte");
     else
-        check(rest_same(&bench, 4 + text.length) && same(&text) && same(&state) && same(&row), "bench_check writes the bench alone");
+        check(rest_same(&bench, 4 + text.length) && all_same_but(&bench, &bench), "bench_check writes the bench alone");
     return answer;
 }
 
@@ -140,7 +147,7 @@ static uint64_t fresh(void)
     if (BENCH_NUMBER(answer) != 0)
         check(all_same(), "a refused state_fresh leaves every byte");
     else
-        check(rest_same(&state, state_used) && same(&bench) && same(&row), "state_fresh writes the state alone");
+        check(rest_same(&state, state_used) && all_same_but(&state, &state), "state_fresh writes the state alone");
     return answer;
 }
 
@@ -153,7 +160,7 @@ static uint64_t line(void)
     if (BENCH_NUMBER(answer) != 0)
         check(all_same() && BENCH_REST(answer) == 0, "a refused bench_line leaves every byte");
     else
-        check(rest_same(&state, state_used) && rest_same(&row, row_length(answer)) && same(&bench) && same(&names) && same(&values),
+        check(rest_same(&state, state_used) && rest_same(&row, row_length(answer)) && all_same_but(&state, &row),
               "bench_line writes state and row alone");
     return answer;
 }
@@ -166,7 +173,7 @@ static uint64_t header(void)
     if (BENCH_NUMBER(answer) != 0)
         check(all_same(), "a refused bench_header leaves every byte");
     else
-        check(rest_same(&row, row_length(answer)) && same(&bench) && same(&state), "bench_header writes the row alone");
+        check(rest_same(&row, row_length(answer)) && all_same_but(&row, &row), "bench_header writes the row alone");
     return answer;
 }
 
@@ -178,8 +185,58 @@ static uint64_t state_row(void)
     if (BENCH_NUMBER(answer) != 0)
         check(all_same(), "a refused bench_row leaves every byte");
     else
-        check(rest_same(&row, row_length(answer)) && same(&bench) && same(&state), "bench_row writes the row alone");
+        check(rest_same(&row, row_length(answer)) && all_same_but(&row, &row), "bench_row writes the row alone");
     return answer;
+}
+
+#define SHEET_ROW 81u
+
+static size_t line_feeds(void)
+{
+    size_t count = 0;
+    for (size_t i = 0; i < readings.length; i++)
+        count += readings.lent[i] == '\n';
+    return count;
+}
+
+/* Lends exactly what the sheet of the lent readings is stated to take, less some bytes. */
+static void lend_sheet(size_t less)
+{
+    lend(&sheet, BENCH_SHEET_SIZE(line_feeds()) - less);
+}
+
+/* Rows of 80 bytes that can be printed, each closed by a line feed. */
+static int is_sheet(size_t length)
+{
+    if (length % SHEET_ROW != 0 || length > sheet.length)
+        return 0;
+    for (size_t i = 0; i < length; i++)
+        if (i % SHEET_ROW == SHEET_ROW - 1 ? sheet.lent[i] != '\n' : sheet.lent[i] < 32 || sheet.lent[i] > 126)
+            return 0;
+    return 1;
+}
+
+static uint64_t day(void)
+{
+    uint64_t answer;
+    save();
+    answer = bench_sheet(bench.lent, bench.length, state.lent, state.length, readings.lent, readings.length, cells.lent, cells.length,
+                         sheet.lent, sheet.length);
+    if (BENCH_NUMBER(answer) != 0)
+        check(all_same() && BENCH_REST(answer) == 0, "a refused bench_sheet leaves every byte");
+    else
+        check(is_sheet(BENCH_REST(answer)) && rest_same(&sheet, BENCH_REST(answer)) && all_same_but(&sheet, &sheet),
+              "bench_sheet writes the rows of the sheet alone");
+    return answer;
+}
+
+/* The sheet of these readings and cells, in memory of just its size. */
+static uint64_t day_of(const char *words, const char *chosen)
+{
+    put_text(&readings, words);
+    put_text(&cells, chosen);
+    lend_sheet(0);
+    return day();
 }
 
 static void check_row(uint64_t answer, const char *wanted)
@@ -274,6 +331,140 @@ static void halves_left_of_zero(void)
     check_rows(rows, sizeof rows / sizeof rows[0]);
 }
 
+/* Sheets. Each row is written here as its six texts, which stand right aligned in 10 and five times 14 columns. */
+
+static void check_sheet(uint64_t answer, const char *const rows[][6], size_t count, const char *what)
+{
+    char wanted[SHEET_ROW + 1];
+    check_answer(answer, 0, count * SHEET_ROW, what);
+    for (size_t i = 0; i < count; i++) {
+        snprintf(wanted, sizeof wanted, "%10s%14s%14s%14s%14s%14s\n", rows[i][0], rows[i][1], rows[i][2], rows[i][3], rows[i][4], rows[i][5]);
+        check(memcmp(sheet.lent + i * SHEET_ROW, wanted, SHEET_ROW) == 0, what);
+    }
+}
+
+/* A probe that can be taken off: cells of every sort and kind. */
+static void start_probe(void)
+{
+    lend_exact();
+    state_used = STATE_USED(1);
+    put_text(&text, "interface P { attribute low : real event warm : real event pos : whole event down : bool action keep ( whole ) } "
+                    "entity p : P { low = 2r } rules when event down from p value = true trigger action keep ( p.pos ) on p end end");
+    check_answer(checked(), 0, 0, "the bench of a probe is accepted");
+    check_answer(fresh(), 0, 0, "its fresh state");
+}
+
+/* New lines, one sent again, one refused, the probe away and back. The two zeros are one lowest value, of which the earlier bits are shown. */
+static void probe_sheet(void)
+{
+    static const char *const rows[][6] = {
+        {"1", "3ff80000", "5", "true", "40000000", "5"},
+        {"", "00000001", "", "", "00000000", ""},
+        {"2", "3ff80000", "-", "false", "40000000", "-7"},
+        {"", "00000001", "", "", "00000000", ""},
+        {"3", "-", "-", "-", "-", "-"},
+        {"4", "00000000", "-", "-", "40000000", "9"},
+        {"", "00000000", "", "", "00000000", ""},
+        {"5", "80000000", "-", "-", "40000000", "9"},
+        {"", "00000000", "", "", "00000000", ""},
+        {"", "00000000", "", "", "", ""}, {"", "00000000", "", "", "", ""},
+        {"", "3ff80000", "", "", "", ""}, {"", "00000001", "", "", "", ""},
+        {"", "80000000", "", "", "", ""}, {"", "00000000", "", "", "", ""},
+        {"", "", "", "", "40000000", ""}, {"", "", "", "", "00000000", ""},
+        {"", "", "", "", "40000000", ""}, {"", "", "", "", "00000000", ""},
+        {"", "", "", "", "40000000", ""}, {"", "", "", "", "00000000", ""},
+    };
+    static const char words[] = "n p p.down p.pos p.warm\n1 - true 5 3ff8000000000001\n2 - false -7 -\n2 - false -7 -\n5 - - - -\n3 false - - -\n"
+                                "4 true - 9 0000000000000000\n5 - - - 8000000000000000";
+    start_probe();
+    check_sheet(day_of(words, "p.warm p.keep p.down p.low p.pos"), rows, sizeof rows / sizeof rows[0], "the sheet of a probe");
+    check_sheet(day(), rows, sizeof rows / sizeof rows[0], "the same sheet once more");
+    lend(&sheet, sheet.length + 100);
+    check_sheet(day(), rows, sizeof rows / sizeof rows[0], "the sheet in longer memory");
+}
+
+/* A day that goes on from a state: its first line is the one that left the state, sent again, and is not printed. */
+static void later_day(void)
+{
+    static const char *const morning[][2] = {{"1 false 100", "1 -"}, {"2 true 140", "2 140"}};
+    static const char *const rows[][6] = {{"3", "150", "-", "true", "", ""}, {"4", "150", "-", "false", "", ""}, {"5", "190", "190", "true", "", ""}};
+    static const char words[] = "n p.down s.pos\n2 true 140\n3 - 150\n3 - 150\n4 false -\n4 false 1\n5 true 190\n";
+    start_pedal();
+    check_rows(morning, 2);
+    check_sheet(day_of(words, "s.pos k.keep p.down"), rows, 3, "a day that begins with a line sent again");
+    check_row(state_row(), "2 140");
+    check_sheet(day_of("n p.down s.pos\n2 true 140", "s.pos k.keep p.down"), rows, 0, "a day of a line sent again alone");
+    put_text(&values, "3 - 150");
+    check_row(line(), "3 -");
+    check_sheet(day_of(words, "s.pos k.keep p.down"), rows + 1, 2, "the same day from a later line");
+}
+
+/* Sizes: the sheet takes what its line feeds ask for, be they of lines that are printed or not, and the fullest sheet takes all of it. */
+static void sizes_of_sheets(void)
+{
+    start_probe();
+    for (size_t feeds = 0; feeds < 400; feeds = 2 * feeds + 1) {
+        lend(&readings, 1 + feeds);
+        memset(readings.lent, '\n', readings.length);
+        readings.lent[0] = 'n';
+        put_text(&cells, "p.pos");
+        lend_sheet(0);
+        check_answer(day(), 0, 0, "lines that are all refused");
+        lend_sheet(1);
+        check_answer(day(), 31, 0, "bench_sheet, short sheet");
+    }
+    check_answer(day_of("n\n1\n2\n3", "p.low p.low p.low p.low p.low"), 0, BENCH_SHEET_SIZE(3), "a sheet that fills its memory");
+    lend_sheet(1);
+    check_answer(day(), 31, 0, "bench_sheet, short sheet");
+    check_answer(day_of("n", "p.low p.low p.low p.low p.low"), 0, 15 * SHEET_ROW, "a day of no lines");
+    lend(&sheet, 0);
+    check_answer(day(), 31, 0, "bench_sheet, no sheet");
+}
+
+/* Refusals of sheets, each before those that stand behind it. */
+static void refused_sheets(void)
+{
+    static const char *const unknown[] = {
+        "", " ", "p.down ", " p.down", "p.down  s.pos", "p.down s.pos k.keep p.down s.pos k.keep", "p", "p.", ".down", ".", "p.down.down",
+        "q.down", "p.pos", "p.dow", "p.downs", "P.down", "p.down\n", "p.down\ts.pos", "p.down,s.pos", "n", "n p.down", "p .down",
+    };
+    static const char *const names_refused[] = {"", "\n", "n \n1", " n", "n q", "n k.keep\n1 5", "n p.down p.down", "x\n1", "N", "n\r\n1", "1"};
+    static const char good[] = "n p.down s.pos\n1 true 5\n", chosen[] = "k.keep p.down s.pos s.pos s.pos";
+    start_pedal();
+    check_answer(day_of(good, chosen), 0, SHEET_ROW, "five cells, one of them chosen again");
+    for (size_t i = 0; i < sizeof unknown / sizeof unknown[0]; i++) {
+        check_answer(day_of(good, unknown[i]), 41, 0, unknown[i]);
+        check_answer(day_of("n q", unknown[i]), 41, 0, "41 comes before 22");
+    }
+    for (size_t i = 0; i < sizeof names_refused / sizeof names_refused[0]; i++)
+        check_answer(day_of(names_refused[i], chosen), 22, 0, names_refused[i]);
+    lend(&readings, 32769);
+    memset(readings.lent, 'n', readings.length);
+    lend_sheet(0);
+    check_answer(day(), 22, 0, "names of 32,769 bytes");
+    state.lent[4] = 2;
+    check_answer(day_of("n q", "q"), 33, 0, "33 comes before 41");
+    bench.lent[4] = '#';
+    check_answer(day(), 32, 0, "32 comes before 33");
+    lend_sheet(1);
+    check_answer(day(), 31, 0, "31 comes before 32");
+}
+
+/* Lines that are too long, or have bytes that no line has, are passed over. */
+static void odd_lines(void)
+{
+    static const char *const rows[][6] = {{"1", "5", "", "", "", ""}, {"2", "6", "", "", "", ""}};
+    static const char before[] = "n s.pos\n1 5\n", after[] = "\n2 6\n2 \xff\n\n3 6\r\n3  6";
+    start_pedal();
+    put_text(&cells, "s.pos");
+    lend(&readings, sizeof before - 1 + 8193 + sizeof after - 1);
+    memset(readings.lent, '2', readings.length);
+    memcpy(readings.lent, before, sizeof before - 1);
+    memcpy(readings.lent + readings.length - (sizeof after - 1), after, sizeof after - 1);
+    lend_sheet(0);
+    check_sheet(day(), rows, 2, "lines too long or ill formed");
+}
+
 /* Memory longer than stated: the bytes past the size stay. */
 static void longer_memory(void)
 {
@@ -285,6 +476,7 @@ static void longer_memory(void)
     check_answer(fresh(), 0, 0, "a longer state");
     check_row(header(), "n k.keep");
     check_row(line(), "1 -");
+    check_answer(day_of("n p.down s.pos\n2 true 5\n", "k.keep"), 0, SHEET_ROW, "the sheet of a longer bench and state");
 }
 
 /* One byte less than stated, for each memory of each call. */
@@ -299,11 +491,13 @@ static void short_memory(void)
     check_answer(line(), 31, 0, "bench_line, short bench");
     check_answer(header(), 31, 0, "bench_header, short bench");
     check_answer(state_row(), 31, 0, "bench_row, short bench");
+    check_answer(day_of("n", "k.keep"), 31, 0, "bench_sheet, short bench");
     start_pedal();
     lend(&state, BENCH_STATE_SIZE - 1);
     check_answer(fresh(), 31, 0, "state_fresh, short state");
     check_answer(line(), 31, 0, "bench_line, short state");
     check_answer(state_row(), 31, 0, "bench_row, short state");
+    check_answer(day_of("n q", "q"), 31, 0, "bench_sheet, short state");
     start_pedal();
     lend(&row, BENCH_ROW_SIZE - 1);
     check_answer(line(), 31, 0, "bench_line, short row");
@@ -317,6 +511,7 @@ static void short_memory(void)
     check_answer(line(), 31, 0, "bench_line, no memory");
     check_answer(header(), 31, 0, "bench_header, no memory");
     check_answer(state_row(), 31, 0, "bench_row, no memory");
+    check_answer(day_of("n", "k.keep"), 31, 0, "bench_sheet, no bench and no state");
 }
 
 /* Refusals of texts; each leaves the bench that was there. */
@@ -420,6 +615,7 @@ static void attribute_unset_before(void)
     memset(cell, 0, 9);
     check_answer(line(), 33, 0, "present before with an attribute unset");
     check_answer(state_row(), 33, 0, "present before with an attribute unset");
+    check_answer(day_of("n\n2", "e.a"), 33, 0, "present before with an attribute unset");
     *flag = 0;
     check_row(state_row(), "1");
     check_row(line(), "2");
@@ -446,9 +642,16 @@ static void foreign_memory(void)
     check_row(line(), "4294967295 -");
     put_text(&values, "4294967296 - -");
     check_answer(line(), 24, 0, "a number too great");
+    memset(state.lent, 255, 4);
+    state.lent[0] = 254;
+    check_answer(day_of("n\n4294967295\n4294967296\n0", "k.keep"), 0, SHEET_ROW, "a day up to the last number");
+    check(memcmp(sheet.lent, "4294967295             -", 24) == 0, "a number of ten digits");
 }
 
 /* Random bytes. */
+
+/* However many of them are line feeds, there is memory for the sheet. */
+#define MOST_RANDOM_READINGS 400u
 
 static uint64_t seed = 1;
 
@@ -512,6 +715,54 @@ static void random_arguments(void)
     check_number(fresh(), "0032", "state_fresh of a random bench");
 }
 
+/* Changes some bytes of what is lent. */
+static void blur(struct region *region)
+{
+    for (size_t i = below(3) + 1; i > 0; i--)
+        region->lent[below(region->length)] = (uint8_t)(below(2) == 0 ? random_number() : (uint64_t)"\n -.?n1"[below(7)]);
+}
+
+/* Random bytes as each argument of a sheet, or its bytes with some of them changed. */
+static void random_day(void)
+{
+    start_pedal();
+    put_text(&readings, "n p.down s.pos\n1 true 5\n2 false -\n3 true 7\n3 true 7\n4 ? -9\n");
+    put_text(&cells, "p.down s.pos k.keep");
+    switch (below(4)) {
+    case 0:
+        if (below(2) == 0)
+            scatter(&readings, below(MOST_RANDOM_READINGS));
+        else
+            blur(&readings);
+        lend_sheet(0);
+        check_number(day(), "0022", "bench_sheet of random readings");
+        return;
+    case 1:
+        if (below(2) == 0)
+            scatter(&cells, below(60));
+        else
+            blur(&cells);
+        lend_sheet(0);
+        check_number(day(), "0041", "bench_sheet of random cells");
+        return;
+    case 2:
+        if (below(3) == 0)
+            scatter(&state, BENCH_STATE_SIZE);
+        else
+            state.lent[below(state_used)] = (uint8_t)random_number();
+        lend_sheet(0);
+        check_number(day(), "0033", "bench_sheet of a random state");
+        return;
+    default:
+        if (below(3) == 0)
+            scatter(&bench, BENCH_SIZE);
+        else
+            bench.lent[below(4 + sizeof PEDAL)] = (uint8_t)random_number();
+        lend_sheet(0);
+        check_number(day(), "0032334122", "bench_sheet of a random bench");
+    }
+}
+
 /* All arguments at once, of any bytes and any lengths. */
 static void random_everything(void)
 {
@@ -522,6 +773,10 @@ static void random_everything(void)
     scatter(&row, BENCH_ROW_SIZE - below(2));
     scatter(&names, below(30));
     scatter(&values, below(30));
+    scatter(&readings, below(MOST_RANDOM_READINGS));
+    scatter(&cells, below(60));
+    scatter(&sheet, BENCH_SHEET_SIZE(line_feeds()) - below(2));
+    check_number(day(), "3132334122", "bench_sheet of random bytes alone");
     check_number(line(), "3132332122232425", "bench_line of random bytes alone");
     check_number(state_row(), "313233", "bench_row of random bytes alone");
     check_number(header(), "3132", "bench_header of random bytes alone");
@@ -537,10 +792,18 @@ int main(void)
     make(&names, 40000);
     make(&values, 10000);
     make(&row, BENCH_ROW_SIZE + 200);
+    make(&readings, 40000);
+    make(&cells, 200);
+    make(&sheet, BENCH_SHEET_SIZE(MOST_RANDOM_READINGS) + 200);
     for (lend_at_start = 0; lend_at_start < 2; lend_at_start++) {
         pedal_rows();
         lamp_joins_late();
         halves_left_of_zero();
+        probe_sheet();
+        later_day();
+        sizes_of_sheets();
+        refused_sheets();
+        odd_lines();
         longer_memory();
         short_memory();
         refused_texts();
@@ -548,6 +811,8 @@ int main(void)
         foreign_memory();
         for (int i = 0; i < 300; i++)
             random_arguments();
+        for (int i = 0; i < 600; i++)
+            random_day();
         for (int i = 0; i < 50; i++)
             random_everything();
     }

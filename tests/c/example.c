@@ -1,7 +1,9 @@
-/* A short program to copy: it checks a bench file, then gives each line of a file of readings to the engine and prints the rows.
+/* A short program to copy: it checks a bench file, then gives each line of a file of readings to the engine and prints the rows; with
+ * cells, also the day sheet.
  *
  *     cc -I include example.c libengine.a -o example
  *     ./example bench.txt readings.txt
+ *     ./example bench.txt readings.txt 's.pos k.keep'
  */
 #include "bench_engine.h"
 
@@ -9,9 +11,9 @@
 #include <stdlib.h>
 #include <string.h>
 
-/* The caller lends the memory for bench, state and row, of the stated sizes at least. */
+/* The caller lends the memory for bench, state and row, of the stated sizes at least. The morning's state is kept for the day sheet. */
 static uint8_t bench[BENCH_SIZE];
-static uint8_t state[BENCH_STATE_SIZE];
+static uint8_t state[BENCH_STATE_SIZE], morning[BENCH_STATE_SIZE];
 static uint8_t row[BENCH_ROW_SIZE];
 
 struct bytes {
@@ -68,16 +70,40 @@ static void print_row(uint64_t answer)
     }
 }
 
+/* The day sheet: the text of a whole day, names and lines as they came, is run on from the state that the day began with. The size of the
+ * memory for it depends on the line feeds in the text. Refused by 41: the cells; by 22: the names. */
+static void print_sheet(struct bytes day, const char *cells)
+{
+    size_t feeds = 0, size;
+    uint8_t *sheet;
+    uint64_t answer;
+    for (size_t i = 0; i < day.length; i++)
+        feeds += day.start[i] == '\n';
+    size = BENCH_SHEET_SIZE(feeds);
+    sheet = malloc(size);
+    if (!sheet) {
+        fprintf(stderr, "no memory for the sheet\n");
+        exit(2);
+    }
+    answer = bench_sheet(bench, sizeof bench, morning, sizeof morning, day.start, day.length, (const uint8_t *)cells, strlen(cells), sheet, size);
+    if (BENCH_NUMBER(answer) == 0)
+        fwrite(sheet, 1, BENCH_REST(answer), stdout);
+    else
+        printf("refused %u\n", BENCH_NUMBER(answer));
+    free(sheet);
+}
+
 int main(int count, char **arguments)
 {
-    struct bytes text, rest, line, names = {(uint8_t *)"", 0};
+    struct bytes text, day, rest, line, names = {(uint8_t *)"", 0};
     uint64_t answer;
-    if (count != 3) {
-        fprintf(stderr, "usage: %s BENCH READINGS\n", arguments[0]);
+    if (count != 3 && count != 4) {
+        fprintf(stderr, "usage: %s BENCH READINGS [CELLS]\n", arguments[0]);
         return 2;
     }
     text = read_file(arguments[1]);
-    rest = read_file(arguments[2]);
+    day = read_file(arguments[2]);
+    rest = day;
 
     /* Once per bench file. If it is refused (11 to 18), the bits above the number are the offset of the fault in the text. */
     answer = bench_check(text.start, text.length, bench, sizeof bench);
@@ -87,6 +113,7 @@ int main(int count, char **arguments)
     }
     /* Once per run. From now on leave bench and state alone between calls: the engine refuses by 32 or 33 what is none. */
     state_fresh(bench, sizeof bench, state, sizeof state);
+    memcpy(morning, state, sizeof state);
 
     /* The first line names the columns; it is handed to every call, and each call may refuse it by 22. To learn of that before any
      * values are there, number 0 is sent: it is always refused, by 24 after names of no columns, by 21 after others, by 22 if ill formed. */
@@ -102,5 +129,7 @@ int main(int count, char **arguments)
      * A line that is sent twice is taken once; its row is given again, so a sender in doubt may repeat it. */
     while (next_line(&rest, &line))
         print_row(bench_line(bench, sizeof bench, state, sizeof state, names.start, names.length, line.start, line.length, row, sizeof row));
+    if (count == 4)
+        print_sheet(day, arguments[3]);
     return 0;
 }

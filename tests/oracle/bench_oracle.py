@@ -1,16 +1,17 @@
 """An executable reading of document 01 ("The Pantagruel bench engine") with orders 1
-and 2 of document 02 ("Requests that came later"); no later order is in force here.
+to 3 of document 02 ("Requests that came later"); no later order is in force here.
 
 The module follows the order of document 01: values and sums, words, grammar,
-counts, names, kinds, the bare machine, lines of readings, the runner.  It aims
-at being easy to compare with the text, not at speed.  "Readings" below are the pages
-that decide the documents' open points.  A quotation is document 01's unless
-document 02 or Readings is named beside it.
+counts, names, kinds, the bare machine, lines of readings, the runner; the day sheet
+of document 02 stands behind them.  It aims at being easy to compare with the text,
+not at speed.  "Readings" below are the pages that decide the documents' open points.
+A quotation is document 01's unless document 02 or Readings is named beside it.
 
-Public: check, Bench, run, main.
+Public: check, Bench, run, state_after, sheet, stated_size, printed_sheet, main.
 """
 
 import math
+import os
 import struct
 import sys
 from dataclasses import dataclass
@@ -1498,17 +1499,194 @@ def run(bench_txt: bytes, readings_txt: bytes) -> bytes:
     return b"".join(line + b"\n" for line in printed_lines(bench_txt, readings_txt))
 
 
+# --------------------------------------------------------------------------
+# The day sheet (document 02, order 3; every quotation of this section is that order's)
+# --------------------------------------------------------------------------
+
+SHEET_COLUMNS = 80
+NUMBER_COLUMNS = 10
+CELL_COLUMNS = 14
+MOST_CELLS = 5
+
+Chosen = Tuple[int, Member]  # a cell: entity's number and member
+
+
+def stated_size(readings: bytes) -> int:
+    """The stated size of a sheet's memory.  Readings: "2,430 + 162 for each line feed in `readings`".
+
+    That is 81 bytes for each of 30 closing rows, and twice 81 for each line of values.
+    """
+    return 2430 + 162 * readings.count(b"\n")
+
+
+def chosen_cells(bench: Bench, cells: bytes) -> Optional[List[Chosen]]:
+    """ "up to five chosen cells (`entity.member`, one space between)", None if 41 refuses them.
+
+    "No cell, more than five, or an unknown one, is refused by 41".  Members are of any sort and a
+    cell may be chosen twice.  An empty text has one empty field, and that is no known cell.
+    """
+    known: Dict[bytes, Chosen] = {}
+    for number, member in bench.machine.cells():
+        known[bench.entity_name(number) + b"." + member.name.text] = (number, member)
+    fields = cells.split(b" ")
+    if len(fields) > MOST_CELLS or any(field not in known for field in fields):
+        return None
+    return [known[field] for field in fields]
+
+
+# -- the lines of a day
+
+
+def states_of_printed_lines(bench: Bench, state: State, names: bytes, lines: List[bytes]) -> Iterator[State]:
+    """The state after each printed line: "the taken lines of a day, [...] run on from the lent state".
+
+    "A resent line isn't printed": it leaves the last number.  Readings: "a refused record is
+    passed over, as the runner does".
+    """
+    for values in lines:
+        code, _, following = bench.line(state, names, values)
+        if code == 0 and following.number != state.number:
+            yield following
+        state = following
+
+
+def state_after(bench_text: bytes, readings: bytes) -> State:
+    """The state that an accepted bench comes to by a text of readings, from the fresh one.
+
+    Where the line of names is refused no line is run, so the empty text gives the fresh state.
+    """
+    bench = Bench(bench_text)
+    state = bench.fresh()
+    names, *lines = lines_of(readings)
+    for values in lines:
+        _, _, state = bench.line(state, names, values)
+    return state
+
+
+# -- rows
+
+
+def sheet_row(number: bytes, texts: List[bytes]) -> bytes:
+    """ "Column 1 to 10 holds the line number, right aligned; then [...] cells [...] of 14 columns each,
+    right aligned"; "each line filled with spaces to exactly 80 and closed by a line feed" """
+    row = number.rjust(NUMBER_COLUMNS)
+    for text in texts:
+        row += text.rjust(CELL_COLUMNS)
+    return row.ljust(SHEET_COLUMNS) + b"\n"
+
+
+def upper_text(value: Cell) -> bytes:
+    """ "unset as `-`, reals as their 16 digits over two rows of 8, the first 8 above" """
+    text = value_text(value)
+    return text[:8] if isinstance(value, Real) else text
+
+
+def lower_text(value: Cell) -> bytes:
+    """ "The second row, otherwise spaces": the last 8 digits of a set real, or nothing."""
+    return value_text(value)[8:] if isinstance(value, Real) else b""
+
+
+def rows_of_line(number: int, values: List[Cell]) -> List[bytes]:
+    """ "The second row [...] is there only for a line with a set real." """
+    rows = [sheet_row(b"%d" % number, [upper_text(value) for value in values])]
+    if any(isinstance(value, Real) for value in values):
+        rows.append(sheet_row(b"", [lower_text(value) for value in values]))
+    return rows
+
+
+# -- closing rows
+
+
+def number_of_real(value: Real) -> float:
+    return float_from_bits(value.bits)
+
+
+def closing_values(values: List[Real]) -> List[Real]:
+    """ "the lowest, highest and last set value" of one or more, in the order of their lines.
+
+    "For lowest and highest, equal zeros count as one value, the earlier bits shown."  Python's
+    min and max give the first of those that are equal, and the two zeros are equal as floats.
+    """
+    return [min(values, key=number_of_real), max(values, key=number_of_real), values[-1]]
+
+
+def closing_rows(column: int, values: List[Cell]) -> List[bytes]:
+    """ "each in that column over two rows, or three rows of `-` if none was set" """
+    spaces = [b""] * column
+    set_values = [value for value in values if value is not None]
+    if not set_values:
+        return [sheet_row(b"", spaces + [b"-"])] * 3
+    rows = []
+    for value in closing_values(set_values):
+        rows.append(sheet_row(b"", spaces + [upper_text(value)]))
+        rows.append(sheet_row(b"", spaces + [lower_text(value)]))
+    return rows
+
+
+# -- the sheet
+
+
+def sheet_rows(chosen: List[Chosen], states: List[State]) -> List[bytes]:
+    """The rows of the printed lines, then, "column by column, for each real column", its closing rows.
+
+    The cells are taken "as they read after the line".  Readings: " "Real cell" is by the member's kind."
+    """
+    table = [[state.now.read(number, member.name.text) for number, member in chosen] for state in states]
+    rows = []
+    for state, values in zip(states, table):
+        rows += rows_of_line(state.number, values)
+    for column, (_, member) in enumerate(chosen):
+        if member.kind == REAL:
+            rows += closing_rows(column, [values[column] for values in table])
+    return rows
+
+
+def sheet(bench_text: bytes, state: Optional[State], readings: bytes, cells: bytes) -> Tuple[int, bytes]:
+    """The sheet of an accepted bench and a state of it, None standing for the fresh one.
+
+    (0, the sheet), or (41 or 22, nothing): 41 comes "before any line is read", so before 22.
+    Nothing is written into the state, "which stays as lent".
+    """
+    bench = Bench(bench_text)
+    chosen = chosen_cells(bench, cells)
+    if chosen is None:
+        return 41, b""
+    names, *lines = lines_of(readings)
+    if not bench.takes_names(names):
+        return 22, b""
+    lent = bench.fresh() if state is None else state
+    states = list(states_of_printed_lines(bench, lent, names, lines))
+    return 0, b"".join(sheet_rows(chosen, states))
+
+
+def printed_sheet(bench_txt: bytes, readings_txt: bytes, cells: bytes) -> bytes:
+    """What `--sheet` prints: the sheet from the fresh state, or the refusal's line and nothing else."""
+    code, place = check(bench_txt)
+    if code != 0:
+        return b"refused %d %d\n" % (code, place)
+    code, text = sheet(bench_txt, None, readings_txt, cells)
+    return text if code == 0 else b"refused %d\n" % code
+
+
+# --------------------------------------------------------------------------
+# The command line
+# --------------------------------------------------------------------------
+
+
 def content(path: Path) -> bytes:
     """ "a missing file is empty" """
     return path.read_bytes() if path.is_file() else b""
 
 
 def main(arguments: List[str]) -> int:
-    if len(arguments) != 1:
-        sys.stderr.write("usage: python3 bench_oracle.py FOLDER\n")
+    with_sheet = len(arguments) == 3 and arguments[0] == "--sheet"
+    if len(arguments) != 1 and not with_sheet:
+        sys.stderr.write("usage: python3 bench_oracle.py [--sheet CELLS] FOLDER\n")
         return 2
-    folder = Path(arguments[0])
-    sys.stdout.buffer.write(run(content(folder / "bench.txt"), content(folder / "readings.txt")))
+    folder = Path(arguments[-1])
+    texts = content(folder / "bench.txt"), content(folder / "readings.txt")
+    printed = printed_sheet(*texts, os.fsencode(arguments[1])) if with_sheet else run(*texts)
+    sys.stdout.buffer.write(printed)
     return 0
 
 

@@ -1,14 +1,16 @@
-"""Makes cases.json: bench texts and readings with the results of bench_oracle.
+"""Makes cases.json, bench texts and readings with the results of bench_oracle, and
+sheets.json, the same for the day sheet.
 
 Every stored result comes from bench_oracle; next to each written case stands the
-result worked out by hand from document 01 with orders 1 and 2 of document 02, and the two
+result worked out by hand from document 01 with orders 1 to 3 of document 02, and the two
 must agree.  In a refused bench text the mark @ (no byte of any such text otherwise)
 shows the expected place.
 
 `python3 tests/oracle/make_cases.py`, or with --check, compares: it fails, and names
-the first case that differs, if cases.json is not what is made here.  --write writes it.
+the first case that differs, if a file is not what is made here.  --write writes both.
 """
 
+import copy
 import dataclasses
 import json
 import random
@@ -16,12 +18,14 @@ import sys
 from itertools import product, zip_longest
 from pathlib import Path
 
-from bench_oracle import Bench, check, run
+from bench_oracle import Bench, check, printed_sheet, run, sheet, state_after, stated_size
 
 SEED = 20240601
 OUTPUT = Path(__file__).resolve().parent / "cases.json"
+SHEETS_OUTPUT = OUTPUT.with_name("sheets.json")
 
 CASES = []
+SHEETS = []
 
 
 def add(name, bench, readings):
@@ -1234,6 +1238,420 @@ def make_random():
 
 
 # --------------------------------------------------------------------------
+# Day sheets (document 02, order 3)
+# --------------------------------------------------------------------------
+
+
+def add_sheet(name, bench, before, readings, cells):
+    """Stores a sheet with the oracle's result; `before` is run from the fresh state to make the lent one."""
+    assert name.startswith("sheet-") and all(case["name"] != name for case in SHEETS), name
+    assert len(bench) <= 600 and readings.count("\n") <= 13, name
+    text, day, chosen = bench.encode("ascii"), readings.encode("ascii"), cells.encode("ascii")
+    assert check(text) == (0, 0), name
+    lent = state_after(text, before.encode("ascii"))
+    kept = copy.deepcopy(lent)
+    number, printed = sheet(text, lent, day, chosen)
+    assert lent == kept, name  # "the lent state, which stays as lent"
+    assert len(printed) <= stated_size(day), name
+    if before == "":
+        refusal = b"refused %d\n" % number
+        assert sheet(text, None, day, chosen) == (number, printed), name
+        assert printed_sheet(text, day, chosen) == (refusal if number else printed), name
+    else:
+        assert lent.number != 0, name
+    SHEETS.append({
+        "name": name, "bench": bench, "before": before, "readings": readings, "cells": cells,
+        "number": number, "sheet": printed.decode("ascii"),
+    })
+    return SHEETS[-1]
+
+
+def text_of_rows(rows):
+    """A sheet of rows that are written from column 1 on: filled to 80 columns, closed by line feeds."""
+    assert all(len(row) <= 80 and row == row.rstrip(" ") for row in rows), rows
+    return "".join(row.ljust(80) + "\n" for row in rows)
+
+
+def sheeted(name, bench, readings, cells, rows, before=""):
+    """A sheet that is printed."""
+    case = add_sheet(name, bench, before, readings, cells)
+    assert (case["number"], case["sheet"]) == (0, text_of_rows(rows)), (name, case["number"], case["sheet"].split("\n"))
+
+
+def sheet_refused(name, number, bench, readings, cells, before=""):
+    """A sheet that is refused by this number."""
+    case = add_sheet(name, bench, before, readings, cells)
+    assert (case["number"], case["sheet"]) == (number, ""), (name, case)
+
+
+ONE_WHOLE = "interface I { event e : whole } entity s : I { } rules end"
+
+ONE_REAL = "interface I { event x : real } entity s : I { } rules end"
+
+TWO_REALS = "interface I { event x : real event y : real } entity s : I { } rules end"
+
+FIRE = (
+    "interface I { event e : whole action k ( whole ) } entity s : I { } "
+    "rules when event e from s value changed trigger action k ( s.e ) on s end end"
+)
+
+
+def make_sheets_of_lines():
+    # -2147483648 is kept by `-` in line 3, and `?` makes e unset in line 5
+    sheeted("sheet-one-whole-cell", ONE_WHOLE, "n s.e\n1 5\n2 -2147483648\n3 -\n4 2147483647\n5 ?\n6 0\n", "s.e", [
+        #....:....1....:....2....
+        "         1             5",
+        "         2   -2147483648",
+        "         3   -2147483648",
+        "         4    2147483647",
+        "         5             -",
+        "         6             0",
+    ])
+    # pi, and f is its half; b stays in line 2, so nothing is fired; in line 3 r is unset, so f is not written,
+    # and the line has no set real; no last line feed
+    sheeted(
+        "sheet-five-cells-of-all-sorts",
+        "interface M { attribute a : whole event b : bool event r : real action f ( real ) action g ( bool ) } "
+        "entity m : M { a = -40 } rules when event b from m value changed "
+        "trigger action f ( m.r / 2r ) on m , action g ( m.b ) on m end end",
+        "n m.b m.r\n1 true 400921fb54442d18\n2 - c00400000000000b\n3 false ?",
+        "m.f m.a m.g m.r m.b",
+        [
+            #....:....1....:....2....:....3....:....4....:....5....:....6....:....7....:....8
+            "         1      3ff921fb           -40          true      400921fb          true",
+            "                54442d18                                  54442d18",
+            "         2             -           -40             -      c0040000          true",
+            "                                                          0000000b",
+            "         3             -           -40         false             -         false",
+            # f: lowest, highest and last are one value
+            "                3ff921fb",
+            "                54442d18",
+            "                3ff921fb",
+            "                54442d18",
+            "                3ff921fb",
+            "                54442d18",
+            # r: lowest, highest, last set
+            "                                                          c0040000",
+            "                                                          0000000b",
+            "                                                          400921fb",
+            "                                                          54442d18",
+            "                                                          c0040000",
+            "                                                          0000000b",
+        ],
+    )
+    # lines 1, 3 and 6 have no set real; line 5 has one, which is no reading of that line
+    sheeted(
+        "sheet-second-row-of-set-reals",
+        "interface I { event x : real event w : whole } entity s : I { } rules end",
+        "n s.x s.w\n1 - 3\n2 3fb999999999999a -\n3 ? 4\n4 bfe0000000000001 ?\n5 - 9\n6 ? -\n",
+        "s.x s.w",
+        [
+            #....:....1....:....2....:....3....:...
+            "         1             -             3",
+            "         2      3fb99999             3",
+            "                9999999a",
+            "         3             -             4",
+            "         4      bfe00000             -",
+            "                00000001",
+            "         5      bfe00000             9",
+            "                00000001",
+            "         6             -             9",
+            # -0.5 and 0.1; the last set value is not of the last line
+            "                bfe00000",
+            "                00000001",
+            "                3fb99999",
+            "                9999999a",
+            "                bfe00000",
+            "                00000001",
+        ],
+    )
+    # resent: line 2 once, line 3 twice; k is shown at its line alone
+    sheeted("sheet-resent-in-the-middle", FIRE, "n s.e\n1 5\n2 -\n2 -\n3 6\n3 6\n3 6\n4 6\n", "s.k s.e", [
+        #....:....1....:....2....:....3....:...
+        "         1             5             5",
+        "         2             -             5",
+        "         3             6             6",
+        "         4             -             6",
+    ])
+    # passed over: 24, after line 1 an empty line (21), 25, 23, 24, 21, after line 2 24, after line 3 24
+    # and an empty line
+    sheeted(
+        "sheet-refused-lines-passed-over",
+        FIRE,
+        "n s.e\n2 4\n1 5\n\n1 6\n2 x\n3 6\n2\n2 6\n0 6\n3 -\n9 9\n\n",
+        "s.e s.k",
+        [
+            #....:....1....:....2....:....3....:...
+            "         1             5             5",
+            "         2             6             6",
+            "         3             6             -",
+        ],
+    )
+    # d is absent in lines 2 and 3; its event was unset as it left, so nothing is fired in line 4;
+    # r is -(2 to the 31st - 1): 30 ones of the fraction stand first
+    sheeted(
+        "sheet-absent-entity",
+        "interface D { attribute a : whole attribute r : real event e : whole action k ( whole ) } "
+        "entity d : D { a = 7 r = -2147483647r } "
+        "rules when event e from d value changed trigger action k ( d.e ) on d end end",
+        "n d d.e\n1 - 5\n2 false -\n3 - -\n4 true -\n5 - 6\n",
+        "d.a d.e d.r d.k",
+        [
+            #....:....1....:....2....:....3....:....4....:....5....:....6....:.
+            "         1             7             5      c1dfffff             5",
+            "                                            ffc00000",
+            "         2             -             -             -             -",
+            "         3             -             -             -             -",
+            "         4             7             -      c1dfffff             -",
+            "                                            ffc00000",
+            "         5             7             6      c1dfffff             6",
+            "                                            ffc00000",
+            "                                            c1dfffff",
+            "                                            ffc00000",
+            "                                            c1dfffff",
+            "                                            ffc00000",
+            "                                            c1dfffff",
+            "                                            ffc00000",
+        ],
+    )
+
+
+def make_sheets_of_closing_rows():
+    # -1 and a little, 2 and a little, then more; -2 less more, then less; 1: of two negative reals the lower
+    # has the greater bits, and a negative one has greater bits than a positive one
+    sheeted(
+        "sheet-lowest-highest-last",
+        ONE_REAL,
+        "n s.x\n1 bff0000000000001\n2 4000000000000002\n3 400000000000000a\n"
+        "4 c000000000000003\n5 c000000000000002\n6 3ff0000000000004\n",
+        "s.x",
+        [
+            #....:....1....:....2....
+            "         1      bff00000",
+            "                00000001",
+            "         2      40000000",
+            "                00000002",
+            "         3      40000000",
+            "                0000000a",
+            "         4      c0000000",
+            "                00000003",
+            "         5      c0000000",
+            "                00000002",
+            "         6      3ff00000",
+            "                00000004",
+            # lowest, of line 4
+            "                c0000000",
+            "                00000003",
+            # highest, of line 3
+            "                40000000",
+            "                0000000a",
+            # last
+            "                3ff00000",
+            "                00000004",
+        ],
+    )
+    # y is chosen before x, so its block stands first; in line 1 y is unset, in line 2 x
+    sheeted(
+        "sheet-two-real-columns",
+        TWO_REALS,
+        "n s.x s.y\n1 4010000000000004 -\n2 ? c010000000000007\n"
+        "3 4030000000000003 4020000000000002\n4 4020000000000005 -\n",
+        "s.y s.x",
+        [
+            #....:....1....:....2....:....3....:...
+            "         1             -      40100000",
+            "                              00000004",
+            "         2      c0100000             -",
+            "                00000007",
+            "         3      40200000      40300000",
+            "                00000002      00000003",
+            "         4      40200000      40200000",
+            "                00000002      00000005",
+            # y: -4, 8, 8 and a little each
+            "                c0100000",
+            "                00000007",
+            "                40200000",
+            "                00000002",
+            "                40200000",
+            "                00000002",
+            # x: 4, 16, 8
+            "                              40100000",
+            "                              00000004",
+            "                              40300000",
+            "                              00000003",
+            "                              40200000",
+            "                              00000005",
+        ],
+    )
+    # x is never set, y once, w is no real
+    sheeted(
+        "sheet-real-never-set",
+        "interface I { event w : whole event x : real event y : real } entity s : I { } rules end",
+        "n s.w s.y\n1 8 -\n2 - 7fefffffffffffff\n",
+        "s.w s.x s.y",
+        [
+            #....:....1....:....2....:....3....:....4....:....5..
+            "         1             8             -             -",
+            "         2             8             -      7fefffff",
+            "                                            ffffffff",
+            "                                     -",
+            "                                     -",
+            "                                     -",
+            "                                            7fefffff",
+            "                                            ffffffff",
+            "                                            7fefffff",
+            "                                            ffffffff",
+            "                                            7fefffff",
+            "                                            ffffffff",
+        ],
+    )
+    # x is 0 and then -0, y the other way round
+    sheeted(
+        "sheet-two-zeros",
+        TWO_REALS,
+        "n s.x s.y\n1 0000000000000000 8000000000000000\n2 8000000000000000 0000000000000000\n",
+        "s.x s.y",
+        [
+            #....:....1....:....2....:....3....:...
+            "         1      00000000      80000000",
+            "                00000000      00000000",
+            "         2      80000000      00000000",
+            "                00000000      00000000",
+            # x: the zero of line 1 twice, then that of line 2
+            "                00000000",
+            "                00000000",
+            "                00000000",
+            "                00000000",
+            "                80000000",
+            "                00000000",
+            # y the same
+            "                              80000000",
+            "                              00000000",
+            "                              80000000",
+            "                              00000000",
+            "                              00000000",
+            "                              00000000",
+        ],
+    )
+    # two cells five times; without a last line feed the sheet is as long as its stated size
+    sheeted(
+        "sheet-five-reals-of-two-cells",
+        "interface I { attribute a : real event x : real } entity s : I { a = -2147483647r } rules end",
+        "n s.x\n1 3fd5555555555556",
+        "s.x s.a s.x s.a s.x",
+        [
+            #....:....1....:....2....:....3....:....4....:....5....:....6....:....7....:....8
+            "         1      3fd55555      c1dfffff      3fd55555      c1dfffff      3fd55555",
+            "                55555556      ffc00000      55555556      ffc00000      55555556",
+            *[
+                "                3fd55555",
+                "                55555556",
+            ] * 3,
+            *[
+                "                              c1dfffff",
+                "                              ffc00000",
+            ] * 3,
+            *[
+                "                                            3fd55555",
+                "                                            55555556",
+            ] * 3,
+            *[
+                "                                                          c1dfffff",
+                "                                                          ffc00000",
+            ] * 3,
+            *[
+                "                                                                        3fd55555",
+                "                                                                        55555556",
+            ] * 3,
+        ],
+    )
+
+
+def make_sheets_of_lent_states():
+    # e is 7 and k was fired in line 8, t has left and u has not; e stays in line 9, so nothing is fired
+    sheeted(
+        "sheet-goes-on-from-lent-state",
+        "interface I { event e : whole action k ( whole ) } interface A { attribute a : bool } "
+        "entity s : I { } entity t : A { a = true } entity u : A { a = false } "
+        "rules when event e from s value changed trigger action k ( s.e ) on s end end",
+        "n t s.e\n9 - 7\n10 true 8\n11 - -\n",
+        "s.e s.k t.a u.a",
+        [
+            #....:....1....:....2....:....3....:....4....:....5....:....6....:.
+            "         9             7             -             -         false",
+            "        10             8             8          true         false",
+            "        11             8             -          true         false",
+        ],
+        before="n s.e t\n1 5 -\n2 - -\n3 - -\n4 - -\n5 - -\n6 - -\n7 - -\n8 7 false\n",
+    )
+    # line 2 is resent, with a column more; -3 is no value of the day
+    sheeted(
+        "sheet-resent-as-first-line",
+        ONE_REAL,
+        "n s s.x\n2 - c008000000000002\n3 - 4000000000000003\n4 - 3ff0000000000004\n",
+        "s.x",
+        [
+            #....:....1....:....2....
+            "         3      40000000",
+            "                00000003",
+            "         4      3ff00000",
+            "                00000004",
+            "                3ff00000",
+            "                00000004",
+            "                40000000",
+            "                00000003",
+            "                3ff00000",
+            "                00000004",
+        ],
+        before="n s.x\n1 c000000000000001\n2 c008000000000002\n",
+    )
+    # line 1 is resent and 3 is refused by 24: a and x are set, but in no printed line
+    sheeted(
+        "sheet-no-line-and-two-reals",
+        "interface I { attribute a : real event w : whole event x : real } entity s : I { a = 3r } rules end",
+        "n s.w s.x\n1 4 3ff0000000000000\n3 - -\n",
+        "s.a s.w s.x",
+        [
+            #....:....1....:....2....:....3....:....4....:....5..
+            "                       -",
+            "                       -",
+            "                       -",
+            "                                                   -",
+            "                                                   -",
+            "                                                   -",
+        ],
+        before="n s.x s.w\n1 3ff0000000000000 4\n",
+    )
+    sheeted("sheet-no-line-and-no-real", ONE_WHOLE, "n s.e", "s.e", [], before="n s.e\n1 5\n")
+
+
+CHOICE = (
+    "interface I { event pos : whole } interface J { event dir : whole } "
+    "entity st : I { } entity sta : J { } rules end"
+)
+
+
+def make_refused_sheets():
+    sheet_refused("sheet-readings-empty", 22, FIRE, "", "s.k", before="n s.e\n1 5\n")
+    # an action is no column of readings
+    sheet_refused("sheet-names-wrong", 22, FIRE, "n s.k\n1 5\n", "s.k s.e")
+    for name, cells in (
+        ("empty-text", ""),
+        ("six", "st.pos sta.dir st.pos sta.dir st.pos sta.dir"),
+        ("two-spaces", "st.pos  sta.dir"),
+        ("leading-space", " st.pos"),
+        ("trailing-space", "st.pos "),
+        ("unknown-entity", "s.pos st.pos"),
+        ("entity-alone", "st"),
+        ("three-parts", "st.pos.pos"),
+        ("empty-member", "st."),
+    ):
+        sheet_refused("sheet-cells-" + name, 41, CHOICE, "n st.pos\n1 5\n", cells)
+    # the names are wrong as well: 41 is "before any line is read"
+    sheet_refused("sheet-cells-unknown-member-before-22", 41, CHOICE, "st.pos n\n1 5\n", "st.pos sta.pos")
+
+
+# --------------------------------------------------------------------------
 # Facts of the documents checked without a stored case
 # --------------------------------------------------------------------------
 
@@ -1351,6 +1769,82 @@ def check_missing_columns():
     assert bench.line(state, b"n k.keep", b"2 5") == (22, None, state)
 
 
+def check_sheet_cells():
+    """Texts of cells: what is known, and what 41 refuses, without and with names that 22 would refuse."""
+    bench = CHOICE.encode()
+    for cells in (b"st.pos", b"sta.dir", b"st.pos sta.dir st.pos sta.dir st.pos"):
+        assert sheet(bench, None, b"n", cells) == (0, b""), cells
+        assert sheet(bench, None, b"", cells) == (22, b""), cells
+    for cells in (
+        b" ", b".", b"n", b"-", b".pos", b"st.po", b"st.post", b"St.pos", b"st.Pos", b"sta.pos", b"st..pos", b"st.pos.",
+        b"I.pos", b"st:pos", b"st.pos\n", b"st.pos\tsta.dir", b"st.pos\nsta.dir", b"st.pos,sta.dir", b"st.pos\0",
+        b"\xff", b"st.pos st.pos st.pos st.pos st.pos st.pos st.pos", b"st.pos sta.dir st.pos sta.dir st.po",
+    ):
+        for readings in (b"n st.pos\n1 5\n", b"", b"\n", b"n\xff"):
+            assert sheet(bench, None, readings, cells) == (41, b""), (cells, readings)
+    assert sheet(b"rules end", None, b"n", b"") == (41, b"")
+
+
+def check_sheet_readings():
+    """The text of a day: its line of names, its last line feed, its lengths."""
+    bench = ONE_WHOLE.encode()
+    row = text_of_rows(["         1             5"]).encode()
+    assert sheet(bench, None, b"n s.e\n1 5", b"s.e") == (0, row)
+    assert sheet(bench, None, b"n s.e\n1 5\n", b"s.e") == (0, row)
+    assert sheet(bench, None, b"n s.e\n\n\n1 5\n\n\n", b"s.e") == (0, row)
+    for names in (b"", b"\n", b"\nn s.e", b"n s.e ", b"n  s.e", b"n s.e s.e", b"s.e", b"n s.e\r", b"n s.f"):
+        assert sheet(bench, None, names + b"\n1 5\n", b"s.e") == (22, b""), names
+    # 8,192 bytes are no reason for 21, but 23 passes the line over as well; too long a line of names is 22
+    for length in (8190, 8191):
+        assert sheet(bench, None, b"n s.e\n1 " + b"9" * length + b"\n1 5\n", b"s.e") == (0, row)
+    assert sheet(bench, None, b"n s.e".ljust(32769, b"e") + b"\n1 5\n", b"s.e") == (22, b"")
+    assert state_after(bench, b"") == Bench(bench).fresh()
+    assert state_after(bench, b"s.e n\n1 5\n") == Bench(bench).fresh()
+
+
+def check_sheet_numbers():
+    """A number of ten digits fills columns 1 to 10; no text of readings comes so far from the fresh state."""
+    bench = ONE_WHOLE.encode()
+    late = dataclasses.replace(state_after(bench, b"n s.e\n1 5\n"), number=4294967293)
+    day = b"n s.e\n4294967294 -2147483648\n4294967295 -\n4294967296 6\n"
+    rows = ["4294967294   -2147483648", "4294967295   -2147483648"]
+    assert sheet(bench, late, day, b"s.e") == (0, text_of_rows(rows).encode())
+
+
+def check_sheet_zeros():
+    """A zero that comes after other values, before the other zero: the earlier one is shown."""
+    zero, minus_zero, one, minus_one = "0000000000000000", "8000000000000000", "3ff0000000000000", "bff0000000000000"
+    for values, closing in (
+        ((one, zero, minus_zero), (zero, one, minus_zero)),
+        ((one, minus_zero, zero), (minus_zero, one, zero)),
+        ((minus_one, zero, minus_zero), (minus_one, zero, minus_zero)),
+        ((minus_one, minus_zero, zero), (minus_one, minus_zero, zero)),
+        ((zero, one, minus_zero, minus_one), (minus_one, one, minus_one)),
+        ((minus_zero, zero, minus_zero), (minus_zero, minus_zero, minus_zero)),
+    ):
+        lines = "".join("%d %s\n" % (number, value) for number, value in enumerate(values, 1))
+        number, printed = sheet(ONE_REAL.encode(), None, ("n s.x\n" + lines).encode(), b"s.x")
+        words = printed.decode().split()[3 * len(values) :]
+        assert (number, words) == (0, [half for value in closing for half in (value[:8], value[8:])]), values
+
+
+def check_stated_size():
+    """The stated size, and a sheet that needs all of it."""
+    assert [stated_size(readings) for readings in (b"", b"n", b"n\n", b"\n\n", b"n\n1\n2")] == [2430, 2430, 2592, 2754, 2754]
+    longest = [case["name"] for case in SHEETS if len(case["sheet"]) == stated_size(case["readings"].encode())]
+    assert longest == ["sheet-five-reals-of-two-cells"], longest
+
+
+def check_folder_of_sheets():
+    """What the list of sheets must hold."""
+    assert 20 <= len(SHEETS) <= 30, len(SHEETS)
+    assert {case["number"] for case in SHEETS} == {0, 22, 41}
+    assert any(case["readings"].endswith("\n") for case in SHEETS) and not all(case["readings"].endswith("\n") for case in SHEETS)
+    for case in SHEETS:
+        rows = case["sheet"].split("\n")
+        assert rows.pop() == "" and all(len(row) == 80 for row in rows), case["name"]
+
+
 def check_folder_of_cases():
     """What the list must hold."""
     assert 70 <= len(CASES) <= 110, len(CASES)
@@ -1388,8 +1882,21 @@ def make_all():
     check_folder_of_cases()
 
 
+def make_all_sheets():
+    make_sheets_of_lines()
+    make_sheets_of_closing_rows()
+    make_sheets_of_lent_states()
+    make_refused_sheets()
+    check_sheet_cells()
+    check_sheet_readings()
+    check_sheet_numbers()
+    check_sheet_zeros()
+    check_stated_size()
+    check_folder_of_sheets()
+
+
 # --------------------------------------------------------------------------
-# The file of cases: compared, or written
+# The files of cases: compared, or written
 # --------------------------------------------------------------------------
 
 
@@ -1400,9 +1907,9 @@ def asked_to_write(arguments):
     return arguments == ["--write"]
 
 
-def content():
-    """All bytes of cases.json as they should be."""
-    return (json.dumps(CASES, indent=1) + "\n").encode("ascii")
+def content(cases):
+    """All bytes of a file of cases as they should be."""
+    return (json.dumps(cases, indent=1) + "\n").encode("ascii")
 
 
 def difference_of_case(have, want):
@@ -1418,9 +1925,9 @@ def difference_of_case(have, want):
     return "case %s: %s is %s and should be %s" % (want["name"], key, json.dumps(have.get(key)), json.dumps(want.get(key)))
 
 
-def difference(stored):
+def difference(stored, cases):
     """The first thing in these bytes that is not as it should be, in words; None if there is none."""
-    if stored == content():
+    if stored == content(cases):
         return None
     try:
         have_cases = json.loads(stored.decode("ascii"))
@@ -1428,23 +1935,32 @@ def difference(stored):
         return "it is no text of cases: %s" % error
     if not isinstance(have_cases, list):
         return "it is no list of cases"
-    for have, want in zip_longest(have_cases, CASES):
+    for have, want in zip_longest(have_cases, cases):
         if have != want:
             return difference_of_case(have, want)
     return "its cases are right, but not its layout"
 
 
+def is_right(path, cases):
+    """Whether the file holds these cases; prints what is unlike."""
+    found = difference(path.read_bytes(), cases) if path.is_file() else "there is no such file"
+    if found is not None:
+        print("%s is not what make_cases.py makes (--write would write it): %s" % (path.name, found))
+    return found is None
+
+
 def main(arguments):
     write = asked_to_write(arguments)
     make_all()
+    make_all_sheets()
+    files = [(OUTPUT, CASES), (SHEETS_OUTPUT, SHEETS)]
     if write:
-        OUTPUT.write_bytes(content())
-    else:
-        found = difference(OUTPUT.read_bytes()) if OUTPUT.is_file() else "there is no such file"
-        if found is not None:
-            print("%s is not what make_cases.py makes (--write would write it): %s" % (OUTPUT.name, found))
-            return 1
+        for path, cases in files:
+            path.write_bytes(content(cases))
+    elif not all([is_right(path, cases) for path, cases in files]):
+        return 1
     print("%d cases" % len(CASES))
+    print("%d sheets" % len(SHEETS))
     return 0
 
 

@@ -1,7 +1,7 @@
-"""The stored cases as statements about the definitions: crates/stored_texts/proofs/theorems/StoredTexts.antt and
-crates/replay_cases/proofs/theorems/StoredLines.antt.
+"""The stored cases as statements about the definitions: crates/stored_texts/proofs/theorems/StoredTexts.antt,
+crates/replay_cases/proofs/theorems/StoredLines.antt and crates/sheet_cases/proofs/theorems/StoredSheets.antt.
 
-cases.json holds texts and readings with what bench_oracle.py makes of them. Each statement says that the definitions compute the same,
+cases.json and sheets.json hold texts and readings with what bench_oracle.py makes of them. Each statement says that the definitions compute the same,
 by `refl`. With no argument or `--check` it fails if the files differ, in more than layout, from what they should be; `--write` writes them.
 """
 
@@ -26,6 +26,14 @@ use Rattle.text.specs.definitions.Bytes.{ascii}
 use Rattle.replay.specs.definitions.Replay.{replay}
 """
 
+SHEETS = """-- Day sheets. Made by tests/oracle/to_antt.py from tests/oracle/sheets.json.
+use mathlib.Core.Path.{_≡_, refl}
+use lib.Ieee as Ieee
+use Rattle.text.specs.definitions.Bytes.{ascii}
+use Rattle.cycles.specs.definitions.Line.{refused, accepted}
+use Rattle.sheet_cases.specs.definitions.SheetOf.{sheet-of}
+"""
+
 REALS = "Ieee.add Ieee.sub Ieee.mul Ieee.div Ieee.neg Ieee.eq Ieee.ofInt Ieee.ofBits Ieee.toBits Ieee.isNan"
 
 
@@ -41,6 +49,12 @@ def of_text(case: dict) -> str:
 
 def of_readings(case: dict) -> str:
     return f"replay (ascii {quoted(case['bench'])}) (ascii {quoted(case['readings'])}) ≡ ascii {quoted(case['printed'])}"
+
+
+def of_sheet(case: dict) -> str:
+    texts = " ".join(f"(ascii {quoted(case[name])})" for name in ("bench", "before", "readings", "cells"))
+    answer = f"refused {case['number']}" if case["number"] else f"accepted (ascii {quoted(case['sheet'])})"
+    return f"sheet-of {texts} ≡ {answer}"
 
 
 def file_of(imports: str, cases: list, statement, opened: str) -> str:
@@ -59,9 +73,11 @@ def main() -> int:
     cases = [case for case in json.loads((HERE / "cases.json").read_text()) if len(case["bench"]) <= LONGEST]
     texts = [case for case in cases if case["readings"] is None]
     runs = [case for case in cases if case["readings"] is not None]
+    sheets = json.loads((HERE / "sheets.json").read_text())
     files = {
         "stored_texts/proofs/theorems/StoredTexts.antt": file_of(TEXTS, texts, of_text, "verdict verdict-answer ascii"),
         "replay_cases/proofs/theorems/StoredLines.antt": file_of(LINES, runs, of_readings, "replay ascii\n    " + REALS),
+        "sheet_cases/proofs/theorems/StoredSheets.antt": file_of(SHEETS, sheets, of_sheet, "sheet-of ascii Ieee.lt\n    " + REALS),
     }
     for name, text in files.items():
         path = CRATES / name
@@ -70,7 +86,7 @@ def main() -> int:
         elif path.read_text().split() != text.split():
             print(f"{name} is not what the stored cases give")
             return 1
-    print(f"{len(texts)} texts, {len(runs)} runs")
+    print(f"{len(texts)} texts, {len(runs)} runs, {len(sheets)} sheets")
     return 0
 
 

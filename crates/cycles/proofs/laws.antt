@@ -34,3 +34,4 @@ pub mod TakesLaws
 pub mod SameInputsLaws
 pub mod CanonicalLaws
 pub mod RowReads
+pub mod StoredLaws

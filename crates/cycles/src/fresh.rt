@@ -6,7 +6,7 @@ ghost use lib.ListN.{length, getD};
 ghost use Rattle.values.specs.definitions.Bytes.{low-first};
 ghost use Rattle.text.specs.definitions.Syntax.{whole-number, real-number, literal-value};
 ghost use Rattle.cycles.specs.definitions.StateImage.{CELL-BYTES, NUMBER-BYTES, BEFORE-NOW-CELLS, STATE};
-ghost use Rattle.cycles.specs.contracts.StateMemory.{Put};
+ghost use Rattle.values.specs.contracts.Puts.{Put};
 ghost use Rattle.cycles.specs.contracts.FreshMemory.{Number-at, Literal-at, Assigned-value, Fresh-cell, Fresh-cells-put, flags-of, blanks-of};
 ghost use Rattle.cycles.specs.contracts.FreshMemory.{Fresh-put};
 use crate::image::cell_token;

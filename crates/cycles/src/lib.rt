@@ -5,7 +5,7 @@ pub mod conditions; // whether a condition holds
 pub mod cycle; // a cycle in the memory of a state
 pub mod evaluate; // references and cells
 pub mod expressions; // the value of an expression
-mod fields; // the fields of a line
+pub mod fields; // the fields of a line
 pub mod finding; // the guards of a rule, found
 pub mod fresh; // the fresh state
 pub mod guards; // what must hold for a rule to write anything

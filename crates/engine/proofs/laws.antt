@@ -9,3 +9,4 @@ pub mod CheckLaws
 pub mod FollowsLaws
 pub mod LineLaws
 pub mod ServingLaws
+pub mod SheetLaws

@@ -1,17 +1,18 @@
 // The engine's entry points: a bench file is checked once; then each line of readings is one call.
 //
 // Every call answers with one number: document 01's number in its low 8 bits, 0 for acceptance, and above them the offset of a refused text
-// or the length of a written row. Nothing lent is trusted: memory may have any bytes and any length, and a refusal changes none of it.
+// or the length of a written row or sheet. Nothing lent is trusted: memory may have any bytes and any length, and a refusal changes none of it.
 pub mod bench; // the bench image
 pub mod line; // a line on a checked bench
 pub mod serve; // a call on a bench's text
 
-ghost use Rattle.engine.specs.definitions.Calls.{Check-contract, Fresh-contract, Line-contract, Header-contract, Row-contract};
+ghost use Rattle.engine.specs.definitions.Calls.{Check-contract, Fresh-contract, Line-contract, Header-contract, Row-contract, Sheet-contract};
 use bench::text_of;
 use checking::layout::MOST_BYTES;
 use cycles::layout::MOST_ROW_BYTES;
 use cycles::layout::NUMBER_BYTES;
 use cycles::layout::STATE;
+use days::sheet::is_short;
 use serve::Call;
 use serve::serve;
 
@@ -148,5 +149,38 @@ pub extern "C" fn bench_row(bench: &[u8], state: &[u8], row: &mut [u8]) -> u64
         &nothing,
         &nothing,
         row,
+    )
+}
+
+// Writes the day sheet of a text of readings, run on from a state that stays: 31, 32, 33, 41, 22, or 0 with its length.
+#[no_mangle]
+pub extern "C" fn bench_sheet(
+    bench: &[u8],
+    state: &[u8],
+    readings: &[u8],
+    cells: &[u8],
+    sheet: &mut [u8],
+) -> u64
+    ensures { λ r. ⌜
+        Sheet-contract (now (bench .entry)) (now (state .entry)) (now (readings .entry)) (now (cells .entry)) (now (sheet .entry)) (now (sheet .exit)) r ⌝ }
+{
+    if bench.len() < BENCH {
+        return 31;
+    }
+    if state.len() < STATE {
+        return 31;
+    }
+    if is_short(readings, sheet.len()) {
+        return 31;
+    }
+    let mut none = [0u8; 1];
+    serve(
+        Call::Sheet,
+        text_of(bench),
+        &mut none,
+        state,
+        readings,
+        cells,
+        sheet,
     )
 }

@@ -1,28 +1,21 @@
 // A line on a checked bench whose rules' names are resolved.
 ghost use Prim.Native.Nat.{ℕ, _≤_, _<_};
 ghost use lib.ListN.{length, getD};
-ghost use Rattle.checking.specs.definitions.CountFaults.{MOST-ENTITIES};
-ghost use Rattle.cycles.specs.definitions.StateImage.{MOST-CELL-BYTES, STATE};
+ghost use Rattle.cycles.specs.definitions.StateImage.{STATE};
 ghost use Rattle.cycles.specs.contracts.HeaderReads.{NO-COLUMN};
 ghost use Rattle.engine.specs.definitions.Calls.{ROW};
-ghost use Rattle.engine.specs.contracts.LineMemory.{Shown, Settled, Record-taken, Line-taken};
+ghost use Rattle.engine.specs.contracts.LineMemory.{Shown, Record-taken, Line-taken};
 use checking::layout::ENTITY_COUNT_ROW;
 use checking::layout::MOST_ENTITIES;
-use cycles::cycle::cycle;
 use cycles::header::read_header;
 use cycles::is_state;
 use cycles::judge::Judgement;
-use cycles::judge::judge;
-use cycles::layout::BEFORE_INPUT_CELLS;
 use cycles::layout::BEFORE_NOW_CELLS;
-use cycles::layout::BEFORE_READ_FLAGS;
-use cycles::layout::MOST_CELL_BYTES;
 use cycles::layout::MOST_COLUMNS;
 use cycles::layout::NUMBER_BYTES;
-use cycles::lines::Reading;
-use cycles::lines::read_record;
 use cycles::number;
 use cycles::put_row;
+use days::record::advance;
 
 // What a line comes to: a refusal by its code, or the length of its row.
 pub enum Taken {
@@ -42,63 +35,6 @@ pub fn show(classes: &[u8], d: &[u16], state: &[u8], row: &mut [u8]) -> usize
     }
     let cells = NUMBER_BYTES + BEFORE_NOW_CELLS * n;
     put_row(classes, d, number(state), &state[cells..], row)
-}
-
-// What a state says to a line that is read; `flags` and `cells` have its inputs. A new line moves the state on, a retransmission leaves it.
-fn settle(
-    classes: &[u8],
-    literals: &[u32],
-    d: &[u16],
-    refs: &[u16],
-    scopes: &[u8],
-    line: u64,
-    flags: &[u8],
-    cells: &[u8],
-    state: &mut [u8],
-    row: &mut [u8],
-) -> Taken
-    requires { ⌜ (MOST-ENTITIES ≤ length (now flags)) × (MOST-CELL-BYTES ≤ length (now cells)) ⌝ }
-    requires { ⌜ STATE ≤ length (now state) ⌝ }
-    requires { ⌜ ROW ≤ length (now row) ⌝ }
-    ensures { λ r. ⌜
-        Settled (now (classes .entry)) (now (literals .entry)) (now (d .entry)) (now (refs .entry)) (now (scopes .entry)) line (now (flags .entry))
-        (now (cells .entry)) (now (state .entry)) (now (row .entry)) (now (state .exit)) (now (row .exit)) r ⌝ }
-{
-    let n = checking::row(d, ENTITY_COUNT_ROW);
-    if MOST_ENTITIES < n {
-        return Taken::Refused(33);
-    }
-    let read = NUMBER_BYTES + BEFORE_READ_FLAGS * n;
-    let inputs = NUMBER_BYTES + BEFORE_INPUT_CELLS * n;
-    let judgement = judge(
-        n,
-        number(state),
-        line,
-        &state[NUMBER_BYTES..],
-        &state[read..],
-        &state[inputs..],
-        flags,
-        cells,
-    );
-    match judgement {
-        Judgement::Refused(code) => Taken::Refused(code),
-        Judgement::Resent => Taken::Row(show(classes, d, state, row)),
-        Judgement::New => {
-            let number = (line % 4294967296) as u32;
-            cycle(
-                classes,
-                literals,
-                d,
-                refs,
-                scopes,
-                number,
-                flags,
-                cells,
-                state,
-            );
-            Taken::Row(show(classes, d, state, row))
-        }
-    }
 }
 
 // A record under a header that is read: `columns` has the numbers of its columns. The memory is a state.
@@ -121,23 +57,21 @@ pub fn take_record(
         Record-taken (now (classes .entry)) (now (literals .entry)) (now (d .entry)) (now (refs .entry)) (now (scopes .entry)) (now (columns .entry)) count
         (now (values .entry)) (now (state .entry)) (now (row .entry)) (now (state .exit)) (now (row .exit)) r ⌝ }
 {
-    let mut flags = [0u8; MOST_ENTITIES];
-    let mut cells = [0u8; MOST_CELL_BYTES];
-    let reading = read_record(classes, d, values, columns, count, &mut flags, &mut cells);
-    match reading {
-        Reading::Refused(code) => Taken::Refused(code),
-        Reading::Got(line) => settle(
-            classes,
-            literals,
-            d,
-            refs,
-            scopes,
-            line,
-            &flags,
-            &cells,
-            state,
-            row,
-        ),
+    let judgement = advance(
+        classes,
+        literals,
+        d,
+        refs,
+        scopes,
+        columns,
+        count,
+        values,
+        state,
+    );
+    match judgement {
+        Judgement::Refused(code) => Taken::Refused(code),
+        Judgement::Resent => Taken::Row(show(classes, d, state, row)),
+        Judgement::New => Taken::Row(show(classes, d, state, row)),
     }
 }
 

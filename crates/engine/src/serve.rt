@@ -8,7 +8,7 @@ ghost use Rattle.checking.specs.definitions.Verdict.{MOST-BYTES};
 ghost use Rattle.checking.specs.contracts.CheckedBench.{has-room};
 ghost use Rattle.checking.specs.contracts.Resolution.{ALL-SCOPE-ROWS};
 ghost use Rattle.engine.specs.contracts.LineMemory.{taken-answer, Short-row};
-ghost use Rattle.engine.specs.contracts.Serving.{SHORT-TEXT, Served, served, Room, On-bench, refusal};
+ghost use Rattle.engine.specs.contracts.Serving.{SHORT-TEXT, Served, served, Room, On-bench, refusal, sheeted-answer};
 ghost use Rattle.engine.specs.definitions.Calls.{ROW};
 use crate::bench::put_bench;
 use crate::line::Taken;
@@ -25,9 +25,14 @@ use cycles::is_state;
 use cycles::layout::MOST_ROW_BYTES;
 use cycles::put_fresh;
 use cycles::put_row_header;
+use days::sheet::Sheeted;
+use days::sheet::put_sheet;
 
 // The answer of a call that is accepted and writes no row.
 const ACCEPTED: u64 = 0;
+
+// So many lengths can stand above a number.
+const LENGTHS: usize = 72057594037927936;
 
 // The most bytes of a short text.
 const SHORT_TEXT: usize = 4096;
@@ -39,6 +44,7 @@ pub enum Call {
     Line,
     Header,
     Row,
+    Sheet,
 }
 
 // The answer of a call that is accepted and writes a row of that length.
@@ -62,6 +68,16 @@ fn answer(taken: Taken) -> u64
     }
 }
 
+// A sheet's length has the 56 bits above the number.
+fn sheet_answer(sheeted: Sheeted) -> u64
+    ensures { λ r. ⌜ r ≡ sheeted-answer sheeted ⌝ }
+{
+    match sheeted {
+        Sheeted::Refused(code) => code as u64,
+        Sheeted::Length(length) => 256 * ((length % LENGTHS) as u64),
+    }
+}
+
 // The answer of a call whose text is refused: the check says why.
 fn refusal(call: Call, code: u8, at: u32) -> u64
     ensures { λ r. ⌜ r ≡ refusal call code at ⌝ }
@@ -72,6 +88,7 @@ fn refusal(call: Call, code: u8, at: u32) -> u64
         Call::Line => 32,
         Call::Header => 32,
         Call::Row => 32,
+        Call::Sheet => 32,
     }
 }
 
@@ -94,7 +111,7 @@ fn on_bench(
 ) -> u64
     requires { ⌜ length (now text) ≤ MOST-BYTES ⌝ }
     requires { ⌜ (length (now classes) ≤ length (now refs)) × (ALL-SCOPE-ROWS ≤ length (now scopes)) ⌝ }
-    requires { ⌜ Room call (now state) (now shown) (now out) ⌝ }
+    requires { ⌜ Room call (now state) (now shown) (now names) (now out) ⌝ }
     ensures { λ r. ⌜
         On-bench call (now (text .entry)) (now (classes .entry)) (now (offsets .entry)) (now (lengths .entry)) (now (literals .entry)) (now (d .entry))
         (now (state .entry)) (now (shown .entry)) (now (names .entry)) (now (values .entry)) (now (out .entry)) (now (state .exit)) (now (out .exit)) r ⌝ }
@@ -132,6 +149,23 @@ fn on_bench(
             }
             row_answer(show(classes, d, shown, out))
         }
+        Call::Sheet => {
+            resolve(text, classes, offsets, lengths, d, refs, scopes);
+            sheet_answer(put_sheet(
+                text,
+                classes,
+                offsets,
+                lengths,
+                literals,
+                d,
+                refs,
+                scopes,
+                shown,
+                names,
+                values,
+                out,
+            ))
+        }
     }
 }
 
@@ -154,7 +188,7 @@ fn on_text(
 ) -> u64
     requires { ⌜ has-room (now text) (columns-of (now classes) (now offsets) (now lengths) (now literals)) (now d) ≡ true ⌝ }
     requires { ⌜ (length (now classes) ≤ length (now refs)) × (ALL-SCOPE-ROWS ≤ length (now scopes)) ⌝ }
-    requires { ⌜ Room call (now state) (now shown) (now out) ⌝ }
+    requires { ⌜ Room call (now state) (now shown) (now names) (now out) ⌝ }
     ensures { λ r. ⌜
         record { answer = r; state = now (state .exit); out = now (out .exit) }
         ≡ served call (now (text .entry)) (now (state .entry)) (now (shown .entry)) (now (names .entry)) (now (values .entry)) (now (out .entry)) ⌝ }
@@ -193,7 +227,7 @@ fn on_short_text(
     out: &mut [u8],
 ) -> u64
     requires { ⌜ length (now text) ≤ SHORT-TEXT ⌝ }
-    requires { ⌜ Room call (now state) (now shown) (now out) ⌝ }
+    requires { ⌜ Room call (now state) (now shown) (now names) (now out) ⌝ }
     ensures { λ r. ⌜
         record { answer = r; state = now (state .exit); out = now (out .exit) }
         ≡ served call (now (text .entry)) (now (state .entry)) (now (shown .entry)) (now (names .entry)) (now (values .entry)) (now (out .entry)) ⌝ }
@@ -232,7 +266,7 @@ fn on_long_text(
     values: &[u8],
     out: &mut [u8],
 ) -> u64
-    requires { ⌜ Room call (now state) (now shown) (now out) ⌝ }
+    requires { ⌜ Room call (now state) (now shown) (now names) (now out) ⌝ }
     ensures { λ r. ⌜
         record { answer = r; state = now (state .exit); out = now (out .exit) }
         ≡ served call (now (text .entry)) (now (state .entry)) (now (shown .entry)) (now (names .entry)) (now (values .entry)) (now (out .entry)) ⌝ }
@@ -272,7 +306,7 @@ pub fn serve(
     values: &[u8],
     out: &mut [u8],
 ) -> u64
-    requires { ⌜ Room call (now state) (now shown) (now out) ⌝ }
+    requires { ⌜ Room call (now state) (now shown) (now names) (now out) ⌝ }
     ensures { λ r. ⌜
         record { answer = r; state = now (state .exit); out = now (out .exit) }
         ≡ served call (now (text .entry)) (now (state .entry)) (now (shown .entry)) (now (names .entry)) (now (values .entry)) (now (out .entry)) ⌝ }

@@ -5,7 +5,7 @@ ghost use mathlib.Core.List.{[], _∷_, _++_};
 ghost use lib.ListN.{length};
 ghost use Rattle.cycles.specs.contracts.HeaderReads.{MOST-COLUMNS};
 ghost use Rattle.cycles.specs.definitions.StateImage.{STATE};
-ghost use Rattle.cycles.specs.contracts.StateMemory.{Put};
+ghost use Rattle.values.specs.contracts.Puts.{Put};
 ghost use Rattle.replay.specs.definitions.Replay.{refusal, bench-refusal};
 ghost use Rattle.replay.specs.contracts.Awaiting.{bench-memory, Stood};
 ghost use Rattle.replay.specs.contracts.Feeding.{ROOM, Line-put};

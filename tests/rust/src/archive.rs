@@ -1,4 +1,4 @@
-//! Safe wrappers over the five calls of the engine's archive.
+//! Safe wrappers over the six calls of the engine's archive.
 
 use std::collections::hash_map::DefaultHasher;
 use std::fs;
@@ -45,6 +45,18 @@ mod c {
             row: *mut u8,
             row_length: usize,
         ) -> u64;
+        pub fn bench_sheet(
+            bench: *const u8,
+            bench_length: usize,
+            state: *const u8,
+            state_length: usize,
+            readings: *const u8,
+            readings_length: usize,
+            cells: *const u8,
+            cells_length: usize,
+            sheet: *mut u8,
+            sheet_length: usize,
+        ) -> u64;
     }
 }
 
@@ -81,4 +93,21 @@ pub fn bench_header(bench: &[u8], row: &mut [u8]) -> u64 {
 
 pub fn bench_row(bench: &[u8], state: &[u8], row: &mut [u8]) -> u64 {
     unsafe { c::bench_row(bench.as_ptr(), bench.len(), state.as_ptr(), state.len(), row.as_mut_ptr(), row.len()) }
+}
+
+pub fn bench_sheet(bench: &[u8], state: &[u8], readings: &[u8], cells: &[u8], sheet: &mut [u8]) -> u64 {
+    unsafe {
+        c::bench_sheet(
+            bench.as_ptr(),
+            bench.len(),
+            state.as_ptr(),
+            state.len(),
+            readings.as_ptr(),
+            readings.len(),
+            cells.as_ptr(),
+            cells.len(),
+            sheet.as_mut_ptr(),
+            sheet.len(),
+        )
+    }
 }

@@ -1,10 +1,10 @@
-//! The five calls as the interpreter answers them. Each is a function of the lent bytes alone.
+//! The six calls as the interpreter answers them. Each is a function of the lent bytes alone.
 
-use crate::image::{self, BENCH_SIZE, ROW_SIZE, STATE_SIZE};
+use crate::image::{self, sheet_size, BENCH_SIZE, ROW_SIZE, STATE_SIZE};
 use crate::interpreter::grammar::Bench;
 use crate::interpreter::line::{self, Taken};
 use crate::interpreter::machine::{self, State};
-use crate::interpreter::{accept, row as rows};
+use crate::interpreter::{accept, row as rows, sheet as sheets};
 
 /// The number in the low 8 bits, the offset or length above.
 pub fn answer(number: u8, rest: usize) -> u64 {
@@ -71,6 +71,16 @@ pub fn bench_row(bench: &[u8], state: &[u8], row: &mut [u8]) -> u64 {
     }
 }
 
+pub fn bench_sheet(bench: &[u8], state: &[u8], readings: &[u8], cells: &[u8], sheet: &mut [u8]) -> u64 {
+    if bench.len() < BENCH_SIZE || state.len() < STATE_SIZE || sheet.len() < sheet_size(readings) {
+        return answer(31, 0);
+    }
+    match checked_state(bench, state).and_then(|(bench, state)| sheets::sheet(&bench, &state, readings, cells)) {
+        Err(number) => answer(number, 0),
+        Ok(printed) => write(&printed, sheet),
+    }
+}
+
 fn checked(memory: &[u8]) -> Option<Bench<'_>> {
     accept(image::decode_bench(memory)?).ok()
 }
@@ -81,7 +91,8 @@ fn checked_state<'b>(bench: &'b [u8], state: &[u8]) -> Result<(Bench<'b>, State)
     Ok((bench, state))
 }
 
-fn write(row: &[u8], memory: &mut [u8]) -> u64 {
-    memory[..row.len()].copy_from_slice(row);
-    answer(0, row.len())
+/// Writes a row or a sheet.
+fn write(text: &[u8], memory: &mut [u8]) -> u64 {
+    memory[..text.len()].copy_from_slice(text);
+    answer(0, text.len())
 }

@@ -13,8 +13,9 @@ pub struct Mismatch {
     pub what: String,
     pub ours: Option<u64>,
     pub theirs: Option<u64>,
-    pub our_row: Vec<u8>,
-    pub their_row: Vec<u8>,
+    /// The row or sheet of an accepted call.
+    pub our_text: Vec<u8>,
+    pub their_text: Vec<u8>,
 }
 
 /// The engine's side.
@@ -24,6 +25,7 @@ const THEIRS: Side = Side {
     line: archive::bench_line,
     header: archive::bench_header,
     row: archive::bench_row,
+    sheet: archive::bench_sheet,
 };
 
 /// Both sides under way on one bench text.
@@ -53,6 +55,8 @@ impl Sides {
 
     /// Does one step on both sides; gives the answer that both gave.
     pub fn step(&mut self, step: &Step) -> Result<Option<u64>, Box<Mismatch>> {
+        self.ours.lend_sheet(step);
+        self.theirs.lend_sheet(step);
         let before = self.theirs.clone();
         // Copies, to see that the engine leaves even what it only reads.
         let (text, lent_step) = (self.text.clone(), step.clone());
@@ -61,17 +65,17 @@ impl Sides {
         let theirs = THEIRS.answer(&text, &lent_step, &mut self.theirs);
         assert_eq!(interpreter::texts_read(), texts_read, "the engine's calls end in the interpreter: it is compared with itself");
         let fault = if text != self.text || lent_step != *step {
-            Some("text, names or values were written to")
+            Some("text, names, values, readings or cells were written to")
         } else if ours != theirs {
             Some("the answers differ")
         } else {
             self.fault(&before, step, theirs)
         };
         if let Some(what) = fault {
-            return Err(Box::new(self.mismatch(what, ours, theirs)));
+            return Err(Box::new(self.mismatch(step, what, ours, theirs)));
         }
         self.steps += 1;
-        self.tally.count(step, theirs, &self.theirs.row);
+        self.tally.count(step, theirs, &self.theirs);
         Ok(theirs)
     }
 
@@ -81,7 +85,7 @@ impl Sides {
         if refused && self.theirs != *before {
             return Some("a refused call changed memory");
         }
-        if answer.is_some() && !self.ends_kept(before, step.lent) {
+        if answer.is_some() && !self.ends_kept(before, step) {
             return Some("bytes past a stated size or past the lent memory changed");
         }
         if self.ours.bench != self.theirs.bench {
@@ -90,28 +94,34 @@ impl Sides {
         if self.ours.state != self.theirs.state {
             return Some("the memories of the state differ");
         }
-        (self.ours.row != self.theirs.row).then_some("the memories of the row differ")
+        if self.ours.row != self.theirs.row {
+            return Some("the memories of the row differ");
+        }
+        (self.ours.sheet != self.theirs.sheet).then_some("the memories of the sheet differ")
     }
 
-    fn ends_kept(&self, before: &Memory, lent: Lent) -> bool {
+    fn ends_kept(&self, before: &Memory, step: &Step) -> bool {
+        let lent = step.lent;
         let kept = |now: &[u8], before: &[u8], size: usize| now[size..] == before[size..];
         kept(&self.theirs.bench, &before.bench, lent.bench.min(BENCH_SIZE))
             && kept(&self.theirs.state, &before.state, lent.state.min(STATE_SIZE))
             && kept(&self.theirs.row, &before.row, lent.row.min(ROW_SIZE))
+            && kept(&self.theirs.sheet, &before.sheet, step.lent_sheet())
     }
 
-    fn mismatch(&self, what: &str, ours: Option<u64>, theirs: Option<u64>) -> Mismatch {
-        let row = |memory: &Memory, answer: Option<u64>| {
+    fn mismatch(&self, step: &Step, what: &str, ours: Option<u64>, theirs: Option<u64>) -> Mismatch {
+        let written = |memory: &Memory, answer: Option<u64>| {
             let length = answer.filter(|answer| answer & 255 == 0).map_or(0, |answer| answer >> 8) as usize;
-            memory.row[..length.min(memory.row.len())].to_vec()
+            let memory = if matches!(step.call, Call::Sheet { .. }) { &memory.sheet } else { &memory.row };
+            memory[..length.min(memory.len())].to_vec()
         };
         Mismatch {
             step: self.steps,
             what: what.to_string(),
             ours,
             theirs,
-            our_row: row(&self.ours, ours),
-            their_row: row(&self.theirs, theirs),
+            our_text: written(&self.ours, ours),
+            their_text: written(&self.theirs, theirs),
         }
     }
 }
@@ -141,6 +151,9 @@ pub fn show_step(step: &Step) -> String {
         Call::Header => "bench_header".to_string(),
         Call::Row => "bench_row".to_string(),
         Call::Line { names, values } => format!("bench_line [{}] [{}]", show_bytes(names), show_bytes(values)),
+        Call::Sheet { readings, cells, .. } => {
+            format!("bench_sheet [{}] [{}] for a sheet of {} bytes", show_bytes(readings), show_bytes(cells), step.lent_sheet())
+        }
         Call::SetBench { at, bytes } => format!("write to the bench's memory at {at}: [{}]", show_bytes(bytes)),
         Call::SetState { at, bytes } => format!("write to the state's memory at {at}: {bytes:02x?}"),
     };
@@ -157,7 +170,17 @@ pub fn show(case: &Case, mismatch: &Mismatch) -> String {
         shown.push_str(&format!("step {number}: {}\n", show_step(step)));
     }
     shown.push_str(&format!("at step {}: {}\n", mismatch.step, mismatch.what));
-    shown.push_str(&format!("interpreter: {} [{}]\n", show_answer(mismatch.ours), show_bytes(&mismatch.our_row)));
-    shown.push_str(&format!("engine:      {} [{}]\n", show_answer(mismatch.theirs), show_bytes(&mismatch.their_row)));
+    shown.push_str(&format!("interpreter: {} {}\n", show_answer(mismatch.ours), show_lines(&mismatch.our_text)));
+    shown.push_str(&format!("engine:      {} {}\n", show_answer(mismatch.theirs), show_lines(&mismatch.their_text)));
     shown
+}
+
+/// A row on one line; the rows of a sheet on lines of their own.
+fn show_lines(text: &[u8]) -> String {
+    let rows: Vec<String> = text.split_inclusive(|&byte| byte == b'\n').map(|row| format!("[{}]", show_bytes(row))).collect();
+    match &rows[..] {
+        [] => "[]".into(),
+        [row] => row.clone(),
+        _ => format!("\n{}", rows.join("\n")),
+    }
 }

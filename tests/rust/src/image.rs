@@ -8,6 +8,9 @@ use crate::interpreter::value::{Cell, Kind, Value};
 pub const BENCH_SIZE: usize = 32_772;
 pub const STATE_SIZE: usize = 10_468;
 pub const ROW_SIZE: usize = 32_768;
+/// The stated size of a sheet: 30 closing rows, and two rows more for each line feed of the readings.
+pub const SHEET_LEAST: usize = 2_430;
+pub const SHEET_MORE: usize = 162;
 
 const MEMBERS: usize = 12;
 const CELL: usize = 9;
@@ -21,6 +24,11 @@ const NOT_READ: u8 = 4;
 /// Bytes that the state image of a bench takes.
 pub fn state_bytes(entities: usize) -> usize {
     4 + 3 * entities + 3 * entities * MEMBERS * CELL
+}
+
+/// The stated size of the sheet of these readings.
+pub fn sheet_size(readings: &[u8]) -> usize {
+    SHEET_LEAST + SHEET_MORE * readings.iter().filter(|&&byte| byte == b'\n').count()
 }
 
 pub fn encode_bench(text: &[u8], memory: &mut [u8]) {

@@ -1,4 +1,4 @@
-//! A second interpreter of the Pantagruel bench engine, written from document 01 and orders 1 and 2 of document 02 alone, and the means
+//! A second interpreter of the Pantagruel bench engine, written from document 01 and orders 1 to 3 of document 02 alone, and the means
 //! to compare it with the engine.
 //!
 //! What needs the engine's archive exists only with it: the interpreter is never compared with itself.
@@ -15,6 +15,7 @@ pub mod memory;
 pub mod options;
 pub mod replay;
 pub mod runner;
+pub mod sheets;
 pub mod show;
 #[cfg(feature = "archive")]
 pub mod shrink;

@@ -108,6 +108,7 @@ impl Report {
         println!("{} cases, {} calls, {} accepted lines with fired actions", self.passed + self.failed, self.tally.calls, self.tally.fired);
         let counts: Vec<String> = NUMBERS.iter().map(|number| format!("{number}: {}", self.count(*number))).collect();
         println!("answers: {}", counts.join(", "));
+        self.tally.sheets.print();
         println!(
             "two runs: {} trials ({} void), {} pairs of accepted lines; {} with a nonempty proper closed set, {} of these with a fired action of the set, {} of these with other readings elsewhere, {} of these with an action fired in a line in which an entity of the set comes",
             self.trials, self.void, self.pairs, self.proper, self.proper_and_fired, self.proper_fired_differing, self.proper_joining_differing
@@ -124,6 +125,10 @@ impl Report {
         let mut complete = true;
         for number in NUMBERS.iter().filter(|number| self.count(**number) < least) {
             println!("answer {number} came up less than {least} times");
+            complete = false;
+        }
+        for lack in self.tally.sheets.lacking(least) {
+            println!("{lack}");
             complete = false;
         }
         if self.proper_fired_differing < (cases / 200).max(1) {

@@ -1,9 +1,10 @@
-//! Lent memory and the five calls on it, the same for both sides of a comparison.
+//! Lent memory and the six calls on it, the same for both sides of a comparison.
 
 use crate::calls;
 use crate::generate::case::{Call, Case, Lent, Step, LONGER_MOST};
 use crate::generate::prng::Prng;
 use crate::image::{BENCH_SIZE, ROW_SIZE, STATE_SIZE};
+use crate::sheets::coverage::Coverage;
 use std::collections::BTreeMap;
 
 /// Bytes past everything that is ever lent: nobody may touch them.
@@ -14,26 +15,41 @@ pub struct Memory {
     pub bench: Vec<u8>,
     pub state: Vec<u8>,
     pub row: Vec<u8>,
+    /// Lent anew for each sheet.
+    pub sheet: Vec<u8>,
+    fill: u64,
 }
 
 impl Memory {
     pub fn new(fill: u64) -> Memory {
         let mut prng = Prng::new(fill);
         let mut filled = |size: usize| prng.bytes(size + LONGER_MOST + CANARY);
-        Memory { bench: filled(BENCH_SIZE), state: filled(STATE_SIZE), row: filled(ROW_SIZE) }
+        Memory { bench: filled(BENCH_SIZE), state: filled(STATE_SIZE), row: filled(ROW_SIZE), sheet: Vec::new(), fill }
+    }
+
+    /// The sheet's memory for this step, filled anew: its size follows from the readings.
+    pub fn lend_sheet(&mut self, step: &Step) {
+        self.sheet = match step.call {
+            Call::Sheet { .. } => Prng::new(!self.fill).bytes(step.lent_sheet() + CANARY),
+            _ => Vec::new(),
+        };
     }
 }
 
 /// Bench, state, names, values, row.
 type LineCall = fn(&[u8], &mut [u8], &[u8], &[u8], &mut [u8]) -> u64;
 
-/// The five calls of one side.
+/// Bench, state, readings, cells, sheet.
+type SheetCall = fn(&[u8], &[u8], &[u8], &[u8], &mut [u8]) -> u64;
+
+/// The six calls of one side.
 pub struct Side {
     pub check: fn(&[u8], &mut [u8]) -> u64,
     pub fresh: fn(&[u8], &mut [u8]) -> u64,
     pub line: LineCall,
     pub header: fn(&[u8], &mut [u8]) -> u64,
     pub row: fn(&[u8], &[u8], &mut [u8]) -> u64,
+    pub sheet: SheetCall,
 }
 
 /// The interpreter's side.
@@ -43,10 +59,11 @@ pub const OURS: Side = Side {
     line: calls::bench_line,
     header: calls::bench_header,
     row: calls::bench_row,
+    sheet: calls::bench_sheet,
 };
 
 impl Side {
-    /// One call; `None` for a step that only writes memory.
+    /// One call; `None` for a step that only writes memory. A sheet's memory is lent before.
     pub fn answer(&self, text: &[u8], step: &Step, memory: &mut Memory) -> Option<u64> {
         let Lent { bench, state, row } = step.lent;
         let (bench, state, row) = (&mut memory.bench[..bench], &mut memory.state[..state], &mut memory.row[..row]);
@@ -56,6 +73,9 @@ impl Side {
             Call::Header => Some((self.header)(bench, row)),
             Call::Row => Some((self.row)(bench, state, row)),
             Call::Line { names, values } => Some((self.line)(bench, state, names, values, row)),
+            Call::Sheet { readings, cells, .. } => {
+                Some((self.sheet)(bench, state, readings, cells, &mut memory.sheet[..step.lent_sheet()]))
+            }
             Call::SetBench { at, bytes } => overwrite(&mut memory.bench, *at, bytes),
             Call::SetState { at, bytes } => overwrite(&mut memory.state, *at, bytes),
         }
@@ -70,10 +90,12 @@ fn overwrite(memory: &mut [u8], at: usize, bytes: &[u8]) -> Option<u64> {
 /// How often each number was answered.
 #[derive(Clone, Debug, Default)]
 pub struct Tally {
+    /// Of all calls but those for a sheet.
     pub answers: BTreeMap<u8, u64>,
     pub calls: u64,
     /// Accepted lines that gave some fired action.
     pub fired: u64,
+    pub sheets: Coverage,
 }
 
 impl Tally {
@@ -83,11 +105,16 @@ impl Tally {
         }
         self.calls += other.calls;
         self.fired += other.fired;
+        self.sheets.add(&other.sheets);
     }
 
-    /// Counts one step and its answer; `row` is the memory of the row after it.
-    pub fn count(&mut self, step: &Step, answer: Option<u64>, row: &[u8]) {
+    /// Counts one step and its answer, with the memory after it.
+    pub fn count(&mut self, step: &Step, answer: Option<u64>, memory: &Memory) {
         let Some(answer) = answer else { return };
+        if matches!(step.call, Call::Sheet { .. }) {
+            return self.sheets.take(step, answer, memory);
+        }
+        let row = &memory.row;
         self.calls += 1;
         *self.answers.entry((answer & 255) as u8).or_default() += 1;
         if matches!(step.call, Call::Line { .. }) && answer & 255 == 0 && fires(&row[..(answer >> 8) as usize]) {
@@ -106,8 +133,9 @@ pub fn answers(case: &Case) -> Tally {
     let mut memory = Memory::new(case.fill);
     let mut tally = Tally::default();
     for step in &case.steps {
+        memory.lend_sheet(step);
         let answer = OURS.answer(&case.text, step, &mut memory);
-        tally.count(step, answer, &memory.row);
+        tally.count(step, answer, &memory);
     }
     tally
 }

@@ -13,7 +13,7 @@ pub fn run(bench: &[u8], readings: &[u8], out: &mut impl Write) -> io::Result<()
         Ok(bench) => bench,
         Err(refusal) => return writeln!(out, "refused {} {}", refusal.number, refusal.place),
     };
-    let mut lines = lines(readings);
+    let mut lines = line::lines(readings);
     let Some(columns) = line::columns(&bench, lines.next().unwrap_or(b"")) else {
         return writeln!(out, "refused 22");
     };
@@ -41,9 +41,4 @@ fn run_line(bench: &Bench, state: State, columns: &[Column], values: &[u8], out:
 fn print(out: &mut impl Write, row: &[u8]) -> io::Result<()> {
     out.write_all(row)?;
     out.write_all(b"\n")
-}
-
-/// The lines of a file: a last line feed closes the last line and opens none.
-fn lines(file: &[u8]) -> impl Iterator<Item = &[u8]> {
-    file.strip_suffix(b"\n").unwrap_or(file).split(|&byte| byte == b'\n')
 }

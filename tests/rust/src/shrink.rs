@@ -1,7 +1,8 @@
-//! Makes a mismatching case smaller while it still mismatches: fewer steps, rules, entities, words, columns.
+//! Makes a mismatching case smaller while it still mismatches: fewer steps, rules, entities, words, columns, lines and cells of sheets.
 
 use crate::compare::{self, Mismatch};
 use crate::generate::case::{Call, Case, Step, EXACT};
+use crate::interpreter::line;
 use crate::thin::{smaller_text, thin};
 use std::time::{Duration, Instant};
 
@@ -22,6 +23,7 @@ pub fn shrink(case: &Case) -> Option<(Case, Box<Mismatch>)> {
         let fill = best.fill;
         best.text = smaller_text(&best.text, &mut |text| still(&Case { text: text.to_vec(), fill, steps: steps.clone() }));
         fewer_columns(&mut best, &mut still);
+        smaller_sheets(&mut best, &mut still);
         found = compare::run(&best).err()?;
         if best == before || Instant::now() >= deadline {
             return Some((best, found));
@@ -44,7 +46,25 @@ fn fewer_steps(case: &mut Case, still: &mut dyn FnMut(&Case) -> bool) {
 }
 
 fn count_one_less(step: &mut Step) {
-    let Call::Line { values, .. } = &mut step.call else { return };
+    match &mut step.call {
+        Call::Line { values, .. } => one_less(values),
+        Call::Sheet { readings, .. } => each_line(readings, 1, one_less),
+        _ => {}
+    }
+}
+
+/// Changes the lines of a text from this one on.
+fn each_line(text: &mut Vec<u8>, first: usize, change: impl Fn(&mut Vec<u8>)) {
+    let mut lines = split(text, b'\n');
+    lines.iter_mut().skip(first).for_each(change);
+    *text = lines.join(&b'\n');
+}
+
+fn split(text: &[u8], separator: u8) -> Vec<Vec<u8>> {
+    text.split(|&byte| byte == separator).map(<[u8]>::to_vec).collect()
+}
+
+fn one_less(values: &mut Vec<u8>) {
     let end = values.iter().position(|&byte| byte == b' ').unwrap_or(values.len());
     let number = std::str::from_utf8(&values[..end]).ok().and_then(|number| number.parse::<u64>().ok());
     if let Some(number) = number.filter(|&number| number > 0) {
@@ -56,6 +76,9 @@ fn plain_sizes(case: &mut Case, still: &mut dyn FnMut(&Case) -> bool) {
     for at in 0..case.steps.len() {
         let mut plain = case.clone();
         plain.steps[at].lent = EXACT;
+        if let Call::Sheet { over, .. } = &mut plain.steps[at].call {
+            *over = 0;
+        }
         if plain != *case && still(&plain) {
             *case = plain;
         }
@@ -81,20 +104,61 @@ fn fewer_columns(case: &mut Case, still: &mut dyn FnMut(&Case) -> bool) {
 }
 
 fn columns(call: &Call) -> usize {
-    match call {
-        // Lines of thousands of blanks are left as they are.
-        Call::Line { names, .. } if names.len() < 2000 => names.split(|&byte| byte == b' ').count(),
-        _ => 0,
+    let names = match call {
+        Call::Line { names, .. } => names,
+        Call::Sheet { readings, .. } => line::lines(readings).next().unwrap_or(b""),
+        _ => return 0,
+    };
+    // Lines of thousands of blanks are left as they are.
+    if names.len() < 2000 {
+        split(names, b' ').len()
+    } else {
+        0
     }
 }
 
 fn drop_column(call: &mut Call, column: usize) {
-    let Call::Line { names, values } = call else { return };
-    for line in [names, values] {
-        let mut fields: Vec<&[u8]> = line.split(|&byte| byte == b' ').collect();
-        if column < fields.len() {
-            fields.remove(column);
-            *line = fields.join(&b' ');
+    match call {
+        Call::Line { names, values } => [names, values].into_iter().for_each(|line| drop_field(line, column)),
+        Call::Sheet { readings, .. } => each_line(readings, 0, |line| drop_field(line, column)),
+        _ => {}
+    }
+}
+
+fn drop_field(line: &mut Vec<u8>, column: usize) {
+    let mut fields = split(line, b' ');
+    if column < fields.len() {
+        fields.remove(column);
+        *line = fields.join(&b' ');
+    }
+}
+
+/// Drops lines and cells of sheets.
+fn smaller_sheets(case: &mut Case, still: &mut dyn FnMut(&Case) -> bool) {
+    for at in 0..case.steps.len() {
+        let Call::Sheet { readings, cells, over } = case.steps[at].call.clone() else { continue };
+        let mut still_with = |readings: &[Vec<u8>], cells: &[Vec<u8>]| {
+            let mut smaller = case.clone();
+            smaller.steps[at].call = Call::Sheet { readings: readings.join(&b'\n'), cells: cells.join(&b' '), over };
+            still(&smaller)
+        };
+        let cells = split(&cells, b' ');
+        let lines = fewer_lines(split(&readings, b'\n'), &mut |lines| still_with(lines, &cells));
+        let cells = thin(cells, &mut |cells| still_with(&lines, cells));
+        case.steps[at].call = Call::Sheet { readings: lines.join(&b'\n'), cells: cells.join(&b' '), over };
+    }
+}
+
+/// Drops lines of values; those after one that goes count one less, if that keeps the mismatch.
+fn fewer_lines(lines: Vec<Vec<u8>>, still: &mut dyn FnMut(&[Vec<u8>]) -> bool) -> Vec<Vec<u8>> {
+    let mut lines = thin(lines, still);
+    for at in (1..lines.len()).rev() {
+        let mut fewer = lines.clone();
+        fewer.remove(at);
+        fewer[at..].iter_mut().for_each(one_less);
+        if still(&fewer) {
+            lines = fewer;
         }
     }
+    lines
 }

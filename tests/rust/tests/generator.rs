@@ -1,5 +1,6 @@
 //! The generator itself: its valid benches are accepted, its cases draw every answer of the table and tell machines that read clause
-//! filters in the wrong cycle or divide wholes by another rule from the right one, a seed makes a case again.
+//! filters in the wrong cycle or divide wholes by another rule from the right one, a seed makes a case again. Its sheets are tried in
+//! tests/wrong_sheets.rs.
 
 use second::generate::bench::{bench, render, LARGE, LOOSE, SMALL};
 use second::generate::case::{Call, Case};
@@ -105,7 +106,7 @@ fn cases_show_late_filters() {
     let (mut shown, mut at_joining, mut at_staying) = (0, 0, 0);
     // A written state may have other attributes one cycle before, which no run leaves.
     let written = |case: &Case| case.steps.iter().any(|step| matches!(step.call, Call::SetState { .. }));
-    for case in (0..10_000).map(|number| generate::case(3, number)).filter(|case| !written(case)) {
+    for case in (0..10_000).map(|number| generate::without_sheets(3, number)).filter(|case| !written(case)) {
         let found = LateFilters::of(&case);
         shown += usize::from(found.shown);
         at_joining += usize::from(found.at_joining);
@@ -259,7 +260,7 @@ impl Divisions {
 #[test]
 fn cases_show_how_wholes_are_divided() {
     let (mut told, mut told_in, mut sorts) = ([0; WRONG.len()], [0; PLACES.len()], [0; SORTS.len()]);
-    for case in (0..10_000).map(|number| generate::case(3, number)) {
+    for case in (0..10_000).map(|number| generate::without_sheets(3, number)) {
         let found = Divisions::of(&case);
         told.iter_mut().zip(found.told).for_each(|(count, told)| *count += usize::from(told));
         told_in.iter_mut().zip(found.told_in).for_each(|(count, told)| *count += usize::from(told));
@@ -310,6 +311,31 @@ fn states_vary_one_cycle_before() {
         }
     }
     assert!(all_unset >= 15 && some_set >= 15 && refused >= 15, "{all_unset} all unset, {some_set} some set, {refused} refused");
+}
+
+/// What the steps of a case answer, but for sheets and writes, and the memory at the end.
+fn ends(case: &Case) -> (Vec<u64>, Memory) {
+    let mut memory = Memory::new(case.fill);
+    let mut answers = Vec::new();
+    for step in &case.steps {
+        memory.lend_sheet(step);
+        let answer = OURS.answer(&case.text, step, &mut memory);
+        answers.extend(answer.filter(|_| !matches!(step.call, Call::Sheet { .. })));
+    }
+    memory.sheet.clear();
+    (answers, memory)
+}
+
+/// Catches sheets that are put into a case so that its other steps answer otherwise.
+#[test]
+fn sheets_leave_the_other_steps_alone() {
+    let mut with = 0;
+    for number in 0..500 {
+        let case = generate::case(3, number);
+        with += usize::from(case.steps.iter().any(|step| matches!(step.call, Call::Sheet { .. })));
+        assert!(ends(&case) == ends(&generate::without_sheets(3, number)), "case {number}");
+    }
+    assert!(with >= 250, "only {with} of 500 cases have a sheet");
 }
 
 /// Catches a generator that draws from something else than its seed, and one that ignores the seed or the number.

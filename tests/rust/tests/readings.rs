@@ -1,5 +1,5 @@
 //! The points that document 01 leaves open and that were decided, and what order 1 of document 02 changes. What order 2 changes is in
-//! tests/division.rs.
+//! tests/division.rs, what order 3 adds in tests/sheet.rs.
 
 mod common;
 use common::{accepted, keeping, printed, prints, sum};

@@ -1,5 +1,5 @@
 /* How much stack the engine's calls take: each runs on a thread whose stack was filled with a pattern before, and the bytes that were
- * touched are counted. Usage: stack BENCH.TXT HEADER RECORD, for each bench file to try. */
+ * touched are counted. Usage: stack BENCH.TXT HEADER RECORD CELLS, for each bench file to try. */
 #include "bench_engine.h"
 
 #include <pthread.h>
@@ -10,10 +10,11 @@
 #define ROOM (2u << 20)
 #define PATTERN 0xA5
 
-static uint8_t bench[BENCH_SIZE], state[BENCH_STATE_SIZE], row[BENCH_ROW_SIZE];
+static uint8_t bench[BENCH_SIZE], state[BENCH_STATE_SIZE], row[BENCH_ROW_SIZE], sheet[BENCH_SHEET_SIZE(1)];
 static uint8_t text[65536];
 static size_t text_length;
-static const char *header, *record;
+static const char *header, *record, *cells;
+static char readings[4096];
 static uint64_t answer;
 
 static void *nothing(void *unused) { return unused; }
@@ -26,6 +27,13 @@ static void *line(void *unused)
 }
 static void *names(void *unused) { answer = bench_header(bench, sizeof bench, row, sizeof row); return unused; }
 static void *shown(void *unused) { answer = bench_row(bench, sizeof bench, state, sizeof state, row, sizeof row); return unused; }
+
+static void *day(void *unused)
+{
+    answer = bench_sheet(bench, sizeof bench, state, sizeof state, (const uint8_t *)readings, strlen(readings), (const uint8_t *)cells,
+                         strlen(cells), sheet, sizeof sheet);
+    return unused;
+}
 
 /* The bytes of stack that a call touches, with what a thread takes by itself. */
 static size_t touched(void *(*call)(void *))
@@ -58,17 +66,21 @@ int main(int count, char **words)
 {
     FILE *file;
     size_t base = touched(nothing);
-    if (count != 4 || !(file = fopen(words[1], "rb")))
+    if (count != 5 || !(file = fopen(words[1], "rb")))
         return 2;
     text_length = fread(text, 1, sizeof text, file);
     fclose(file);
     header = words[2];
     record = words[3];
+    cells = words[4];
+    snprintf(readings, sizeof readings, "%s\n%s", header, record);
     printf("%s, %zu bytes of text\n", words[1], text_length);
     say("bench_check", check, base);
     say("state_fresh", fresh, base);
     say("bench_line", line, base);
     say("bench_header", names, base);
     say("bench_row", shown, base);
+    state_fresh(bench, sizeof bench, state, sizeof state); /* from which the sheet's line is a new one */
+    say("bench_sheet", day, base);
     return 0;
 }

@@ -103,11 +103,11 @@ there-column f owner member x = rw (x .named, entity-spot f (x .entity .number) 
 
 module _ (text classes offsets lengths d owner : List ℕ) {e : ℕ}
     (n : Number-of text offsets lengths d 32 (λ f. length (f .entities) ≤ 32) (λ f. entity-number f owner) e) where
-  named-none : (w : Bench text classes offsets lengths d) → Few (w .file) → e ≡ 32 → entity-named (w .file) owner ≡ none
+  pub named-none : (w : Bench text classes offsets lengths d) → Few (w .file) → e ≡ 32 → entity-named (w .file) owner ≡ none
   unfolding entity-named entity-number
   named-none w few z = none-found (λ (x : Entity). x .name) owner (w .file .entities) 32 (few .entities) (sym (n .is classes w (few .entities)) ∙ z)
 
-  named-some : (w : Bench text classes offsets lengths d) → Few (w .file) → (e ≡ 32 → ⊥)
+  pub named-some : (w : Bench text classes offsets lengths d) → Few (w .file) → (e ≡ 32 → ⊥)
       → (r : Indexed Entity) × (entity-named (w .file) owner ≡ some r) × (e ≡ r .number)
   unfolding entity-named entity-number
   named-some w few z = some-found (λ (x : Entity). x .name) owner (w .file .entities) 32 (few .entities) e (n .is classes w (few .entities)) z
@@ -132,7 +132,8 @@ module _ (text classes offsets lengths d owner : List ℕ) {e : ℕ}
 
     module _ (z : e ≡ 32 → ⊥) {face : ℕ} (p : face ≡ getD d (323 + e) 0) {m : ℕ}
         (k : Number-of text offsets lengths d 12 (few-members face) (λ f. member-number (getElem? (f .interfaces) face) member) m) where
-      owner-interface : (w : Bench text classes offsets lengths d) → Few (w .file) → (r : Indexed Entity) → entity-named (w .file) owner ≡ some r → e ≡ r .number
+      pub owner-interface : (w : Bench text classes offsets lengths d) → Few (w .file) → (r : Indexed Entity) → entity-named (w .file) owner ≡ some r
+          → e ≡ r .number
           → getElem? (w .file .interfaces) face ≡ interface-of (w .file) (r .number)
       owner-interface w few r q g =
           ap (getElem? (w .file .interfaces)) (p ∙ ap (λ (i : ℕ). getD d (323 + i) 0) g)
@@ -226,22 +227,24 @@ module _ (l : List ℕ) {last : ℕ} (s : Field-start 46 l (length l) last) wher
     pub two-parts : first ≡ 0 → split 46 l ≡ take (last - 1 - 0) l ∷ take (length l - last) (drop last l) ∷ []
     two-parts y = subst (λ (k : ℕ). split 46 (drop k l) ≡ take (last - 1 - k) (drop k l) ∷ take (length l - last) (drop last l) ∷ []) y two-last
 
-    pub three-parts : (f : File) → (first ≡ 0 → ⊥) → column f (split 46 l) ≡ none
-    unfolding column
-    three-parts f y =
+    -- what is the same for all names of more than two parts
+    pub more-parts : {A : Type 0} (named : List (List ℕ) → A) (other : A)
+        → ((a b c : List ℕ) (ps : List (List ℕ)) → named (a ∷ b ∷ c ∷ ps) ≡ other)
+        → (first ≡ 0 → ⊥) → named (split 46 l) ≡ other
+    more-parts named other same y =
         let h = split-last 46 l (first - 1) (t .marked (omega arith) ∙ ap (_∷_ []) two-last) in
-        ap (column f) (h .all) ∙ go (h .before) (h .first)
+        ap named (h .all) ∙ go (h .before) (h .first)
       where
         go : (ps : List (List ℕ)) (x : List ℕ)
-            → column f (ps ++ x ∷ take (last - 1 - first) (drop first l) ∷ take (length l - last) (drop last l) ∷ []) ≡ none
-        go [] x = refl
-        go (p ∷ []) x = refl
-        go (p ∷ q ∷ ps) x = by-more ps x
-          where
-            by-more : (ps : List (List ℕ)) (x : List ℕ)
-                → column f (p ∷ q ∷ ps ++ x ∷ take (last - 1 - first) (drop first l) ∷ take (length l - last) (drop last l) ∷ []) ≡ none
-            by-more [] x = refl
-            by-more (r ∷ ps) x = refl
+            → named (ps ++ x ∷ take (last - 1 - first) (drop first l) ∷ take (length l - last) (drop last l) ∷ []) ≡ other
+        go [] x = same x (take (last - 1 - first) (drop first l)) (take (length l - last) (drop last l)) []
+        go (p ∷ []) x = same p x (take (last - 1 - first) (drop first l)) (take (length l - last) (drop last l) ∷ [])
+        go (p ∷ q ∷ []) x = same p q x (take (last - 1 - first) (drop first l) ∷ take (length l - last) (drop last l) ∷ [])
+        go (p ∷ q ∷ r ∷ ps) x = same p q r (ps ++ x ∷ take (last - 1 - first) (drop first l) ∷ take (length l - last) (drop last l) ∷ [])
+
+    pub three-parts : (f : File) → (first ≡ 0 → ⊥) → column f (split 46 l) ≡ none
+    unfolding column
+    three-parts f y = more-parts (column f) none (λ a b c ps. refl) y
 
 module _ (text classes offsets lengths d l : List ℕ) where
   pub no-column-read : ((f : File) → column f (split 46 l) ≡ none) → Column-read text classes offsets lengths d (λ f. column f (split 46 l)) 416

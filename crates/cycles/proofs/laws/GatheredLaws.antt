@@ -9,7 +9,8 @@ use lib.Seq.{length-take-le, take-at}
 use Rattle.text.specs.definitions.Syntax.{File}
 use Rattle.cycles.specs.definitions.Store.{State}
 use Rattle.cycles.specs.definitions.StateImage.{table, entity-count, image-size, encode, with-state}
-use Rattle.cycles.specs.contracts.StateMemory.{Put, gathered}
+use Rattle.values.specs.contracts.Puts.{Put}
+use Rattle.cycles.specs.contracts.StateMemory.{gathered}
 use Rattle.cycles.proofs.laws.TableLaws.{length-table}
 use Rattle.cycles.proofs.laws.ImageParts.{flag-piece, presence-piece, cell-piece, input-piece}
 use Rattle.cycles.proofs.laws.PutLaws.{put-in-front}

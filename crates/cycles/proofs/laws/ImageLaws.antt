@@ -1,5 +1,5 @@
 -- The state image: a sound state that is written is read back, no byte is added, and what memory stands for is a sound state.
-use mathlib.Core.Path.{_≡_, refl, ap, ap₂, _∙_, subst}
+use mathlib.Core.Path.{_≡_, refl, sym, ap, ap₂, _∙_, subst}
 use mathlib.Core.Bool.{Bool, true, false, _&&_}
 use mathlib.Core.List.{List, _++_}
 use mathlib.Core.Option.{Option, none, some}
@@ -17,6 +17,7 @@ use Rattle.values.specs.definitions.Bytes.{word-at}
 use Rattle.values.specs.definitions.Cells.{tag, payload, cell-at}
 use Rattle.values.proofs.laws.StorableLaws.{unset-storable}
 use Rattle.text.specs.definitions.Syntax.{Member, File}
+use Rattle.text.proofs.laws.ListLaws.{some-injective, none-some}
 use Rattle.checking.specs.definitions.Scope.{member-of, is-attribute}
 use Rattle.checking.proofs.laws.WithinCounts.{Within-counts}
 use Rattle.cycles.specs.definitions.Store.{State}
@@ -237,3 +238,29 @@ state-decoded-sound f w m s h = go (is-state f m) refl
         let g : none ≡ some s = rw (e, state-of) at h in
         let z : _≡_ {A = ℕ} 0 1 = cc in
         absurd (omega arith)
+
+-- ---- what memory stands for
+
+pub state-decoded : (f : File) (m : List ℕ) → is-state f m ≡ true → state-of f m ≡ some (decode (entity-count f) m)
+unfolding state-of
+state-decoded f m h = rw (h, state-of)
+
+pub is-decoded : (f : File) (m : List ℕ) {s : State} → state-of f m ≡ some s → s ≡ decode (entity-count f) m
+unfolding state-of
+is-decoded f m {s} h = go (is-state f m) refl
+  where
+    go : (t : Bool) → is-state f m ≡ t → s ≡ decode (entity-count f) m
+    go true e = let g : some (decode (entity-count f) m) ≡ some s = rw (e, state-of) at h in sym (some-injective g)
+    go false e = let g : none ≡ some s = rw (e, state-of) at h in absurd (none-some g)
+
+pub is-there : (f : File) (m : List ℕ) {s : State} → state-of f m ≡ some s → is-state f m ≡ true
+unfolding state-of
+is-there f m {s} h = go (is-state f m) refl
+  where
+    go : (t : Bool) → is-state f m ≡ t → is-state f m ≡ true
+    go true e = e
+    go false e = let g : none ≡ some s = rw (e, state-of) at h in absurd (none-some g)
+
+pub no-state : (f : File) (m : List ℕ) → is-state f m ≡ false → state-of f m ≡ none
+unfolding state-of
+no-state f m h = rw (h, state-of)

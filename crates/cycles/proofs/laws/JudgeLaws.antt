@@ -54,7 +54,7 @@ module _ (test : ℕ → Bool) (end i : ℕ) {b : Bool} (e : b ≡ test i) (h : 
   pub call-passes : not b ≡ false → each test (i + 1) (end - (i + 1)) ≡ each test i (end - i)
   call-passes t = each-goes-on test end i h (sym e ∙ not-false b t)
 
-each-same : (p q : ℕ → Bool) (i k : ℕ) → ((j : ℕ) → i ≤ j → j < i + k → p j ≡ q j) → each p i k ≡ each q i k
+pub each-same : (p q : ℕ → Bool) (i k : ℕ) → ((j : ℕ) → i ≤ j → j < i + k → p j ≡ q j) → each p i k ≡ each q i k
 unfolding each
 each-same p q i zero h = refl
 each-same p q i (suc k) h = ap₂ _&&_ (h i (omega arith) (omega arith)) (each-same p q (i + 1) k (λ j a b. h j (omega arith) (omega arith)))

@@ -2,23 +2,20 @@
 use Prim.Native.Nat.{ℕ, suc, _+_, _-_, _*_, _/_, _%_, _≤_, _<_}
 use native.Mathlib.Omega.{arith}
 use mathlib.Core.Path.{_≡_, refl, sym, ap, ap₂, _∙_}
-use mathlib.Core.Bool.{Bool, true, false, cond, true≢false}
+use mathlib.Core.Bool.{Bool, true, false, true≢false}
 use mathlib.Core.List.{List, [], _∷_, _++_}
 use mathlib.Core.Option.{Option, none, some}
 use lib.Dec.{ltb}
-use lib.IntN.{ℤ, pos, negsuc}
-use lib.Ieee.{isNan, toBits, binary64}
 use lib.ListN.{length, getD, getElem?, set, drop, length-set, length-take, List·getD-eq-default}
 use borrow.Author.Tests.{ltb-true, ltb-false}
 use lib.Seq.{append-snoc}
 use Rattle.values.specs.declared.Value.{Value}
-use Rattle.values.specs.declared.Value.the-variants.{Whole, Truth, Real, Unset}
 use Rattle.values.specs.declared.Kind.{Kind}
 use Rattle.values.specs.declared.Kind.the-variants.{Wholes, Bools, Reals}
 use Rattle.values.specs.definitions.Bytes.{overwritten}
 use Rattle.values.specs.definitions.Cells.{cell-at}
-use Rattle.values.specs.definitions.Forms.{hexadecimal, decimal, whole-text, printed, dash}
-use Rattle.values.proofs.laws.DigitLaws.{decimal-length, hexadecimal-length}
+use Rattle.values.specs.definitions.Forms.{decimal, printed}
+use Rattle.values.proofs.laws.FormLaws.{decimal-most, printed-most}
 use Rattle.text.specs.definitions.Tokens.{Token, tokens, tokens-of}
 use Rattle.text.specs.definitions.Syntax.{Member, Entity, File}
 use Rattle.text.proofs.laws.SpotLaws.{stands-drop}
@@ -34,7 +31,7 @@ use Rattle.cycles.specs.definitions.Cycle.{is-sort}
 use Rattle.cycles.specs.definitions.Row.{action-fields, row-header, row}
 use Rattle.cycles.specs.definitions.StateImage.{table, entity-count}
 use Rattle.cycles.specs.contracts.CellTokens.{Member-at, Token-of, Cell-token, Sort-test}
-use Rattle.cycles.specs.contracts.StateMemory.{Put}
+use Rattle.values.specs.contracts.Puts.{Put}
 use Rattle.cycles.specs.contracts.RowMemory.{
   field-of,
   field-at,
@@ -49,7 +46,8 @@ use Rattle.cycles.specs.contracts.RowMemory.{
 }
 use Rattle.cycles.proofs.laws.TableLaws.{table-same}
 use Rattle.cycles.proofs.laws.CellTokenLaws.{few-within, action-class, member-told, entity-told}
-use Rattle.cycles.proofs.laws.PutLaws.{put-none, put-said, put-byte, put-next, put-same, put-piece, put-no-piece, put-in-front}
+use Rattle.values.proofs.laws.PutLaws.{put-none, put-said, put-byte, put-next, put-same}
+use Rattle.cycles.proofs.laws.PutLaws.{put-piece, put-no-piece, put-in-front}
 use Rattle.cycles.proofs.laws.RowFields.{fields-table}
 
 -- ---- a field by its member
@@ -76,26 +74,6 @@ module _ (field : Spot → List ℕ) (e m : ℕ) where
       go : (b : Bool) → is-action (x .sort) ≡ b → field-of field e m (some x) ≡ field-of other e m (some x)
       go true q = rw (q, field-of) (ap (λ (l : List ℕ). 32 ∷ l) (h x refl))
       go false q = rw (q, field-of)
-
--- ---- lengths
-
-pub decimal-most : (n : ℕ) → length (decimal n) ≤ 10
-decimal-most n = decimal-length 10 n
-
-pub printed-most : (v : Value) → length (printed v) ≤ 16
-printed-most (Whole z) = go z
-  where
-    go : (z : ℤ) → length (whole-text z) ≤ 16
-    go (pos n) = let h = decimal-most n in omega arith
-    go (negsuc n) = let h = decimal-most (suc n) in omega arith
-printed-most (Truth true) = omega arith
-printed-most (Truth false) = omega arith
-printed-most (Real x) = go (isNan x)
-  where
-    go : (t : Bool) → length (cond t dash (hexadecimal 16 (toBits binary64 x))) ≤ 16
-    go true = omega arith
-    go false = omega (arith, hexadecimal-length 16 (toBits binary64 x))
-printed-most Unset = omega arith
 
 -- is the member of cell number i an action?
 action-told : {text classes offsets lengths d : List ℕ} {i token : ℕ} → Cell-token d i token → {b : Bool} → Sort-test classes token 6 b

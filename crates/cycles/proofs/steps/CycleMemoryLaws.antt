@@ -4,7 +4,6 @@ use native.Mathlib.Omega.{arith}
 use mathlib.Core.Path.{_≡_, sym, ap, ap₂, _∙_, subst}
 use mathlib.Core.Bool.{true, cond}
 use mathlib.Core.List.{List, _++_}
-use mathlib.Core.Option.{some}
 use lib.ListN.{length, getD, take, drop, replicate, length-drop, length-replicate}
 use Rattle.values.specs.declared.Value.{Value}
 use Rattle.values.specs.declared.Value.the-variants.{Unset}
@@ -23,7 +22,7 @@ use Rattle.cycles.specs.contracts.TotalMachine.{all-writes}
 use Rattle.cycles.specs.definitions.Cycle.{is-sort, seen, after-writes, stored, next-state}
 use Rattle.cycles.specs.contracts.TotalMachine.{cycle}
 use Rattle.cycles.specs.definitions.SoundState.{Sound-store, Sound-inputs, Sound-state}
-use Rattle.cycles.specs.definitions.StateImage.{STATE, table, entity-count, image-size, decode, is-state, state-of, with-state}
+use Rattle.cycles.specs.definitions.StateImage.{STATE, table, entity-count, image-size, decode, is-state, with-state}
 use Rattle.cycles.specs.contracts.LineReads.{presence-table, input-table}
 use Rattle.cycles.specs.contracts.StateMemory.{gathered}
 use Rattle.cycles.specs.contracts.Evaluation.{Stored, puts}
@@ -32,10 +31,10 @@ use Rattle.cycles.specs.contracts.CycleMemory.{seen-flag, seen-value, ne
 use Rattle.cycles.proofs.laws.TableLaws.{table-same}
 use Rattle.cycles.proofs.laws.CellTokenLaws.{few-within}
 use Rattle.cycles.proofs.laws.ImageParts.{flag-piece, cell-piece, flag-sized, cell-sized}
-use Rattle.cycles.proofs.laws.ImageLaws.{state-decoded-sound}
+use Rattle.cycles.proofs.laws.ImageLaws.{state-decoded, state-decoded-sound}
 use Rattle.cycles.proofs.laws.StateTestLaws.{behind, behind-all}
 use Rattle.cycles.proofs.laws.GatheredLaws.{Areas-of, gathered-state, area-taken}
-use Rattle.cycles.proofs.steps.EvaluationLaws.{decoded-stored}
+use Rattle.cycles.proofs.laws.StoredLaws.{decoded-stored}
 use Rattle.cycles.proofs.laws.SoundEvaluation.{Sound-write}
 use Rattle.cycles.proofs.laws.SoundBindings.{rules-run}
 use Rattle.cycles.proofs.laws.SoundStores.{seen-sound}
@@ -93,10 +92,6 @@ module _ (f : File) (h : Within-counts f) (s : Store) (ws : List Write) (sound :
 
 -- ---- a whole cycle
 
-pub state-said : (f : File) (m : List ℕ) → is-state f m ≡ true → state-of f m ≡ some (decode (entity-count f) m)
-unfolding state-of
-state-said f m e = rw (e, state-of)
-
 module _ {text classes offsets lengths values d refs scopes : List ℕ} (c : Checked-bench text classes offsets lengths values d)
     (references : References text classes offsets lengths d refs) (scopes-are : Scopes text classes offsets lengths d scopes)
     {number : ℕ} {input-flags input-cells state blank flags rest-flags cells rest-cells area next after : List ℕ}
@@ -128,7 +123,7 @@ module _ {text classes offsets lengths values d refs scopes : List ℕ} (c : Che
   within = few-within f (c .few)
 
   sound : Sound-state f was
-  sound = state-decoded-sound f within state was (state-said f state is)
+  sound = state-decoded-sound f within state was (state-decoded f state is)
 
   sees-sound : Sound-store f sees
   sees-sound = seen-sound f (was .now) i (sound .now) taken

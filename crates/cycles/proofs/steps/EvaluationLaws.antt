@@ -20,7 +20,6 @@ use Rattle.cycles.specs.definitions.Store.{Store}
 use Rattle.cycles.specs.definitions.Spots.{Spot}
 use Rattle.cycles.specs.contracts.TotalMachine.{value-at, is-present-at}
 use Rattle.cycles.specs.definitions.Reference.{Write, written-if}
-use Rattle.cycles.specs.definitions.StateImage.{decode-store}
 use Rattle.cycles.specs.contracts.Evaluation.{bound, Locates, located, missing, Refers, Targeted, bare, declares, Resolved, Stored, Cell-read, puts, Put}
 
 -- ---- references
@@ -88,15 +87,6 @@ module _ {flags cells : List ℕ} {e m : ℕ} where
 
   pub read-present : (ltb m 12 && eqb (getD flags e 0) 1) ≡ true → {v : Value} → v ≡ cell-at cells (e * 12 + m) → Cell-read flags cells e m v
   read-present a q = record { reads = λ count s p h l. present-read h l a q }
-
--- what a state image's part is read as stands there
-pub decoded-stored : (count : ℕ) (flags cells : List ℕ) → count * 108 ≤ length cells → Stored count flags cells (decode-store count flags cells)
-unfolding decode-store
-decoded-stored count flags cells r = record {
-  room = r;
-  present = λ e h. rw (lt-ltb e count h);
-  cell = λ e m h k. rw (lt-ltb e count h, lt-ltb m 12 k);
-}
 
 -- ---- writes
 

@@ -14,11 +14,12 @@ use Rattle.checking.specs.definitions.Scope.{is-found}
 use Rattle.checking.proofs.laws.DirectoryLaws.{number-inside}
 use Rattle.cycles.specs.definitions.Cycle.{fresh}
 use Rattle.cycles.specs.definitions.StateImage.{STATE, table, flag, encode, entity-count, image-size, with-state}
-use Rattle.cycles.specs.contracts.StateMemory.{Put}
+use Rattle.values.specs.contracts.Puts.{Put}
 use Rattle.cycles.specs.contracts.FreshMemory.{fresh-value, Fresh-cell, Fresh-cells-put, flags-of, blanks-of, Fresh-put}
 use Rattle.cycles.proofs.laws.TableLaws.{table-same}
 use Rattle.cycles.proofs.laws.ImageParts.{length-encode}
-use Rattle.cycles.proofs.laws.PutLaws.{put-byte, put-length, put-next, put-same, put-piece, put-no-piece, put-in-front}
+use Rattle.values.proofs.laws.PutLaws.{put-byte, put-length, put-next, put-same}
+use Rattle.cycles.proofs.laws.PutLaws.{put-piece, put-no-piece, put-in-front}
 
 -- ---- loops
 

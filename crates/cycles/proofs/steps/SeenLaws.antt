@@ -42,7 +42,7 @@ use Rattle.cycles.proofs.laws.ImageParts.{
   store-read,
 }
 use Rattle.cycles.proofs.laws.JudgeLaws.{begins-with}
-use Rattle.cycles.proofs.steps.EvaluationLaws.{decoded-stored}
+use Rattle.cycles.proofs.laws.StoredLaws.{decoded-stored}
 
 -- ---- values put cell by cell
 

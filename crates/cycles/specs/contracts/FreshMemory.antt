@@ -19,7 +19,7 @@ use Rattle.checking.specs.contracts.CheckedBench.{Values-of}
 use Rattle.checking.specs.contracts.DeclarationWalk.{Body-of}
 use Rattle.cycles.specs.definitions.Cycle.{assigned, initial-value, fresh}
 use Rattle.cycles.specs.definitions.StateImage.{CELL-BYTES, ENTITY-CELLS, table, with-state}
-use Rattle.cycles.specs.contracts.StateMemory.{Put}
+use Rattle.values.specs.contracts.Puts.{Put}
 
 -- the columns that literals are read from
 pub record Literal-columns (classes values : List ℕ) (ts : List Token) : Type 0 where

@@ -15,7 +15,7 @@ use Rattle.checking.specs.contracts.Directory.{name-in, Bench}
 use Rattle.cycles.specs.definitions.Store.{State}
 use Rattle.cycles.specs.definitions.Spots.{Spot}
 use Rattle.cycles.specs.definitions.Row.{MOST-ROW-BYTES, row, row-header}
-use Rattle.cycles.specs.contracts.StateMemory.{Put}
+use Rattle.values.specs.contracts.Puts.{Put}
 use Rattle.cycles.specs.definitions.StateImage.{ENTITY-CELLS}
 
 unfoldable pub field-of : (Spot → List ℕ) → ℕ → ℕ → Option Member → List ℕ

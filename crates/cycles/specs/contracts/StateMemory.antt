@@ -1,12 +1,12 @@
 -- What code promises that tests or writes a state image, for every file that stands in the columns and the directory.
-use Prim.Native.Nat.{ℕ, _+_, _*_}
+use Prim.Native.Nat.{ℕ, _*_}
 use mathlib.Core.Path.{_≡_}
 use mathlib.Core.List.{List, _++_}
 use mathlib.Core.Bool.{Bool, true}
 use mathlib.Core.Option.{Option}
-use lib.ListN.{length, take}
+use lib.ListN.{take}
 use Rattle.values.specs.declared.Kind.{Kind}
-use Rattle.values.specs.definitions.Bytes.{low-first, overwritten}
+use Rattle.values.specs.definitions.Bytes.{low-first}
 use Rattle.text.specs.definitions.Syntax.{Member}
 use Rattle.checking.specs.contracts.DirectoryReads.{Few}
 use Rattle.checking.specs.contracts.Directory.{kind-class, Bench}
@@ -39,11 +39,6 @@ pub record State-test (classes d state : List ℕ) (r : Bool) : Type 0 where
   pub is : (text offsets lengths : List ℕ) (w : Bench text classes offsets lengths d) → Few (w .file) → r ≡ is-state (w .file) state
 
 -- ---- writing
-
--- bytes put over memory from `at` on, and the offset after them
-pub record Put (bytes before : List ℕ) (at : ℕ) (after : List ℕ) (r : ℕ) : Type 0 where
-  pub end : r ≡ at + length bytes
-  pub is : after ≡ overwritten before at bytes
 
 -- the image of a state of n entities whose parts stand in areas of their own, each from the area's front on
 unfoldable pub gathered : ℕ → ℕ → List ℕ → List ℕ → List ℕ → List ℕ → List ℕ → List ℕ → List ℕ

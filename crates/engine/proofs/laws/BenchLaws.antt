@@ -13,8 +13,9 @@ use Rattle.values.specs.definitions.Bytes.{word-at, low-first, overwritten}
 use Rattle.text.specs.definitions.Syntax.{File}
 use Rattle.checking.specs.definitions.Verdict.{Verdict, verdict, MOST-BYTES, accepted-file}
 use Rattle.checking.proofs.laws.VerdictLaws.{file-is-accepted}
-use Rattle.cycles.specs.contracts.StateMemory.{Put}
-use Rattle.cycles.proofs.laws.PutLaws.{put-said, put-next, put-in-front}
+use Rattle.values.specs.contracts.Puts.{Put}
+use Rattle.values.proofs.laws.PutLaws.{put-said, put-next}
+use Rattle.cycles.proofs.laws.PutLaws.{put-in-front}
 use Rattle.engine.specs.definitions.BenchImage.{BENCH, with-bench, bench-of, text-in}
 
 -- the length and the text, put one after the other

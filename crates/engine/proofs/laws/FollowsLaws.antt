@@ -28,7 +28,6 @@ use Rattle.cycles.proofs.laws.RowReads.{fired-text, row-fields, row-field, acti
 use Rattle.engine.specs.definitions.BenchImage.{BENCH, bench-of}
 use Rattle.engine.specs.definitions.Calls.{
   ROW,
-  row-answer,
   with-row,
   After-fresh,
   freshened,
@@ -55,6 +54,7 @@ use Rattle.engine.specs.definitions.DemandOne.{number-of}
 use Rattle.engine.specs.definitions.DemandTwo.{Bench-lent, State-lent, Line-lent, Freshens, Follows, Names, Shows, Reads-back}
 use Rattle.engine.proofs.laws.BenchLaws.{bench-accepted}
 use Rattle.engine.proofs.laws.CallLaws.{Stands-for, Answered, answer-line, answer-number, given-read}
+use Rattle.engine.proofs.laws.NumberLaws.{row-accepted}
 use Rattle.engine.proofs.laws.RunLaws.{call-gives}
 use Rattle.engine.proofs.theorems.ImageRoundTrip.{image-round-trip}
 
@@ -72,11 +72,8 @@ stands bench state f s h g b e =
     }
 
 -- no refusal has the number 0
-not-zero : (code : ℕ) {n : ℕ} → n ≡ code → number-of n ≡ 0 → (number-of code ≡ 0 → ⊥) → ⊥
+pub not-zero : (code : ℕ) {n : ℕ} → n ≡ code → number-of n ≡ 0 → (number-of code ≡ 0 → ⊥) → ⊥
 not-zero code e h never = never (ap number-of (sym e) ∙ h)
-
-row-zero : (g : List ℕ) → number-of (row-answer g) ≡ 0
-row-zero g = omega arith
 
 -- ---- the line call
 
@@ -138,7 +135,7 @@ module _ (bench state names values row : List ℕ) (h : BENCH ≤ length bench) 
       let q : machine-answer (k .file) (k .before) request ≡ accepted (k .taken) = rw (le-ltb (length row) ROW w, machine-answer) (k .is-taken) in
       let i : Answered (k .file) bench state (k .before) request reply (accepted (k .taken)) =
       subst (Answered (k .file) bench state (k .before) request reply) q (answered (k .file) (k .is-bench) (k .before) (k .is-state)) in
-      ap number-of (i .gives .answer-is) ∙ row-zero (Rows.row (k .file) (follow (k .file) (k .before) (k .taken)))
+      ap number-of (i .gives .answer-is) ∙ row-accepted (Rows.row (k .file) (follow (k .file) (k .before) (k .taken)))
 
 pub line-follows : (bench state names values row new-state new-row : List ℕ) (r : ℕ) → Line-contract bench state names values row new-state new-row r
     → BENCH ≤ length bench → STATE ≤ length state → ROW ≤ length row
@@ -212,7 +209,7 @@ module _ (bench row : List ℕ) (h : BENCH ≤ length bench) (w : ROW ≤ length
   unfolding header-on-bench row-written
   named-answer x c k =
       let i : x ≡ header-on-bench (some (k .file)) row = c ∙ ap (λ (o : Option File). header-on-bench o row) (k .is-bench) in
-      ap (λ (y : After-row). number-of (y .answer)) i ∙ row-zero (row-header (k .file))
+      ap (λ (y : After-row). number-of (y .answer)) i ∙ row-accepted (row-header (k .file))
 
 pub header-names : (bench row new-row : List ℕ) (r : ℕ) → Header-contract bench row new-row r
     → BENCH ≤ length bench → ROW ≤ length row
@@ -255,7 +252,7 @@ module _ (bench state row : List ℕ) (x : After-row) (c : x ≡ row-on-bench (b
   unfolding row-in-state row-written
   shown-answer k =
       ap (λ (y : After-row). number-of (y .answer)) (in-state (k .file) (k .is-bench) (some (k .before)) (k .is-state))
-      ∙ row-zero (Rows.row (k .file) (k .before))
+      ∙ row-accepted (Rows.row (k .file) (k .before))
 
 pub row-shows : (bench state row new-row : List ℕ) (r : ℕ) → Row-contract bench state row new-row r
     → BENCH ≤ length bench → STATE ≤ length state → ROW ≤ length row

@@ -54,14 +54,18 @@ use Rattle.engine.proofs.laws.CallLaws.{after-accepted, accepted-resent
 -- ---- refusal and acceptance
 
 module _ {numbers : List ℕ} {lent : List (List ℕ)} where
-  refusal : (answer : ℕ) → Among (number-of answer) numbers → Listed-answer numbers answer lent lent
+  pub refusal : (answer : ℕ) → Among (number-of answer) numbers → Listed-answer numbers answer lent lent
   refusal answer a = record { number = a; as-lent = λ h. refl }
 
-  acceptance : {left : List (List ℕ)} (answer : ℕ) → number-of answer ≡ 0 → Among 0 numbers → Listed-answer numbers answer lent left
+  pub acceptance : {left : List (List ℕ)} (answer : ℕ) → number-of answer ≡ 0 → Among 0 numbers → Listed-answer numbers answer lent left
   acceptance answer e a = record { number = rw e a; as-lent = λ h. absurd (h e) }
 
-row-accepted : (r : List ℕ) → number-of (row-answer r) ≡ 0
-row-accepted r = omega arith
+-- what stands above the number does not count
+pub above-number : (n : ℕ) → number-of (256 * n) ≡ 0
+above-number n = omega arith
+
+pub row-accepted : (r : List ℕ) → number-of (row-answer r) ≡ 0
+row-accepted r = above-number (length r)
 
 -- a code of the table: its number is itself
 abbrev Listed : List ℕ → ℕ → Type 0

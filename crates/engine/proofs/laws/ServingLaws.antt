@@ -1,5 +1,5 @@
 -- A call on a text: what the parts that serve it say of it.
-use Prim.Native.Nat.{ℕ, _-_, _*_, _≤_}
+use Prim.Native.Nat.{ℕ, _-_, _*_, _%_, _≤_}
 use native.Mathlib.Omega.{arith}
 use mathlib.Core.Path.{_≡_, refl, sym, ap, _∙_, subst}
 use mathlib.Core.Bool.{Bool, true, false, _||_}
@@ -20,14 +20,22 @@ use Rattle.cycles.specs.contracts.StateMemory.{State-test}
 use Rattle.cycles.specs.contracts.FreshMemory.{Fresh-put}
 use Rattle.cycles.specs.contracts.RowMemory.{Header-put}
 use Rattle.cycles.proofs.laws.RowPuts.{short-names}
+use Rattle.cycles.specs.definitions.Line.{Answer, refused, accepted}
+use Rattle.cycles.specs.definitions.StateImage.{state-of}
+use Rattle.days.specs.declared.sheet.Sheeted.{Sheeted}
+use Rattle.days.specs.declared.sheet.Sheeted.the-variants.{Refused as Not-made, Length}
+use Rattle.days.specs.definitions.DaySheet.{sheet-if-state}
+use Rattle.days.specs.contracts.SheetMemory.{Sheet-is, Sheet-put}
+use Rattle.cycles.proofs.laws.ImageLaws.{state-decoded, no-state}
 use Rattle.engine.specs.declared.line.Taken.{Taken}
 use Rattle.engine.specs.declared.line.Taken.the-variants.{Refused, Row as Shows}
 use Rattle.engine.specs.declared.serve.Call.{Call}
-use Rattle.engine.specs.declared.serve.Call.the-variants.{Check, Fresh, Line, Header, Row}
+use Rattle.engine.specs.declared.serve.Call.the-variants.{Check, Fresh, Line, Header, Row, Sheet}
 use Rattle.engine.specs.definitions.BenchImage.{with-bench, bench-of, text-in}
 use Rattle.engine.specs.definitions.Calls.{
   with-row,
   After-line,
+  After-sheet,
   checked,
   freshened,
   line-refused,
@@ -36,10 +44,11 @@ use Rattle.engine.specs.definitions.Calls.{
   header-on-bench,
   row-on-bench,
   row-in-state,
+  sheet-answered,
+  sheet-on-bench,
 }
 use Rattle.engine.specs.contracts.LineMemory.{taken-answer, Short-row, Shown, Line-taken}
-use Rattle.engine.specs.contracts.Serving.{served-line, served, Room, refusal, On-bench}
-use Rattle.engine.proofs.laws.LineLaws.{state-decoded, no-state}
+use Rattle.engine.specs.contracts.Serving.{served-line, served-sheet, served, sheeted-answer, Room, refusal, On-bench}
 
 -- ---- the answer of a line
 
@@ -53,8 +62,8 @@ answer-row {t} {n} e s h = rw e (h (subst Short-row e s))
 
 -- ---- the room of a call
 
-pub room-of : {call other : Call} (state shown out : List ℕ) → call ≡ other → Room call state shown out → Room other state shown out
-room-of state shown out e r = subst (λ (c : Call). Room c state shown out) e r
+pub room-of : {call other : Call} (state shown names out : List ℕ) → call ≡ other → Room call state shown names out → Room other state shown names out
+room-of state shown names out e r = subst (λ (c : Call). Room c state shown names out) e r
 
 pub serves-as : {call other : Call} {text classes offsets lengths literals d state shown names values out new-state new-out : List ℕ} {r : ℕ} → call ≡ other
     → On-bench other text classes offsets lengths literals d state shown names values out new-state new-out r
@@ -69,6 +78,22 @@ accepted-says {text} {d} {u} e s = subst (Says text u d) e s
 pub refused-says : (text d : List ℕ) (u : Token-columns) {r : Checked} {code at : ℕ} → r ≡ checked-as.Refused code at → Says text u d r
     → verdict text ≡ Verdict.refused-at code at
 refused-says text d u e s = subst (Says text u d) e s
+
+-- ---- a sheet
+
+pub sheet-refused : {t : Sheeted} {code : ℕ} → t ≡ Not-made code → code ≡ sheeted-answer t
+unfolding sheeted-answer
+sheet-refused e = rw e
+
+pub sheet-length : {t : Sheeted} {n : ℕ} → t ≡ Length n → 256 * (n % 72057594037927936) ≡ sheeted-answer t
+unfolding sheeted-answer
+sheet-length e = rw e
+
+sheet-said : (a : Answer (List ℕ)) (m : List ℕ) {new : List ℕ} (t : Sheeted) → Sheet-is a m new t
+    → record { answer = sheeted-answer t; sheet = new } ≡ sheet-answered a m
+unfolding sheeted-answer sheet-answered with-row
+sheet-said (refused code) m t (e, i) = rw (e, i)
+sheet-said (accepted bytes) m t (e, i) = rw (e, i .is)
 
 -- ---- an accepted text
 
@@ -125,16 +150,33 @@ module _ {text classes offsets lengths literals d state shown names values out :
           rw (accepted-is c, o, e, i .is, i .count);
     }
 
+  pub sheet-served : {refs scopes new-refs new-scopes : List ℕ} → Resolves text classes offsets lengths d refs scopes new-refs new-scopes
+      → {new : List ℕ} {t : Sheeted} {r : ℕ}
+      → Sheet-put text classes offsets lengths literals d new-refs new-scopes shown names values out new t → r ≡ sheeted-answer t
+      → On-bench Sheet text classes offsets lengths literals d state shown names values out state new r
+  unfolding served sheet-on-bench
+  sheet-served resolves {new} {t} puts e = record {
+    is = λ c.
+        let f = c .bench .file in
+        rw (accepted-is c, e)
+        (ap (λ (a : After-sheet). served-sheet a state)
+        (sheet-said (sheet-if-state f (state-of f shown) names values) out t
+        (puts .is (record { checked = c; references = resolves .references; scopes-are = resolves .scopes-are }))));
+  }
+
 -- ---- a refused text
 
-pub refused-served : (call : Call) (text : List ℕ) {state : List ℕ} (shown names values : List ℕ) {out : List ℕ} {code at r : ℕ} → verdict text ≡ Verdict.refused-at code at → r ≡ refusal call code at
+pub refused-served : (call : Call) (text : List ℕ) {state : List ℕ} (shown names values : List ℕ) {out : List ℕ} {code at r : ℕ}
+    → verdict text ≡ Verdict.refused-at code at → r ≡ refusal call code at
     → record { answer = r; state = state; out = out } ≡ served call text state shown names values out
-unfolding served checked verdict-answer accepted-file file-of freshened line-on-bench line-refused header-on-bench row-on-bench refusal checked-answer
+unfolding served checked verdict-answer accepted-file file-of freshened line-on-bench line-refused header-on-bench row-on-bench sheet-on-bench refusal
+    checked-answer
 refused-served Check text shown names values v e = rw (v, e)
 refused-served Fresh text shown names values v e = rw (v, e)
 refused-served Line text shown names values v e = rw (v, e)
 refused-served Header text shown names values v e = rw (v, e)
 refused-served Row text shown names values v e = rw (v, e)
+refused-served Sheet text shown names values v e = rw (v, e)
 
 -- ---- the bench image
 

@@ -1,11 +1,14 @@
 -- The entry points: memory shorter than its stated size, and what a served call says of them.
 use Prim.Native.Nat.{ℕ, _≤_, _<_}
-use mathlib.Core.Path.{_≡_, ap}
+use mathlib.Core.Path.{_≡_, sym, ap, _∙_}
+use mathlib.Core.Bool.{Bool, true, false}
 use mathlib.Core.List.{List}
+use lib.Dec.{ltb}
 use lib.ListN.{length}
-use borrow.Author.Tests.{lt-ltb, le-ltb}
+use borrow.Author.Tests.{lt-ltb, le-ltb, ltb-false}
 use Rattle.cycles.specs.definitions.StateImage.{STATE}
-use Rattle.engine.specs.declared.serve.Call.the-variants.{Check, Fresh, Line, Header, Row}
+use Rattle.days.specs.definitions.DaySheet.{sheet-size}
+use Rattle.engine.specs.declared.serve.Call.the-variants.{Check, Fresh, Line, Header, Row, Sheet}
 use Rattle.engine.specs.definitions.BenchImage.{BENCH, text-in}
 use Rattle.engine.specs.definitions.Calls.{
   ROW,
@@ -15,6 +18,7 @@ use Rattle.engine.specs.definitions.Calls.{
   line-refused,
   header-call,
   row-call,
+  sheet-call,
 }
 use Rattle.engine.specs.contracts.Serving.{Served, served}
 use Rattle.engine.proofs.laws.ServingLaws.{text-accepted}
@@ -121,3 +125,31 @@ module _ (bench state row : List ℕ) where
       row-served h text names values none t e =
           rw (le-ltb (length bench) BENCH b, le-ltb (length state) STATE s, le-ltb (length row) ROW h, row-call, ← text-accepted bench, ← t)
           (ap (λ (x : Served). record { answer = x .answer; row = x .out }) e)
+
+-- ---- a sheet
+
+pub sheet-room : (readings : List ℕ) {size : ℕ} {short : Bool} → short ≡ ltb size (sheet-size readings) → short ≡ false → sheet-size readings ≤ size
+sheet-room readings {size} tests h = ltb-false size (sheet-size readings) (sym tests ∙ h)
+
+module _ (bench state readings cells sheet : List ℕ) where
+  pub sheet-no-bench : length bench < BENCH → record { answer = 31; sheet = sheet } ≡ sheet-call bench state readings cells sheet
+  unfolding sheet-call
+  sheet-no-bench h = rw (lt-ltb (length bench) BENCH h, sheet-call)
+
+  module _ (b : BENCH ≤ length bench) where
+    pub sheet-no-state : length state < STATE → record { answer = 31; sheet = sheet } ≡ sheet-call bench state readings cells sheet
+    unfolding sheet-call
+    sheet-no-state h = rw (le-ltb (length bench) BENCH b, lt-ltb (length state) STATE h, sheet-call)
+
+    module _ (s : STATE ≤ length state) {short : Bool} (tests : short ≡ ltb (length sheet) (sheet-size readings)) where
+      pub sheet-short : short ≡ true → record { answer = 31; sheet = sheet } ≡ sheet-call bench state readings cells sheet
+      unfolding sheet-call
+      sheet-short h = rw (le-ltb (length bench) BENCH b, le-ltb (length state) STATE s, sym tests ∙ h, sheet-call)
+
+      pub sheet-served : short ≡ false → (text none : List ℕ) {new-state new : List ℕ} {r : ℕ} → text ≡ text-in bench
+          → record { answer = r; state = new-state; out = new } ≡ served Sheet text none state readings cells sheet
+          → record { answer = r; sheet = new } ≡ sheet-call bench state readings cells sheet
+      unfolding sheet-call served
+      sheet-served h text none t e =
+          rw (le-ltb (length bench) BENCH b, le-ltb (length state) STATE s, sym tests ∙ h, sheet-call, ← text-accepted bench, ← t)
+          (ap (λ (x : Served). record { answer = x .answer; sheet = x .out }) e)

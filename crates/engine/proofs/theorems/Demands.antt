@@ -16,25 +16,29 @@ use Rattle.cycles.specs.definitions.Cycle.{ref-fresh}
 use Rattle.cycles.specs.definitions.Row.{row}
 use Rattle.cycles.specs.definitions.StateImage.{STATE, state-of}
 use Rattle.cycles.specs.definitions.ClosedSet.{Closed}
+use Rattle.days.specs.definitions.DaySheet.{sheet-size}
 use Rattle.engine.specs.definitions.BenchImage.{BENCH}
-use Rattle.engine.specs.definitions.Calls.{ROW, After-line, Check-contract, Fresh-contract, Line-contract, Header-contract, Row-contract}
+use Rattle.engine.specs.definitions.Calls.{ROW, After-line, Check-contract, Fresh-contract, Line-contract, Header-contract, Row-contract, Sheet-contract}
 use Rattle.engine.specs.definitions.Runs.{Request, Run-start, Run, sight, ref-run, taken-lines}
-use Rattle.engine.specs.definitions.DemandOne.{number-of, CHECK-NUMBERS, FRESH-NUMBERS, LINE-NUMBERS, HEADER-NUMBERS, ROW-NUMBERS, Listed-answer}
+use Rattle.engine.specs.definitions.DemandOne.{number-of, CHECK-NUMBERS, FRESH-NUMBERS, LINE-NUMBERS, HEADER-NUMBERS, ROW-NUMBERS, SHEET-NUMBERS, Listed-answer}
 use Rattle.engine.specs.definitions.DemandTwo.{
   Bench-lent,
   State-lent,
   Line-lent,
+  Sheet-lent,
   Checks,
   Freshens,
   Follows,
   Names,
   Shows,
+  Sheets,
   Resent,
   Reads-back,
 }
 use Rattle.engine.specs.definitions.DemandThree.{Same-lines, Same-values, Side-by-side}
 use Rattle.engine.proofs.laws.NumberLaws.{check-numbered, fresh-numbered, line-numbered, header-numbered, row-numbered}
 use Rattle.engine.proofs.laws.CheckLaws.{check-admits}
+use Rattle.engine.proofs.laws.SheetLaws.{sheet-numbered, sheet-sheets}
 use Rattle.engine.proofs.laws.FollowsLaws.{fresh-freshens, line-follows, header-names, row-shows, row-reads-back}
 use Rattle.engine.proofs.laws.RunLaws.{run-stays, runs-apart, run-resent}
 
@@ -50,9 +54,18 @@ pub record Demand-one : Type 0 where
       → Listed-answer HEADER-NUMBERS r (row ∷ []) (new-row ∷ [])
   pub row : (bench state row new-row : List ℕ) (r : ℕ) → Row-contract bench state row new-row r
       → Listed-answer ROW-NUMBERS r (row ∷ []) (new-row ∷ [])
+  pub sheet : (bench state readings cells sheet new-sheet : List ℕ) (r : ℕ) → Sheet-contract bench state readings cells sheet new-sheet r
+      → Listed-answer SHEET-NUMBERS r (sheet ∷ []) (new-sheet ∷ [])
 
 pub demand-one : Demand-one
-demand-one = record { check = check-numbered; fresh = fresh-numbered; line = line-numbered; header = header-numbered; row = row-numbered }
+demand-one = record {
+  check = check-numbered;
+  fresh = fresh-numbered;
+  line = line-numbered;
+  header = header-numbered;
+  row = row-numbered;
+  sheet = sheet-numbered;
+}
 
 pub record Demand-two : Type 0 where
   -- "A bench file is accepted exactly when the documents admit it"
@@ -74,6 +87,10 @@ pub record Demand-two : Type 0 where
   pub shows : (bench state row new-row : List ℕ) (r : ℕ) → Row-contract bench state row new-row r
       → BENCH ≤ length bench → STATE ≤ length state → ROW ≤ length row
       → ((number-of r ≡ 0) ↔ State-lent bench state) × (number-of r ≡ 0 → Shows bench state r new-row)
+  -- the day sheet (document 02, order 3): of the lines that the machine takes one after another from the state lent
+  pub sheets : (bench state readings cells sheet new-sheet : List ℕ) (r : ℕ) → Sheet-contract bench state readings cells sheet new-sheet r
+      → BENCH ≤ length bench → STATE ≤ length state → sheet-size readings ≤ length sheet
+      → ((number-of r ≡ 0) ↔ Sheet-lent bench state readings cells) × (number-of r ≡ 0 → Sheets bench state readings cells sheet r new-sheet)
   -- "a resent line changes nothing and gives its first row again"
   pub resent : (text : List ℕ) (f : File) → verdict text ≡ Verdict.accepted f
       → (bench state : List ℕ) → Run-start text bench state
@@ -91,6 +108,7 @@ demand-two = record {
   freshens = fresh-freshens;
   names = header-names;
   shows = row-shows;
+  sheets = sheet-sheets;
   resent = run-resent;
   reads-back = row-reads-back;
 }

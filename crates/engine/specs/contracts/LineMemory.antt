@@ -4,20 +4,15 @@ use mathlib.Core.Path.{_≡_}
 use mathlib.Core.Bool.{true}
 use mathlib.Core.List.{List, map}
 use mathlib.Core.Option.{some}
-use lib.ListN.{length, take}
 use Rattle.checking.specs.contracts.Directory.{Bench}
 use Rattle.checking.specs.contracts.DirectoryReads.{Few}
-use Rattle.checking.specs.contracts.CheckedBench.{Checked-bench}
-use Rattle.checking.specs.contracts.Resolution.{References, Scopes}
 use Rattle.cycles.specs.definitions.Store.{State}
 use Rattle.cycles.specs.definitions.Header.{Column, header}
-use Rattle.cycles.specs.definitions.Record.{inputs-of}
-use Rattle.cycles.specs.definitions.Line.{accepted, Reading, reading}
 use Rattle.cycles.specs.definitions.Row.{row}
-use Rattle.cycles.specs.definitions.StateImage.{ENTITY-CELL-BYTES, entity-count, is-state, state-of}
+use Rattle.cycles.specs.definitions.StateImage.{is-state, state-of}
 use Rattle.cycles.specs.contracts.HeaderReads.{column-number, backwards}
-use Rattle.cycles.specs.contracts.LineReads.{presence-table, input-table}
 use Rattle.cycles.specs.contracts.RowMemory.{In-front}
+use Rattle.days.specs.contracts.Advancing.{Resolved-bench}
 use Rattle.engine.specs.declared.line.Taken.{Taken}
 use Rattle.engine.specs.declared.line.Taken.the-variants.{Refused, Row}
 use Rattle.engine.specs.definitions.Calls.{ROW, After-line, line-in-state}
@@ -40,23 +35,6 @@ pub record Shown (classes d state before after : List ℕ) (r : ℕ) : Type 0 wh
   pub short : r ≤ ROW
   pub is : (text offsets lengths : List ℕ) (w : Bench text classes offsets lengths d) → Few (w .file)
       → (s : State) → state-of (w .file) state ≡ some s → In-front (row (w .file) s) before after r
-
--- a checked bench in columns, with its rules' names resolved
-pub record Resolved-bench (text classes offsets lengths literals d refs scopes : List ℕ) : Type 0 where
-  pub checked : Checked-bench text classes offsets lengths literals d
-  pub references : References text classes offsets lengths d refs
-  pub scopes-are : Scopes text classes offsets lengths d scopes
-
--- a line that is read: its number, and its inputs in areas of their own
-pub record Settled (classes literals d refs scopes : List ℕ) (number : ℕ) (flags cells state row new-state new-row : List ℕ) (r : Taken) : Type 0 where
-  pub short : Short-row r
-  pub is : (text offsets lengths : List ℕ) (b : Resolved-bench text classes offsets lengths literals d refs scopes)
-      → is-state (b .checked .bench .file) state ≡ true
-      → (names values : List ℕ) (says : Reading) → reading (b .checked .bench .file) names values ≡ accepted says → says .number ≡ number
-      → take (entity-count (b .checked .bench .file)) flags ≡ presence-table (inputs-of (says .inputs)) (entity-count (b .checked .bench .file))
-      → take (ENTITY-CELL-BYTES * entity-count (b .checked .bench .file)) cells ≡ input-table (inputs-of (says .inputs)) (entity-count (b .checked .bench .file))
-      → after-line r new-state new-row
-      ≡ line-in-state (b .checked .bench .file) (state-of (b .checked .bench .file) state) state names values row
 
 -- a record under a header, whose columns' numbers stand in memory, on memory that is a state
 pub record Record-taken (classes literals d refs scopes columns : List ℕ) (count : ℕ) (values state row new-state new-row : List ℕ) (r : Taken) : Type 0 where

@@ -1,6 +1,6 @@
 -- The public calls as functions of the lent bytes: the answer, and every lent byte after the call. An answer has document 01's number in its
--- low 8 bits, 0 for acceptance, and above them the offset of a refusal of a text or the length of a written row.
-use Prim.Native.Nat.{ℕ, _+_, _*_}
+-- low 8 bits, 0 for acceptance, and above them the offset of a refusal of a text or the length of a written row or sheet.
+use Prim.Native.Nat.{ℕ, _+_, _*_, _%_}
 use mathlib.Core.Path.{_≡_}
 use mathlib.Core.List.{List, _++_}
 use mathlib.Core.Bool.{true, false, _||_}
@@ -16,6 +16,7 @@ use Rattle.cycles.specs.definitions.Line.{Answer, refused, accepted, line}
 use Rattle.cycles.specs.definitions.Row.{row-header, row}
 use Rattle.cycles.specs.definitions.StateImage.{STATE, state-of, with-state}
 use Rattle.cycles.specs.definitions.Row.{MOST-ROW-BYTES}
+use Rattle.days.specs.definitions.DaySheet.{sheet-if-state, sheet-size}
 use Rattle.engine.specs.definitions.BenchImage.{BENCH, with-bench, bench-of}
 
 -- the stated size of memory for a row
@@ -140,6 +141,35 @@ row-call bench state r = elim (ltb (length bench) BENCH || ltb (length state) ST
   | false ↦ row-on-bench (bench-of bench) state r
 ]
 
+-- sheet: a bench, a state, a text of readings, the chosen cells, and memory for a sheet
+pub record After-sheet : Type 0 where
+  pub answer : ℕ
+  pub sheet : List ℕ
+
+-- an answer of 64 bits has 56 above the number, so many lengths: more than any machine's memory, but not more than any list's
+abbrev pub LENGTHS : ℕ
+LENGTHS = 72057594037927936
+
+abbrev pub length-answer : ℕ → ℕ
+length-answer n = 256 * (n % LENGTHS)
+
+unfoldable pub sheet-answered : Answer (List ℕ) → List ℕ → After-sheet
+unfolding with-row
+sheet-answered (refused code) m = record { answer = code; sheet = m }
+sheet-answered (accepted bytes) m = record { answer = length-answer (length bytes); sheet = with-row bytes m }
+
+unfoldable pub sheet-on-bench : Option File → List ℕ → List ℕ → List ℕ → List ℕ → After-sheet
+unfolding sheet-answered sheet-if-state state-of
+sheet-on-bench none state readings cells m = record { answer = 32; sheet = m }
+sheet-on-bench (some f) state readings cells m = sheet-answered (sheet-if-state f (state-of f state) readings cells) m
+
+unfoldable pub sheet-call : List ℕ → List ℕ → List ℕ → List ℕ → List ℕ → After-sheet
+unfolding sheet-on-bench bench-of sheet-size
+sheet-call bench state readings cells m = elim (ltb (length bench) BENCH || ltb (length state) STATE || ltb (length m) (sheet-size readings)) [
+  | true ↦ record { answer = 31; sheet = m }
+  | false ↦ sheet-on-bench (bench-of bench) state readings cells m
+]
+
 -- ---- the contracts: what a call answers, and the memory that it leaves, on all input
 
 abbrev pub Check-contract : (text bench new-bench : List ℕ) → ℕ → Type 0
@@ -157,3 +187,7 @@ Header-contract bench row new-row r = record { answer = r; row = new-row } ≡ h
 
 abbrev pub Row-contract : (bench state row new-row : List ℕ) → ℕ → Type 0
 Row-contract bench state row new-row r = record { answer = r; row = new-row } ≡ row-call bench state row
+
+abbrev pub Sheet-contract : (bench state readings cells sheet new-sheet : List ℕ) → ℕ → Type 0
+Sheet-contract bench state readings cells sheet new-sheet r =
+    record { answer = r; sheet = new-sheet } ≡ sheet-call bench state readings cells sheet

@@ -8,7 +8,7 @@ use Rattle.cycles.specs.definitions.ClosedSet.{Among}
 abbrev pub number-of : ℕ → ℕ
 number-of answer = answer % 256
 
--- document 01's table by calls; "Memory that a call only fills gets neither 32 nor 33"
+-- document 01's table, with document 02's numbers, by calls; "Memory that a call only fills gets neither 32 nor 33"
 abbrev pub CHECK-NUMBERS : List ℕ
 CHECK-NUMBERS = 0 ∷ 31 ∷ 11 ∷ 12 ∷ 13 ∷ 14 ∷ 15 ∷ 16 ∷ 17 ∷ 18 ∷ []
 
@@ -23,6 +23,9 @@ HEADER-NUMBERS = 0 ∷ 31 ∷ 32 ∷ []
 
 abbrev pub ROW-NUMBERS : List ℕ
 ROW-NUMBERS = 0 ∷ 31 ∷ 32 ∷ 33 ∷ []
+
+abbrev pub SHEET-NUMBERS : List ℕ
+SHEET-NUMBERS = 0 ∷ 31 ∷ 32 ∷ 33 ∷ 41 ∷ 22 ∷ []
 
 -- an answer, and the memory that a call may write, as it was lent and as it is left
 pub record Listed-answer (numbers : List ℕ) (answer : ℕ) (lent left : List (List ℕ)) : Type 0 where

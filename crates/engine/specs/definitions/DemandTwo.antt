@@ -1,7 +1,7 @@
 -- Demand 2: what accepted calls leave and give, what a line sent again gives, and how a row reads back.
 use Prim.Native.Nat.{ℕ, suc}
 use mathlib.Core.Path.{_≡_}
-use mathlib.Core.List.{List, [], _∷_}
+use mathlib.Core.List.{List, [], _∷_, map, List·Memᴰ}
 use mathlib.Core.Option.{some}
 use lib.ListN.{length, getElem?}
 use Rattle.values.specs.declared.Number.the-variants.{Is}
@@ -13,12 +13,19 @@ use Rattle.cycles.specs.definitions.Store.{State, Line}
 use Rattle.cycles.specs.definitions.Spots.{Spot}
 use Rattle.cycles.specs.definitions.Cycle.{fresh, ref-follow}
 use Rattle.cycles.specs.definitions.Fields.{fields}
+use Rattle.cycles.specs.definitions.Header.{Column, header}
 use Rattle.cycles.specs.definitions.Line.{accepted, line}
+use Rattle.cycles.specs.definitions.Readings.{lines, header-line, record-lines, Turn}
 use Rattle.cycles.specs.definitions.Row.{action-cells, row-header, row}
 use Rattle.cycles.specs.definitions.StateImage.{state-of}
 use Rattle.cycles.specs.definitions.ClosedSet.{Among}
+use Rattle.sheets.specs.definitions.Layout.{SHEET-COLUMNS}
+use Rattle.sheets.specs.definitions.Sheet.{sheet-rows}
+use Rattle.days.specs.definitions.Chosen.{chosen, is-real-spot}
+use Rattle.days.specs.definitions.DaySheet.{printed-lines, day-sheet}
+use Rattle.days.specs.definitions.ReferenceDay.{ref-turns}
 use Rattle.engine.specs.definitions.BenchImage.{bench-of}
-use Rattle.engine.specs.definitions.Calls.{After-line}
+use Rattle.engine.specs.definitions.Calls.{with-row, length-answer, After-line}
 use Rattle.engine.specs.definitions.Runs.{given, given-by, Taken}
 
 -- ---- what is lent
@@ -43,6 +50,17 @@ pub record Line-lent (bench state names values : List ℕ) : Type 0 where
   pub is-bench : bench-of bench ≡ some file
   pub is-state : state-of file state ≡ some before
   pub is-taken : line file before names values ≡ accepted taken
+
+-- the memory stands for a bench file and a state of it, the chosen cells are cells of the file, and the readings' first line is a header of it
+pub record Sheet-lent (bench state readings cells : List ℕ) : Type 0 where
+  pub file : File
+  pub before : State
+  pub spots : List Spot
+  pub columns : List Column
+  pub is-bench : bench-of bench ≡ some file
+  pub is-state : state-of file state ≡ some before
+  pub is-chosen : chosen file cells ≡ some spots
+  pub is-header : header file (header-line (lines readings)) ≡ some columns
 
 -- ---- what is left and given
 
@@ -85,6 +103,21 @@ pub record Shows (bench state : List ℕ) (answer : ℕ) (new-row : List ℕ) : 
   pub is-bench : bench-of bench ≡ some file
   pub is-state : state-of file state ≡ some shown
   pub gives : given answer new-row ≡ row file shown
+
+-- the machine takes the records one after another from the state lent and is never stuck; the call wrote the sheet of these turns, rows of
+-- exactly 80 columns, and no other byte, and answered its length in the 56 bits that an answer has for it
+pub record Sheets (bench state readings cells sheet : List ℕ) (answer : ℕ) (new-sheet : List ℕ) : Type 0 where
+  pub file : File
+  pub before : State
+  pub spots : List Spot
+  pub turns : List Turn
+  pub is-bench : bench-of bench ≡ some file
+  pub is-state : state-of file state ≡ some before
+  pub is-chosen : chosen file cells ≡ some spots
+  pub runs : ref-turns file (header-line (lines readings)) before (record-lines (lines readings)) ≡ running turns
+  pub rows : (r : List ℕ) → List·Memᴰ r (sheet-rows (map is-real-spot spots) (printed-lines spots turns)) → length r ≡ SHEET-COLUMNS
+  pub writes : new-sheet ≡ with-row (day-sheet spots turns) sheet
+  pub counts : answer ≡ length-answer (length (day-sheet spots turns))
 
 -- ---- lines sent again, and rows
 

@@ -1,8 +1,8 @@
 -- Line by line, a replay prints what its definition says.
-use Prim.Native.Nat.{ℕ, _+_, _≤_, _<_}
+use Prim.Native.Nat.{ℕ, _+_, _<_}
 use native.Mathlib.Omega.{arith}
 use mathlib.Core.Path.{_≡_, refl, sym, ap, _∙_}
-use mathlib.Core.List.{List, [], _∷_, _++_, append-assoc, append-nil}
+use mathlib.Core.List.{List, [], _∷_, _++_, flatMap, append-assoc, append-nil}
 use mathlib.Core.Bool.{Bool, true, false}
 use mathlib.Core.Option.{Option, none, some}
 use lib.Dec.{leb}
@@ -16,7 +16,7 @@ use Rattle.cycles.specs.definitions.Cycle.{fresh}
 use Rattle.cycles.specs.definitions.Header.{Column, header}
 use Rattle.cycles.specs.definitions.Record.{record-of}
 use Rattle.cycles.specs.definitions.Line.{or-refused, reading, line}
-use Rattle.cycles.specs.definitions.Readings.{lines, Part-of-line, state-after}
+use Rattle.cycles.specs.definitions.Readings.{lines, Part-of-line, state-after, header-line, record-lines, turns}
 use Rattle.cycles.specs.definitions.Row.{row-header}
 use Rattle.cycles.proofs.laws.ReadingsLaws.{part-take, before, lines-after, before-line, before-none, lines-fed, lines-last}
 use Rattle.replay.specs.definitions.Replay.{refusal, row-for, rows, rows-under, rows-of, replay-by, replay}
@@ -48,26 +48,26 @@ pub nothing-printed : (t : List ℕ) → to-print nothing t ≡ []
 unfolding to-print
 nothing-printed t = nothing-more (lines t)
 
-rows-printed : (f : File) (ns : List ℕ) (s : State) (ls : List (List ℕ)) → prints-lines (values f ns s) ls ≡ rows f ns s ls
-unfolding prints-lines prints prints-at-end awaited-after rows
+rows-printed : (f : File) (ns : List ℕ) (s : State) (ls : List (List ℕ)) → prints-lines (values f ns s) ls ≡ rows f (turns f ns s ls)
+unfolding prints-lines prints prints-at-end awaited-after rows turns flatMap
 rows-printed f ns s [] = refl
 rows-printed f ns s (v ∷ vs) =
-    append-assoc (row-for f s (line f s ns v)) (10 ∷ []) (prints-lines (values f ns (state-after f s (line f s ns v))) vs)
-    ∙ ap (λ (t : List ℕ). row-for f s (line f s ns v) ++ 10 ∷ t) (rows-printed f ns (state-after f s (line f s ns v)) vs)
+    ap (λ (t : List ℕ). (row-for f (line f s ns v) (state-after f s (line f s ns v)) ++ 10 ∷ []) ++ t) (rows-printed f ns (state-after f s (line f s ns v)) vs)
 
 under-printed : (f : File) (ns : List ℕ) (o : Option (List Column)) (ls : List (List ℕ))
     → names-row f o ++ prints-lines (awaited-under f ns o) ls ≡ rows-under f ns o ls
 unfolding names-row awaited-under rows-under
 under-printed f ns none ls = rw (nothing-more ls) (append-nil (refusal 22 ++ 10 ∷ []))
-under-printed f ns (some cs) ls = rw (rows-printed f ns (fresh f) ls) (append-assoc (row-header f) (10 ∷ []) (rows f ns (fresh f) ls))
+under-printed f ns (some cs) ls =
+    rw (rows-printed f ns (fresh f) ls) (append-assoc (row-header f) (10 ∷ []) (rows f (turns f ns (fresh f) ls)))
 
 none-under : (f : File) (o : Option (List Column)) → names-row f o ≡ rows-under f [] o []
-unfolding names-row rows-under rows
+unfolding names-row rows-under rows turns flatMap
 none-under f none = refl
 none-under f (some cs) = refl
 
 bench-printed : (f : File) (ls : List (List ℕ)) → prints-lines (names f) ls ≡ rows-of f ls
-unfolding prints-lines prints-at-end prints awaited-after rows-of
+unfolding prints-lines prints-at-end prints awaited-after rows-of header-line record-lines
 bench-printed f [] = none-under f (header f [])
 bench-printed f (l ∷ ls) = under-printed f l (header f l) ls
 

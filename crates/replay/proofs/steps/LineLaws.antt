@@ -4,13 +4,12 @@ use native.Mathlib.Numerals.{add-one}
 use native.Mathlib.Omega.{arith}
 use mathlib.Core.Path.{_≡_, refl, sym, ap, _∙_, subst}
 use mathlib.Core.List.{List, [], _∷_, _++_, append-assoc, append-nil, map}
-use mathlib.Core.Bool.{Bool, true, false}
 use mathlib.Core.Option.{Option, none, some}
 use lib.ListN.{length, getD, take, drop, set, length-append}
 use lib.Seq.{length-take-le, take-at, take-suc-set, take-append-add, take-append-le, take-append-seam}
 use Rattle.values.specs.definitions.Bytes.{overwritten}
 use Rattle.values.specs.definitions.Forms.{decimal}
-use Rattle.values.proofs.laws.ByteLaws.{overwritten-append, overwritten-parts, length-overwritten}
+use Rattle.values.proofs.laws.ByteLaws.{overwritten-parts}
 use Rattle.text.specs.definitions.Syntax.{File}
 use Rattle.checking.specs.definitions.Verdict.{Verdict, file-verdict}
 use Rattle.checking.proofs.laws.VerdictLaws.{accepted-verdict}
@@ -22,11 +21,13 @@ use Rattle.cycles.specs.contracts.HeaderReads.{MOST-COLUMNS, NO-COLUMN, column-
 use Rattle.cycles.specs.definitions.Line.{line}
 use Rattle.cycles.specs.definitions.Readings.{state-after}
 use Rattle.cycles.specs.definitions.Row.{row-header, row}
-use Rattle.cycles.specs.contracts.RowMemory.{In-front, Header-put}
-use Rattle.cycles.specs.definitions.StateImage.{STATE, is-state, state-of}
-use Rattle.cycles.specs.contracts.StateMemory.{Put}
-use Rattle.cycles.proofs.laws.PutLaws.{put-said, put-next, put-same}
-use Rattle.cycles.proofs.laws.RowPuts.{decimal-most, short-names}
+use Rattle.cycles.specs.contracts.RowMemory.{Header-put}
+use Rattle.cycles.specs.definitions.StateImage.{STATE, state-of}
+use Rattle.values.specs.contracts.Puts.{Put}
+use Rattle.values.proofs.laws.PutLaws.{put-said, put-next, put-same}
+use Rattle.values.proofs.laws.FormLaws.{decimal-most}
+use Rattle.cycles.proofs.laws.RowPuts.{short-names}
+use Rattle.cycles.proofs.laws.ImageLaws.{is-there}
 use Rattle.engine.specs.contracts.LineMemory.{Record-taken, Short-row, after-line}
 use Rattle.engine.specs.definitions.Calls.{line-in-state}
 use Rattle.engine.specs.declared.line.Taken.{Taken}
@@ -186,14 +187,6 @@ module _ (m : Bench-memory) (line columns state out : List ℕ) (used : ℕ) whe
 
 -- ---- a line of values
 
-is-there : (f : File) (m : List ℕ) (s : State) → state-of f m ≡ some s → is-state f m ≡ true
-unfolding state-of
-is-there f m s h = go (is-state f m) refl
-  where
-    go : (t : Bool) → is-state f m ≡ t → is-state f m ≡ true
-    go true e = e
-    go false e = let g : none ≡ some s = rw (e, state-of) at h in let z : _≡_ {A = ℕ} 0 1 = cc in absurd (omega arith)
-
 pub row-short : {r : Taken} (n : ℕ) → Short-row r → r ≡ Row n → n ≤ 32768
 row-short n h e = subst Short-row e h
 
@@ -210,7 +203,7 @@ module _ (m : Bench-memory) (count : ℕ) (line columns state out : List ℕ) (u
     (t : Record-taken (m .classes) (m .literals) (m .d) (m .refs) (m .scopes) columns count line state lent new-state new-row r) where
   module _ (b : Resolved m) (ns : List ℕ) (s : State) (q : At-values m (file-in b) ns s count columns state) where
     is-answer : after-line r new-state new-row ≡ line-in-state (file-in b) (state-of (file-in b) state) state ns line lent
-    is-answer = t .is (m .text) (m .offsets) (m .lengths) b (is-there (file-in b) state s (q .state-is)) ns (q .cs) (q .header-is) (q .columns-are)
+    is-answer = t .is (m .text) (m .offsets) (m .lengths) b (is-there (file-in b) state (q .state-is)) ns (q .cs) (q .header-is) (q .columns-are)
 
     still-there : {new : State} → state-of (file-in b) new-state ≡ some new → At-values m (file-in b) ns new count columns new-state
     still-there e = record {

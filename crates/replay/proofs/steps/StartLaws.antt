@@ -17,9 +17,9 @@ use Rattle.checking.proofs.laws.AcceptedLaws.{within-counts}
 use Rattle.cycles.specs.definitions.Cycle.{fresh}
 use Rattle.cycles.specs.contracts.FreshMemory.{Fresh-put}
 use Rattle.cycles.specs.definitions.StateImage.{STATE, state-of}
-use Rattle.cycles.specs.contracts.StateMemory.{Put}
+use Rattle.values.specs.contracts.Puts.{Put}
 use Rattle.cycles.proofs.laws.ImageLaws.{state-written}
-use Rattle.cycles.proofs.laws.RowPuts.{decimal-most}
+use Rattle.values.proofs.laws.FormLaws.{decimal-most}
 use Rattle.cycles.proofs.laws.SoundCycle.{fresh-sound}
 use Rattle.engine.proofs.laws.ServingLaws.{accepted-says, refused-says}
 use Rattle.replay.specs.definitions.Replay.{refusal, bench-refusal}

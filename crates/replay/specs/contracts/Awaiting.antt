@@ -4,7 +4,7 @@ use Prim.Native.Nat.{ℕ, _≤_, _<_}
 use mathlib.Core.Path.{_≡_}
 use mathlib.Core.List.{List, [], _∷_, _++_, map}
 use mathlib.Core.Option.{Option, none, some}
-use lib.ListN.{length, getD}
+use lib.ListN.{getD}
 use Rattle.text.specs.definitions.Syntax.{File}
 use Rattle.checking.specs.definitions.Verdict.{Verdict}
 use Rattle.cycles.specs.definitions.Store.{State}
@@ -15,7 +15,7 @@ use Rattle.cycles.specs.definitions.Line.{line}
 use Rattle.cycles.specs.definitions.Readings.{lines, state-after}
 use Rattle.cycles.specs.definitions.Row.{row-header}
 use Rattle.cycles.specs.definitions.StateImage.{state-of}
-use Rattle.engine.specs.contracts.LineMemory.{Resolved-bench}
+use Rattle.days.specs.contracts.Advancing.{Resolved-bench}
 use Rattle.replay.specs.definitions.Replay.{refusal, bench-refusal, row-for}
 use Rattle.replay.specs.declared.Stage.{Stage}
 use Rattle.replay.specs.declared.Stage.the-variants.{Names, Values, Closed}
@@ -39,9 +39,9 @@ awaited-under f l none = nothing
 awaited-under f l (some cs) = values f l (fresh f)
 
 unfoldable pub prints : Awaits → List ℕ → List ℕ
-unfolding names-row header row-for line
+unfolding names-row header row-for line state-after
 prints (names f) l = names-row f (header f l)
-prints (values f ns s) l = row-for f s (line f s ns l) ++ 10 ∷ []
+prints (values f ns s) l = row-for f (line f s ns l) (state-after f s (line f s ns l)) ++ 10 ∷ []
 prints nothing l = []
 
 unfoldable pub awaited-after : Awaits → List ℕ → Awaits

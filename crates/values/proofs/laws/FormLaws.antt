@@ -1,7 +1,7 @@
 -- Digits are read as their number; so whole numbers and values are read back from their texts.
 use mathlib.Core.Path.{_≡_, refl, ap, _∙_}
 use mathlib.Core.List.{List, [], _∷_, _++_}
-use mathlib.Core.Bool.{Bool, true, false}
+use mathlib.Core.Bool.{Bool, true, false, cond}
 use Prim.Native.Nat.{ℕ, zero, suc, _+_, _*_, _/_, _%_, _^_, _≤_, _<_}
 use native.Mathlib.Nat.{zero-add, zero-mul, pow-zero, pow-suc, div-add-mod', mod-lt, div-lt-iff-lt-mul, lt-of-lt-of-le}
 use native.Mathlib.Omega.{arith}
@@ -31,6 +31,7 @@ use Rattle.values.specs.definitions.Forms.{
   decimal,
   whole-text,
   printed,
+  dash,
   magnitude,
   event-field,
   read-back,
@@ -213,3 +214,23 @@ value-back Wholes (Whole z) h = whole-back z (ltb→lt (mag z) (2 ^ 31) h)
 value-back Bools (Truth b) h = truth-back b
 value-back Reals (Real (fin s m e)) h = real-back (fin s m e) tt h
 value-back k Unset h = unset-back k
+
+-- ---- lengths of texts
+
+pub decimal-most : (n : ℕ) → length (decimal n) ≤ 10
+decimal-most n = decimal-length 10 n
+
+pub printed-most : (v : Value) → length (printed v) ≤ 16
+printed-most (Whole z) = go z
+  where
+    go : (z : ℤ) → length (whole-text z) ≤ 16
+    go (pos n) = let h = decimal-most n in omega arith
+    go (negsuc n) = let h = decimal-most (suc n) in omega arith
+printed-most (Truth true) = omega arith
+printed-most (Truth false) = omega arith
+printed-most (Real x) = go (isNan x)
+  where
+    go : (t : Bool) → length (cond t dash (hexadecimal 16 (toBits binary64 x))) ≤ 16
+    go true = omega arith
+    go false = omega (arith, hexadecimal-length 16 (toBits binary64 x))
+printed-most Unset = omega arith

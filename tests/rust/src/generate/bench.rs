@@ -2,7 +2,7 @@
 
 use super::prng::Prng;
 use super::quotients;
-use crate::interpreter::grammar::Sort;
+use crate::interpreter::grammar::{Bench, Entity, Interface, Member, Name, Sort};
 use crate::interpreter::value::Kind;
 
 pub const KINDS: [Kind; 3] = [Kind::Whole, Kind::Bool, Kind::Real];
@@ -78,6 +78,24 @@ pub const LARGE: Size = Size { interfaces: 16, members: 4, entities: 32, rules: 
 pub const LOOSE: Size = Size { interfaces: 6, members: 2, entities: 9, rules: 4, clauses: 2, calls: 2, variables: 1 };
 
 impl Plan {
+    /// The plan of a bench that was read, without its words.
+    pub fn of(bench: &Bench) -> Plan {
+        let text = |name: Name| String::from_utf8(name.text.to_vec()).expect("names are ASCII");
+        let member = |member: &Member| PlanMember { sort: member.sort, name: text(member.name), kind: member.kind };
+        let interface =
+            |interface: &Interface| PlanInterface { name: text(interface.name), members: interface.members.iter().map(member).collect() };
+        let number = |name: Name| bench.interfaces.iter().position(|interface| interface.name.text == name.text);
+        let entity = |entity: &Entity| PlanEntity {
+            name: text(entity.name),
+            interface: number(entity.interface).expect("an accepted bench has the interfaces of its entities"),
+        };
+        Plan {
+            interfaces: bench.interfaces.iter().map(interface).collect(),
+            entities: bench.entities.iter().map(entity).collect(),
+            words: Vec::new(),
+        }
+    }
+
     pub fn members(&self, entity: usize) -> &[PlanMember] {
         &self.interfaces[self.entities[entity].interface].members
     }

@@ -1,6 +1,6 @@
 //! A case: one bench text and a list of steps on lent memory.
 
-use crate::image::{BENCH_SIZE, ROW_SIZE, STATE_SIZE};
+use crate::image::{sheet_size, BENCH_SIZE, ROW_SIZE, STATE_SIZE};
 
 /// How many bytes of each memory a call is lent.
 #[derive(Clone, Copy, Debug, PartialEq, Eq)]
@@ -25,6 +25,12 @@ pub enum Call {
         names: Vec<u8>,
         values: Vec<u8>,
     },
+    Sheet {
+        readings: Vec<u8>,
+        cells: Vec<u8>,
+        /// By how many bytes the sheet's memory is longer than its stated size, which follows from the readings; below 0 it is shorter.
+        over: isize,
+    },
     /// Not a call: writes these bytes to the bench's memory on both sides.
     SetBench {
         at: usize,
@@ -41,6 +47,16 @@ pub enum Call {
 pub struct Step {
     pub call: Call,
     pub lent: Lent,
+}
+
+impl Step {
+    /// How many bytes of a sheet's memory the call is lent; none if it writes no sheet.
+    pub fn lent_sheet(&self) -> usize {
+        match &self.call {
+            Call::Sheet { readings, over, .. } => sheet_size(readings).saturating_add_signed(*over),
+            _ => 0,
+        }
+    }
 }
 
 #[derive(Clone, Debug, PartialEq, Eq)]

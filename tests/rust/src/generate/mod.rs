@@ -1,13 +1,16 @@
-//! Seeded cases: valid benches and readings, damage in every way of document 01's table, limits, random bytes.
+//! Seeded cases: valid benches and readings, damage in every way of document 01's table, limits, random bytes; sheets in between.
 
 pub mod bench;
 pub mod case;
+pub mod cells;
 pub mod damage;
+pub mod days;
 pub mod limits;
 pub mod lines;
 pub mod prng;
 pub mod quotients;
 pub mod run;
+pub mod sheets;
 pub mod states;
 
 use bench::{Size, LARGE, LOOSE, SMALL};
@@ -17,8 +20,18 @@ use run::Run;
 
 use crate::image::BENCH_SIZE;
 
+/// Sheets are drawn from a source of their own, so that the other steps of a case stay what they are without them.
+const SHEETS: u64 = 0x0073_6865_6574_0000;
+
 /// The case of this number.
 pub fn case(seed: u64, number: u64) -> Case {
+    let mut case = without_sheets(seed, number);
+    sheets::put_in(&mut Prng::for_case(seed ^ SHEETS, number), &mut case);
+    case
+}
+
+/// The same case without its sheets.
+pub fn without_sheets(seed: u64, number: u64) -> Case {
     let mut prng = Prng::for_case(seed, number);
     let prng = &mut prng;
     let (text, calls) = match prng.weighted(&[40, 22, 7, 5, 3, 5, 10, 4, 4]) {

@@ -25,6 +25,11 @@ impl<'p> Run<'p> {
         Run { plan, columns, present: vec![true; plan.entities.len()], number: 0, last: Line::default() }
     }
 
+    /// A run in mid course: its last line stands in its columns.
+    pub fn resume(plan: &'p Plan, columns: Vec<Column>, present: Vec<bool>, number: u64, last: Line) -> Run<'p> {
+        Run { plan, columns, present, number, last }
+    }
+
     pub fn restart(&mut self) {
         self.present.fill(true);
         self.number = 0;
@@ -71,6 +76,18 @@ impl<'p> Run<'p> {
         self.last = lines::line_switching(prng, self.plan, &self.columns, &mut self.present, to_switch);
         self.number += 1;
         self.lent(&self.last, self.number)
+    }
+
+    /// Takes a line for the next one; gives its values.
+    pub fn go_on(&mut self, line: Line) -> Vec<u8> {
+        self.last = line;
+        self.number += 1;
+        self.again()
+    }
+
+    /// The values of the last line.
+    pub fn again(&self) -> Vec<u8> {
+        self.last.values(self.number)
     }
 
     /// A valid line that the run does not go on with.

@@ -158,7 +158,8 @@ pub fn resend(prng: &mut Prng, plan: &Plan, text: &[u8], written: Option<&Call>)
     Some(Call::Line { names: line.names(plan), values: line.values(u64::from(state.number)) })
 }
 
-fn last_line(state: &State) -> Line {
+/// The line that a state says was its last.
+pub fn last_line(state: &State) -> Line {
     let mut line = Line::default();
     for (entity, presence) in state.last.presence.iter().enumerate() {
         line.columns.push(Column::Presence(entity));

@@ -22,6 +22,11 @@ pub enum Taken {
     Next(State),
 }
 
+/// The lines of a file: a last line feed closes the last line and opens none.
+pub fn lines(file: &[u8]) -> impl Iterator<Item = &[u8]> {
+    file.strip_suffix(b"\n").unwrap_or(file).split(|&byte| byte == b'\n')
+}
+
 /// Takes a line, or gives the refusal's number.
 pub fn take(bench: &Bench, state: &State, names: &[u8], values: &[u8]) -> Result<Taken, u8> {
     let columns = columns(bench, names).ok_or(22)?;

@@ -39,7 +39,7 @@ pub struct State {
 
 impl Store {
     /// While absent, an entity's every member reads unset.
-    fn read(&self, entity: usize, member: usize) -> Cell {
+    pub fn read(&self, entity: usize, member: usize) -> Cell {
         if self.present[entity] {
             self.cells[entity][member]
         } else {

@@ -1,11 +1,12 @@
 //! The interpreter: each file is one part of document 01. Order 1 of document 02 changes one of them, the machine; order 2 another, the
-//! values.
+//! values; order 3 adds one, the day sheet.
 
 pub mod check;
 pub mod grammar;
 pub mod line;
 pub mod machine;
 pub mod row;
+pub mod sheet;
 pub mod text;
 pub mod value;
 

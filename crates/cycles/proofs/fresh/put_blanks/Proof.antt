@@ -4,9 +4,10 @@ use native.Mathlib.Omega.{arith}
 use mathlib.Core.Path.{_≡_}
 use mathlib.Core.List.{_∷_}
 use Rattle.values.specs.definitions.Bytes.{low-first}
-use Rattle.cycles.specs.contracts.StateMemory.{Put}
+use Rattle.values.specs.contracts.Puts.{Put}
 use Rattle.cycles.specs.contracts.FreshMemory.{blanks-of}
-use Rattle.cycles.proofs.laws.PutLaws.{put-length, put-no-piece, put-piece}
+use Rattle.values.proofs.laws.PutLaws.{put-length}
+use Rattle.cycles.proofs.laws.PutLaws.{put-no-piece, put-piece}
 use borrow.Author.Needs.{needs}
 use Rattle.cycles.proofs.fresh.put_blanks.Statement.{statement}
 use Rattle.cycles.proofs.fresh.put_blanks.Tie as tie

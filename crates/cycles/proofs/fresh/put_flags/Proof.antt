@@ -2,9 +2,9 @@
 use Prim.Native.Nat.{_+_, _-_, _≤_}
 use native.Mathlib.Omega.{arith}
 use mathlib.Core.Path.{_≡_, refl}
-use Rattle.cycles.specs.contracts.StateMemory.{Put}
+use Rattle.values.specs.contracts.Puts.{Put}
 use Rattle.cycles.specs.contracts.FreshMemory.{flags-of}
-use Rattle.cycles.proofs.laws.PutLaws.{put-length}
+use Rattle.values.proofs.laws.PutLaws.{put-length}
 use Rattle.cycles.proofs.steps.FreshImage.{flags-begin, flags-next}
 use borrow.Author.Needs.{needs}
 use Rattle.cycles.proofs.fresh.put_flags.Statement.{statement}

@@ -2,7 +2,7 @@
 use native.Mathlib.Omega.{arith}
 use mathlib.Core.Path.{refl}
 use Rattle.values.specs.definitions.Bytes.{low-first}
-use Rattle.cycles.proofs.laws.PutLaws.{put-said, put-next}
+use Rattle.values.proofs.laws.PutLaws.{put-said, put-next}
 use borrow.Author.Needs.{needs}
 use Rattle.cycles.proofs.fresh.put_fresh_flags.Statement.{statement}
 use Rattle.cycles.proofs.fresh.put_fresh_flags.Tie as tie

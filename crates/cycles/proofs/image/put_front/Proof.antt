@@ -1,7 +1,7 @@
 -- `put_front` meets its contract.
 use native.Mathlib.Omega.{arith}
 use lib.ListN.{length-take}
-use Rattle.cycles.proofs.laws.PutLaws.{put-front}
+use Rattle.values.proofs.laws.PutLaws.{put-front}
 use borrow.Author.Needs.{needs}
 use Rattle.cycles.proofs.image.put_front.Statement.{statement}
 use Rattle.cycles.proofs.image.put_front.Tie as tie

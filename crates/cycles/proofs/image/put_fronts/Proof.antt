@@ -1,6 +1,6 @@
 -- `put_fronts` meets its contract.
 use native.Mathlib.Omega.{arith}
-use Rattle.cycles.proofs.laws.PutLaws.{put-next}
+use Rattle.values.proofs.laws.PutLaws.{put-next}
 use borrow.Author.Needs.{needs}
 use Rattle.cycles.proofs.image.put_fronts.Statement.{statement}
 use Rattle.cycles.proofs.image.put_fronts.Tie as tie

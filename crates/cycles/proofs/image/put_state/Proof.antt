@@ -2,7 +2,7 @@
 use native.Mathlib.Omega.{arith}
 use mathlib.Core.Path.{refl}
 use Rattle.values.specs.definitions.Bytes.{low-first}
-use Rattle.cycles.proofs.laws.PutLaws.{put-said, put-next, put-same}
+use Rattle.values.proofs.laws.PutLaws.{put-said, put-next, put-same}
 use Rattle.cycles.proofs.laws.GatheredLaws.{gathered-parts, gathered-put}
 use borrow.Author.Needs.{needs}
 use Rattle.cycles.proofs.image.put_state.Statement.{statement}

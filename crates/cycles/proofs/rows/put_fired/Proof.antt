@@ -3,7 +3,8 @@ use native.Mathlib.Omega.{arith}
 use mathlib.Core.Path.{_∙_}
 use lib.ListN.{length-set}
 use borrow.Author.Tests.{not-true, not-false}
-use Rattle.cycles.proofs.laws.RowPuts.{printed-most, fired-none, fired-put}
+use Rattle.values.proofs.laws.FormLaws.{printed-most}
+use Rattle.cycles.proofs.laws.RowPuts.{fired-none, fired-put}
 use borrow.Author.Needs.{needs}
 use Rattle.cycles.proofs.rows.put_fired.Statement.{statement}
 use Rattle.cycles.proofs.rows.put_fired.Tie as tie

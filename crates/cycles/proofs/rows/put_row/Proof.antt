@@ -2,7 +2,8 @@
 use Prim.Native.Nat.{_-_, _≤_}
 use native.Mathlib.Omega.{arith}
 use mathlib.Core.Path.{_∙_}
-use Rattle.cycles.proofs.laws.RowPuts.{decimal-most, Fired-so-far, fired-begin, fired-next, row-impossible, row-end}
+use Rattle.values.proofs.laws.FormLaws.{decimal-most}
+use Rattle.cycles.proofs.laws.RowPuts.{Fired-so-far, fired-begin, fired-next, row-impossible, row-end}
 use borrow.Author.Needs.{needs}
 use Rattle.cycles.proofs.rows.put_row.Statement.{statement}
 use Rattle.cycles.proofs.rows.put_row.Tie as tie

@@ -1,64 +1,81 @@
--- `take_record` meets its contract.
-use Rattle.engine.proofs.laws.LineLaws.{record-refused, record-settled}
+-- `take_record` meets its contract: the row after the state is moved on.
+use native.Mathlib.Omega.{arith}
+use Rattle.engine.proofs.laws.LineLaws.{record-refused, record-resent, record-new}
 use borrow.Author.Needs.{needs}
 use Rattle.engine.proofs.line.take_record.Statement.{statement}
 use Rattle.engine.proofs.line.take_record.Tie as tie
 use Rattle.engine.proofs.line.take_record.Reads as reads
 use Rattle.engine.proofs.line.take_record.Lts as lts
-use Rattle.cycles.proofs.lines.read_record.Reads as read-record-reads
-use Rattle.engine.proofs.line.settle.Reads as settle-reads
+use Rattle.days.proofs.record.advance.Reads as advance-reads
+use Rattle.engine.proofs.line.show.Reads as show-reads
 
-slice-aggregate-read-record : tie.Need-slice-aggregate-read-record
-slice-aggregate-read-record c = search needs
+advance-requires : tie.Need-advance-requires
+advance-requires c κs = search needs
 
-slice-aggregate-read-record-2 : tie.Need-slice-aggregate-read-record-2
-slice-aggregate-read-record-2 c = search needs
+enum-known-judgement : tie.Need-enum-known-judgement
+enum-known-judgement c = search needs
 
-read-record-requires : tie.Need-read-record-requires
-read-record-requires c κs = search needs
+enum-told : tie.Need-enum-told
+enum-told c = search needs
 
-enum-known-reading : tie.Need-enum-known-reading
-enum-known-reading c = search needs
+show-requires : tie.Need-show-requires
+show-requires c κs =
+    let kept = c .before .before .before .before .before .before .advance .kept .1 .1 .1 .1 .1 .1 .1 .1 .0 in
+    let pre = c .before .before .before .before .before .before .before .before .before .before .before .before .before .before .before .before .before .pre in
+    (omega arith, omega arith)
 
-enum-known-reading-2 : tie.Need-enum-known-reading-2
-enum-known-reading-2 c = search needs
+enum-told-2 : tie.Need-enum-told-2
+enum-told-2 c = search needs
 
-slice-aggregate-settle : tie.Need-slice-aggregate-settle
-slice-aggregate-settle c = search needs
-
-slice-aggregate-settle-2 : tie.Need-slice-aggregate-settle-2
-slice-aggregate-settle-2 c = search needs
-
-settle-requires : tie.Need-settle-requires
-settle-requires c κs = search needs
-
-returns : tie.Need-returns
-returns c =
-    record-refused (c .before .before .before .before .before .read-record .ensures) (c .before .reading .given .1)
+show-requires-2 : tie.Need-show-requires-2
+show-requires-2 c κs =
+    let kept = c .before .before .before .before .before .before .advance .kept .1 .1 .1 .1 .1 .1 .1 .1 .0 in
+    let pre = c .before .before .before .before .before .before .before .before .before .before .before .before .before .before .before .before .before .pre in
+    (omega arith, omega arith)
 
 same-length : tie.Need-same-length
 same-length c = search needs
 
+returns : tie.Need-returns
+returns c = record-refused (c .before .before .before .before .before .advance .ensures) (c .before .judgement .given .1)
+
 same-length-2 : tie.Need-same-length-2
 same-length-2 c = search needs
 
+same-length-3 : tie.Need-same-length-3
+same-length-3 c = search needs
+
 returns-2 : tie.Need-returns-2
 returns-2 c =
-    record-settled (c .before .before .before .before .before .before .before .before .before .before .before .before .before .before .read-record .ensures) (c .before .before .before .before .before .before .before .before .before .before .reading2 .given .1) (c .before .before .before .before .settle .ensures)
+    record-resent (c .before .before .before .before .before .before .before .before .before .advance .ensures) (omega (arith, c .before .before .before .before .before .before .before .before .before .before .before .before .before .before .before .before .before .before .before .before .pre))
+    (c .before .before .show .ensures) (c .before .before .before .before .before .enum-told .given .1)
+
+same-length-4 : tie.Need-same-length-4
+same-length-4 c = search needs
+
+same-length-5 : tie.Need-same-length-5
+same-length-5 c = search needs
+
+returns-3 : tie.Need-returns-3
+returns-3 c =
+    record-new (c .before .before .before .before .before .before .before .before .before .advance .ensures) (omega (arith, c .before .before .before .before .before .before .before .before .before .before .before .before .before .before .before .before .before .before .before .before .pre))
+    (c .before .before .show2 .ensures) (c .before .before .before .before .before .enum-told2 .given .1)
 
 pub take-record-spec : {M : Type 1} → statement M
 take-record-spec =
     tie.close
     (tie.spec
-    slice-aggregate-read-record
-    slice-aggregate-read-record-2
-    read-record-requires
-    enum-known-reading
-    enum-known-reading-2
-    slice-aggregate-settle
-    slice-aggregate-settle-2
-    settle-requires
-    returns
+    advance-requires
+    enum-known-judgement
+    enum-told
+    show-requires
+    enum-told-2
+    show-requires-2
     same-length
+    returns
     same-length-2
-    returns-2)
+    same-length-3
+    returns-2
+    same-length-4
+    same-length-5
+    returns-3)

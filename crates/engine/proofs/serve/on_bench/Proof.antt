@@ -1,19 +1,21 @@
 use borrow.Author.Tests.{not-true, not-false}
-use Rattle.engine.proofs.laws.ServingLaws.{room-of, serves-as, check-served, fresh-served, line-served, header-served, row-no-state, row-served}
+use Rattle.engine.proofs.laws.ServingLaws.{room-of, serves-as, check-served, fresh-served, line-served, header-served, row-no-state, row-served, sheet-served}
 use borrow.Author.Needs.{needs}
 use Rattle.engine.proofs.serve.on_bench.Statement.{statement}
 use Rattle.engine.proofs.serve.on_bench.Tie as tie
 use Rattle.engine.proofs.serve.on_bench.Reads as reads
 use Rattle.engine.proofs.serve.on_bench.Lts as lts
 use Rattle.checking.proofs.resolve.Reads as resolve-reads
-use Rattle.cycles.proofs.is_state.Reads as is-state-reads
 use Rattle.cycles.proofs.put_fresh.Reads as put-fresh-reads
+use Rattle.cycles.proofs.is_state.Reads as is-state-reads
 use Rattle.cycles.proofs.put_row_header.Reads as put-row-header-reads
+use Rattle.days.proofs.sheet.put_sheet.Reads as put-sheet-reads
 use Rattle.engine.proofs.bench.put_bench.Reads as put-bench-reads
 use Rattle.engine.proofs.line.show.Reads as show-reads
 use Rattle.engine.proofs.line.take_line.Reads as take-line-reads
 use Rattle.engine.proofs.serve.answer.Reads as answer-reads
 use Rattle.engine.proofs.serve.row_answer.Reads as row-answer-reads
+use Rattle.engine.proofs.serve.sheet_answer.Reads as sheet-answer-reads
 
 enum-told : tie.Need-enum-told
 enum-told c = search needs
@@ -22,7 +24,7 @@ put-bench-requires : tie.Need-put-bench-requires
 put-bench-requires c κs =
     let pre₀ = c .before .before .before .before .before .before .before .before .before .before .before .before .before .before .before .before .pre in
     let enum-told₀ = c .before .enum-told in
-    (pre₀ .0, room-of _ _ _ (enum-told₀ .given .1) (pre₀ .1 .1))
+    (pre₀ .0, room-of _ _ _ _ (enum-told₀ .given .1) (pre₀ .1 .1))
 
 enum-told-2 : tie.Need-enum-told-2
 enum-told-2 c = search needs
@@ -31,7 +33,7 @@ put-fresh-requires : tie.Need-put-fresh-requires
 put-fresh-requires c κs =
     let enum-told2₀ = c .before .enum-told2 in
     let pre₀ = c .before .before .before .before .before .before .before .before .before .before .before .before .before .before .before .before .pre in
-    room-of _ _ _ (enum-told2₀ .given .1) (pre₀ .1 .1)
+    room-of _ _ _ _ (enum-told2₀ .given .1) (pre₀ .1 .1)
 
 enum-told-3 : tie.Need-enum-told-3
 enum-told-3 c = search needs
@@ -43,7 +45,7 @@ take-line-requires : tie.Need-take-line-requires
 take-line-requires c κs =
     let enum-told3₀ = c .before .before .before .before .before .before .before .before .before .before .before .enum-told3 in
     let pre₀ = c .before .before .before .before .before .before .before .before .before .before .before .before .before .before .before .before .before .before .before .before .before .before .before .before .before .before .pre in
-    room-of _ _ _ (enum-told3₀ .given .1) (pre₀ .1 .1)
+    room-of _ _ _ _ (enum-told3₀ .given .1) (pre₀ .1 .1)
 
 answer-requires : tie.Need-answer-requires
 answer-requires c κs =
@@ -57,7 +59,7 @@ put-row-header-requires : tie.Need-put-row-header-requires
 put-row-header-requires c κs =
     let enum-told4₀ = c .before .enum-told4 in
     let pre₀ = c .before .before .before .before .before .before .before .before .before .before .before .before .before .before .before .before .pre in
-    room-of _ _ _ (enum-told4₀ .given .1) (pre₀ .1 .1)
+    room-of _ _ _ _ (enum-told4₀ .given .1) (pre₀ .1 .1)
 
 row-answer-requires : tie.Need-row-answer-requires
 row-answer-requires c κs = search needs
@@ -69,7 +71,7 @@ is-state-requires : tie.Need-is-state-requires
 is-state-requires c κs =
     let enum-told5₀ = c .enum-told5 in
     let pre₀ = c .before .before .before .before .before .before .before .before .before .before .before .before .before .before .before .pre in
-    room-of _ _ _ (enum-told5₀ .given .1) (pre₀ .1 .1) .0
+    room-of _ _ _ _ (enum-told5₀ .given .1) (pre₀ .1 .1) .0
 
 returns : tie.Need-returns
 returns c =
@@ -82,10 +84,22 @@ show-requires : tie.Need-show-requires
 show-requires c κs =
     let enum-told5₀ = c .before .before .before .enum-told5 in
     let pre₀ = c .before .before .before .before .before .before .before .before .before .before .before .before .before .before .before .before .before .before .pre in
-    room-of _ _ _ (enum-told5₀ .given .1) (pre₀ .1 .1)
+    room-of _ _ _ _ (enum-told5₀ .given .1) (pre₀ .1 .1)
 
 row-answer-requires-2 : tie.Need-row-answer-requires-2
 row-answer-requires-2 c κs = search needs
+
+enum-told-6 : tie.Need-enum-told-6
+enum-told-6 c = search needs
+
+resolve-requires-2 : tie.Need-resolve-requires-2
+resolve-requires-2 c κs = search needs
+
+put-sheet-requires : tie.Need-put-sheet-requires
+put-sheet-requires c κs = room-of _ _ _ _ (c .before .before .before .before .before .before .before .before .before .before .enum-told6 .given .1) (c .before .before .before .before .before .before .before .before .before .before .before .before .before .before .before .before .before .before .before .before .before .before .before .before .before .pre .1 .1)
+
+sheet-answer-requires : tie.Need-sheet-answer-requires
+sheet-answer-requires c κs = search needs
 
 same-length : tie.Need-same-length
 same-length c = search needs
@@ -147,6 +161,18 @@ returns-6 c =
     let row-answer2₀ = c .row-answer2 in
     serves-as (enum-told5₀ .given .1) (row-served (is-state₀ .ensures) (not-false _ (if1₀ .left)) (show₀ .ensures) (row-answer2₀ .ensures (show₀ .ensures .short)))
 
+same-length-9 : tie.Need-same-length-9
+same-length-9 c = search needs
+
+same-length-10 : tie.Need-same-length-10
+same-length-10 c = search needs
+
+same-length-11 : tie.Need-same-length-11
+same-length-11 c = search needs
+
+returns-7 : tie.Need-returns-7
+returns-7 c = serves-as (c .before .before .before .before .before .before .before .before .before .before .before .before .before .before .enum-told6 .given .1) (sheet-served (c .before .before .before .before .before .before .before .before .before .before .before .resolve2 .ensures) (c .before .before .before .put-sheet .ensures) (c .sheet-answer .ensures))
+
 pub on-bench-spec : {M : Type 1} → statement M
 on-bench-spec =
     tie.close
@@ -167,6 +193,10 @@ on-bench-spec =
     returns
     show-requires
     row-answer-requires-2
+    enum-told-6
+    resolve-requires-2
+    put-sheet-requires
+    sheet-answer-requires
     same-length
     returns-2
     same-length-2
@@ -179,4 +209,8 @@ on-bench-spec =
     same-length-7
     returns-5
     same-length-8
-    returns-6)
+    returns-6
+    same-length-9
+    same-length-10
+    same-length-11
+    returns-7)

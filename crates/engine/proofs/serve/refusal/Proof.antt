@@ -25,6 +25,9 @@ enum-told-4 c = search needs
 enum-told-5 : tie.Need-enum-told-5
 enum-told-5 c = search needs
 
+enum-told-6 : tie.Need-enum-told-6
+enum-told-6 c = search needs
+
 returns : tie.Need-returns
 unfolding refusal checked-answer
 returns c =
@@ -56,6 +59,12 @@ returns-5 c =
     let enum-told5₀ = c .enum-told5 in
     rw (enum-told5₀ .given .1)
 
+returns-6 : tie.Need-returns-6
+unfolding refusal
+returns-6 c =
+    let enum-told6₀ = c .enum-told6 in
+    rw (enum-told6₀ .given .1)
+
 pub refusal-spec : {M : Type 1} → statement M
 refusal-spec =
     tie.close
@@ -66,8 +75,10 @@ refusal-spec =
     enum-told-3
     enum-told-4
     enum-told-5
+    enum-told-6
     returns
     returns-2
     returns-3
     returns-4
-    returns-5)
+    returns-5
+    returns-6)

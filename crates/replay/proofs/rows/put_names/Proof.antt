@@ -2,7 +2,7 @@
 use native.Mathlib.Omega.{arith}
 use lib.ListN.{length-set}
 use mathlib.Core.List.{[], _∷_}
-use Rattle.cycles.proofs.laws.PutLaws.{put-said, put-next}
+use Rattle.values.proofs.laws.PutLaws.{put-said, put-next}
 use Rattle.replay.proofs.steps.LineLaws.{refusal-most, names-refused-put, names-short, names-put}
 use borrow.Author.Needs.{needs}
 use Rattle.replay.proofs.rows.put_names.Statement.{statement}

@@ -1,6 +1,6 @@
 -- `put_refusal` meets its contract.
 use native.Mathlib.Omega.{arith}
-use Rattle.cycles.proofs.laws.RowPuts.{decimal-most}
+use Rattle.values.proofs.laws.FormLaws.{decimal-most}
 use Rattle.replay.proofs.steps.LineLaws.{refusal-put}
 use borrow.Author.Needs.{needs}
 use Rattle.replay.proofs.rows.put_refusal.Statement.{statement}

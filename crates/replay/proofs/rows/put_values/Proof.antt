@@ -3,7 +3,7 @@ use native.Mathlib.Omega.{arith}
 use mathlib.Core.Path.{_∙_}
 use lib.ListN.{length-set}
 use mathlib.Core.List.{[], _∷_}
-use Rattle.cycles.proofs.laws.PutLaws.{put-said, put-next}
+use Rattle.values.proofs.laws.PutLaws.{put-said, put-next}
 use Rattle.replay.proofs.steps.LineLaws.{refusal-most, values-known, row-short, row-put, refused-put}
 use borrow.Author.Needs.{needs}
 use Rattle.replay.proofs.rows.put_values.Statement.{statement}

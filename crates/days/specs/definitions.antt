@@ -1,0 +1,4 @@
+-- What the documents speak of: the definitions that a reader has to believe.
+pub mod Chosen
+pub mod ReferenceDay
+pub mod DaySheet

@@ -1,0 +1,1 @@
+// Day sheets of stored texts, computed by the definitions.
