@@ -11,6 +11,8 @@ import subprocess
 import sys
 from itertools import zip_longest
 
+from cpu import cpu_seconds, short
+
 BEFORE = "runner before"
 tests, folder, runner, second, calls, second_calls = (os.path.abspath(path) for path in sys.argv[1:7])
 rounds = int(sys.argv[7]) if len(sys.argv) > 7 else 7
@@ -58,21 +60,6 @@ def rows(command, cwd):
 def unlike(given, expected):
     """How many rows are not the same."""
     return sum(one != other for one, other in zip_longest(given.split(b"\n"), expected.split(b"\n")))
-
-
-def cpu_seconds(command, cwd):
-    """User and system time of one run that prints to nowhere."""
-    process = subprocess.Popen(command, cwd=cwd, stdin=subprocess.DEVNULL, stdout=subprocess.DEVNULL)
-    _, status, usage = os.wait4(process.pid, 0)
-    process.returncode = os.waitstatus_to_exitcode(status)
-    if process.returncode != 0:
-        sys.exit(f"{command[0]} ended with status {process.returncode}")
-    return usage.ru_utime + usage.ru_stime
-
-
-def short(number):
-    """Three digits, or all before the point."""
-    return f"{number:.3g}" if number < 1000 else f"{number:.0f}"
 
 
 def call_times():

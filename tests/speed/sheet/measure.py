@@ -4,7 +4,8 @@ import statistics
 import subprocess
 import sys
 
-from make_days import CELLS, COUNTS, SMALL
+from make_days import CELLS, COUNTS, SMALL  # makes the folder of tests/speed/lines known too
+from cpu import cpu_seconds, short
 
 folder, oracle, runner, sheet = (os.path.abspath(path) for path in sys.argv[1:5])
 rounds = int(sys.argv[5]) if len(sys.argv) > 5 else 7
@@ -27,16 +28,6 @@ def check_small(bench):
             sys.exit(f"{bench}: the {what} of {SMALL} lines are not those of {oracle}")
 
 
-def cpu_seconds(command, cwd):
-    """User and system time of one run that prints to nowhere."""
-    process = subprocess.Popen(command, cwd=cwd, stdin=subprocess.DEVNULL, stdout=subprocess.DEVNULL)
-    _, status, usage = os.wait4(process.pid, 0)
-    process.returncode = os.waitstatus_to_exitcode(status)
-    if process.returncode != 0:
-        sys.exit(f"{command[0]} ended with status {process.returncode}")
-    return usage.ru_utime + usage.ru_stime
-
-
 def times(bench):
     """For each count the seconds of rows and sheet, round by round; in a round every count is measured, rows and sheet in turn."""
     counts = [count for count in COUNTS if count != SMALL]
@@ -50,11 +41,6 @@ def times(bench):
 
 def spread(numbers):
     return f"{short(statistics.median(numbers))} | {short(min(numbers))} to {short(max(numbers))}"
-
-
-def short(number):
-    """Three digits, or all before the point."""
-    return f"{number:.3g}" if number < 1000 else f"{number:.0f}"
 
 
 def main():
