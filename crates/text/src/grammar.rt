@@ -9,7 +9,7 @@ ghost use Rattle.text.specs.definitions.Grammar.{kind-reader, member-aft
 ghost use Rattle.text.specs.definitions.Grammar.{assignment-after, entity-after, member-reader, factor-reader, opener-reader, term-reader};
 ghost use Rattle.text.specs.definitions.Grammar.{expression-reader, target-reader, filter-reader, test-reader, clause-reader, atom-reader};
 ghost use Rattle.text.specs.definitions.Grammar.{conjunction-reader, condition-reader, call-reader, call-after, rule-after, file-reader};
-ghost use Rattle.text.specs.contracts.ParseAnswers.{Reads-as, any-token, refused-at, Parses-as};
+ghost use Rattle.text.specs.contracts.ParseAnswers.{parsed-of, Reads-from, any-token, refused-at, Parses-as};
 ghost use Rattle.text.specs.contracts.ParseAnswers.{classes-from, first-class, first-passes, is-class, is-either, is-unsigned};
 use crate::classes::ACTION;
 use crate::classes::AND;
@@ -51,11 +51,10 @@ use crate::classes::WITH;
 // How many openers may enclose one another.
 pub const OPENERS: u32 = 16;
 
-// Where a reading ended: the index of the next token, or of the first that fits nothing.
-pub enum Parsed {
-    Next(usize),
-    Refused(usize),
-}
+// Where a reading ended is one number, a position: below REFUSED the index of the next token, from there on REFUSED plus the index of the first
+// token that fits nothing. No slice has so many bytes: a refused position lies behind every column, and one test tells that no token is left.
+// An enum of the two goes through memory at every call here, and the parser waits for it: tests/speed/text measures the time.
+pub const REFUSED: usize = 9223372036854775808;
 
 // What all tokens are: a file, or unfit from this one on (their count, if they end early).
 pub enum Parsing {
@@ -64,40 +63,31 @@ pub enum Parsing {
 }
 
 // The next token's class; 255, which is no class, where none comes.
-fn next_class(classes: &[u8], from: Parsed) -> u8
-    ensures { λ r. ⌜ r ≡ first-class (classes-from (now (classes .entry)) from) ⌝ }
+fn next_class(classes: &[u8], from: usize) -> u8
+    ensures { λ r. ⌜ r ≡ first-class (classes-from (now (classes .entry)) (parsed-of from)) ⌝ }
 {
-    let Parsed::Next(at) = from else {
-        return 255;
-    };
-    if classes.len() <= at {
+    if classes.len() <= from {
         return 255;
     }
-    classes[at]
+    classes[from]
 }
 
-fn next_is(classes: &[u8], from: Parsed, class: u8) -> bool
-    ensures { λ r. ⌜ r ≡ first-passes (is-class class) (classes-from (now (classes .entry)) from) ⌝ }
+fn next_is(classes: &[u8], from: usize, class: u8) -> bool
+    ensures { λ r. ⌜ r ≡ first-passes (is-class class) (classes-from (now (classes .entry)) (parsed-of from)) ⌝ }
 {
-    let Parsed::Next(at) = from else {
-        return false;
-    };
-    if classes.len() <= at {
+    if classes.len() <= from {
         return false;
     }
-    classes[at] == class
+    classes[from] == class
 }
 
-fn next_is_either(classes: &[u8], from: Parsed, class: u8, other: u8) -> bool
-    ensures { λ r. ⌜ r ≡ first-passes (is-either class other) (classes-from (now (classes .entry)) from) ⌝ }
+fn next_is_either(classes: &[u8], from: usize, class: u8, other: u8) -> bool
+    ensures { λ r. ⌜ r ≡ first-passes (is-either class other) (classes-from (now (classes .entry)) (parsed-of from)) ⌝ }
 {
-    let Parsed::Next(at) = from else {
-        return false;
-    };
-    if classes.len() <= at {
+    if classes.len() <= from {
         return false;
     }
-    let found = classes[at];
+    let found = classes[from];
     if found == class {
         return true;
     }
@@ -105,44 +95,39 @@ fn next_is_either(classes: &[u8], from: Parsed, class: u8, other: u8) -> bool
 }
 
 // Whichever token comes next.
-fn any_token(classes: &[u8], from: Parsed) -> Parsed
-    ensures { λ r. ⌜ Reads-as (now (classes .entry)) any-token from r ⌝ }
+fn any_token(classes: &[u8], from: usize) -> usize
+    ensures { λ r. ⌜ Reads-from (now (classes .entry)) any-token from r ⌝ }
 {
-    let Parsed::Next(at) = from else {
-        return from;
-    };
-    if classes.len() <= at {
-        return Parsed::Refused(at);
+    if classes.len() <= from {
+        return refused(from);
     }
-    Parsed::Next(at + 1)
+    from + 1
 }
 
-fn token(classes: &[u8], from: Parsed, class: u8) -> Parsed
-    ensures { λ r. ⌜ Reads-as (now (classes .entry)) (expect class give) from r ⌝ }
+fn token(classes: &[u8], from: usize, class: u8) -> usize
+    ensures { λ r. ⌜ Reads-from (now (classes .entry)) (expect class give) from r ⌝ }
 {
-    let Parsed::Next(at) = from else {
-        return from;
-    };
-    if classes.len() <= at {
-        return Parsed::Refused(at);
+    if classes.len() <= from {
+        return refused(from);
     }
-    if classes[at] != class {
-        return Parsed::Refused(at);
+    if classes[from] != class {
+        return refused(from);
     }
-    Parsed::Next(at + 1)
+    from + 1
 }
 
-fn refused(from: Parsed) -> Parsed
-    ensures { λ r. ⌜ r ≡ refused-at from ⌝ }
+// No token fits there; what was refused stays so.
+fn refused(from: usize) -> usize
+    ensures { λ r. ⌜ parsed-of r ≡ refused-at (parsed-of from) ⌝ }
 {
-    let Parsed::Next(at) = from else {
+    if REFUSED <= from {
         return from;
-    };
-    Parsed::Refused(at)
+    }
+    from + REFUSED
 }
 
-fn kind(classes: &[u8], from: Parsed) -> Parsed
-    ensures { λ r. ⌜ Reads-as (now (classes .entry)) kind-reader from r ⌝ }
+fn kind(classes: &[u8], from: usize) -> usize
+    ensures { λ r. ⌜ Reads-from (now (classes .entry)) kind-reader from r ⌝ }
 {
     let class = next_class(classes, from);
     if class == WHOLE {
@@ -155,8 +140,8 @@ fn kind(classes: &[u8], from: Parsed) -> Parsed
 }
 
 // After `attribute` or `event`: name `:` kind.
-fn member(classes: &[u8], from: Parsed) -> Parsed
-    ensures { λ r. ⌜ ((s : Sort) (start : Token) → Reads-as (now (classes .entry)) (member-after s start) from r) ⌝ }
+fn member(classes: &[u8], from: usize) -> usize
+    ensures { λ r. ⌜ ((s : Sort) (start : Token) → Reads-from (now (classes .entry)) (member-after s start) from r) ⌝ }
 {
     let name = token(classes, from, NAME);
     let colon = token(classes, name, COLON);
@@ -164,8 +149,8 @@ fn member(classes: &[u8], from: Parsed) -> Parsed
 }
 
 // Members that each begin with a token of this class.
-fn members(classes: &[u8], from: Parsed, first: u8) -> Parsed
-    ensures { λ r. ⌜ ((s : Sort) → Reads-as (now (classes .entry)) (many first (member-after s)) from r) ⌝ }
+fn members(classes: &[u8], from: usize, first: u8) -> usize
+    ensures { λ r. ⌜ ((s : Sort) → Reads-from (now (classes .entry)) (many first (member-after s)) from r) ⌝ }
 {
     let mut p = from;
     while next_is(classes, p, first) {
@@ -175,8 +160,8 @@ fn members(classes: &[u8], from: Parsed, first: u8) -> Parsed
 }
 
 // After `action`: name `(` kind `)`.
-fn action(classes: &[u8], from: Parsed) -> Parsed
-    ensures { λ r. ⌜ ((start : Token) → Reads-as (now (classes .entry)) (action-after start) from r) ⌝ }
+fn action(classes: &[u8], from: usize) -> usize
+    ensures { λ r. ⌜ ((start : Token) → Reads-from (now (classes .entry)) (action-after start) from r) ⌝ }
 {
     let name = token(classes, from, NAME);
     let open = token(classes, name, ROUND_OPEN);
@@ -184,8 +169,8 @@ fn action(classes: &[u8], from: Parsed) -> Parsed
     token(classes, kind, ROUND_CLOSE)
 }
 
-fn actions(classes: &[u8], from: Parsed) -> Parsed
-    ensures { λ r. ⌜ Reads-as (now (classes .entry)) (many ACTION action-after) from r ⌝ }
+fn actions(classes: &[u8], from: usize) -> usize
+    ensures { λ r. ⌜ Reads-from (now (classes .entry)) (many ACTION action-after) from r ⌝ }
 {
     let mut p = from;
     while next_is(classes, p, ACTION) {
@@ -195,8 +180,8 @@ fn actions(classes: &[u8], from: Parsed) -> Parsed
 }
 
 // After `interface`: name `{` attributes, events, actions `}`.
-fn interface(classes: &[u8], from: Parsed) -> Parsed
-    ensures { λ r. ⌜ ((start : Token) → Reads-as (now (classes .entry)) (interface-after start) from r) ⌝ }
+fn interface(classes: &[u8], from: usize) -> usize
+    ensures { λ r. ⌜ ((start : Token) → Reads-from (now (classes .entry)) (interface-after start) from r) ⌝ }
 {
     let name = token(classes, from, NAME);
     let open = token(classes, name, BRACE_OPEN);
@@ -206,8 +191,8 @@ fn interface(classes: &[u8], from: Parsed) -> Parsed
     token(classes, actions, BRACE_CLOSE)
 }
 
-fn interfaces(classes: &[u8], from: Parsed) -> Parsed
-    ensures { λ r. ⌜ Reads-as (now (classes .entry)) (many INTERFACE interface-after) from r ⌝ }
+fn interfaces(classes: &[u8], from: usize) -> usize
+    ensures { λ r. ⌜ Reads-from (now (classes .entry)) (many INTERFACE interface-after) from r ⌝ }
 {
     let mut p = from;
     while next_is(classes, p, INTERFACE) {
@@ -217,8 +202,8 @@ fn interfaces(classes: &[u8], from: Parsed) -> Parsed
 }
 
 // A number, after its sign.
-fn number(classes: &[u8], from: Parsed) -> Parsed
-    ensures { λ r. ⌜ ((negative : Bool) → Reads-as (now (classes .entry)) (number-reader negative) from r) ⌝ }
+fn number(classes: &[u8], from: usize) -> usize
+    ensures { λ r. ⌜ ((negative : Bool) → Reads-from (now (classes .entry)) (number-reader negative) from r) ⌝ }
 {
     if next_class(classes, from) == WHOLE_NUMBER {
         return any_token(classes, from);
@@ -227,8 +212,8 @@ fn number(classes: &[u8], from: Parsed) -> Parsed
 }
 
 // `true`, `false`, or a number with or without `-`.
-fn literal(classes: &[u8], from: Parsed) -> Parsed
-    ensures { λ r. ⌜ Reads-as (now (classes .entry)) literal-reader from r ⌝ }
+fn literal(classes: &[u8], from: usize) -> usize
+    ensures { λ r. ⌜ Reads-from (now (classes .entry)) literal-reader from r ⌝ }
 {
     let class = next_class(classes, from);
     if class == TRUE {
@@ -244,14 +229,14 @@ fn literal(classes: &[u8], from: Parsed) -> Parsed
 }
 
 // After an attribute's name: `=` literal.
-fn assignment(classes: &[u8], from: Parsed) -> Parsed
-    ensures { λ r. ⌜ ((start : Token) → Reads-as (now (classes .entry)) (assignment-after start) from r) ⌝ }
+fn assignment(classes: &[u8], from: usize) -> usize
+    ensures { λ r. ⌜ ((start : Token) → Reads-from (now (classes .entry)) (assignment-after start) from r) ⌝ }
 {
     literal(classes, token(classes, from, EQUALS))
 }
 
-fn assignments(classes: &[u8], from: Parsed) -> Parsed
-    ensures { λ r. ⌜ Reads-as (now (classes .entry)) (many NAME assignment-after) from r ⌝ }
+fn assignments(classes: &[u8], from: usize) -> usize
+    ensures { λ r. ⌜ Reads-from (now (classes .entry)) (many NAME assignment-after) from r ⌝ }
 {
     let mut p = from;
     while next_is(classes, p, NAME) {
@@ -261,8 +246,8 @@ fn assignments(classes: &[u8], from: Parsed) -> Parsed
 }
 
 // After `entity`: name `:` interface `{` assignments `}`.
-fn entity(classes: &[u8], from: Parsed) -> Parsed
-    ensures { λ r. ⌜ ((start : Token) → Reads-as (now (classes .entry)) (entity-after start) from r) ⌝ }
+fn entity(classes: &[u8], from: usize) -> usize
+    ensures { λ r. ⌜ ((start : Token) → Reads-from (now (classes .entry)) (entity-after start) from r) ⌝ }
 {
     let name = token(classes, from, NAME);
     let colon = token(classes, name, COLON);
@@ -272,8 +257,8 @@ fn entity(classes: &[u8], from: Parsed) -> Parsed
     token(classes, set, BRACE_CLOSE)
 }
 
-fn entities(classes: &[u8], from: Parsed) -> Parsed
-    ensures { λ r. ⌜ Reads-as (now (classes .entry)) (many ENTITY entity-after) from r ⌝ }
+fn entities(classes: &[u8], from: usize) -> usize
+    ensures { λ r. ⌜ Reads-from (now (classes .entry)) (many ENTITY entity-after) from r ⌝ }
 {
     let mut p = from;
     while next_is(classes, p, ENTITY) {
@@ -283,8 +268,8 @@ fn entities(classes: &[u8], from: Parsed) -> Parsed
 }
 
 // Name `.` member.
-fn dotted(classes: &[u8], from: Parsed) -> Parsed
-    ensures { λ r. ⌜ Reads-as (now (classes .entry)) member-reader from r ⌝ }
+fn dotted(classes: &[u8], from: usize) -> usize
+    ensures { λ r. ⌜ Reads-from (now (classes .entry)) member-reader from r ⌝ }
 {
     let name = token(classes, from, NAME);
     let dot = token(classes, name, DOT);
@@ -308,8 +293,8 @@ fn is_unsigned(class: u8) -> bool
 }
 
 // A literal without sign, name `.` member or, while openers may come, an opener; `depth` is how many may.
-fn factor(classes: &[u8], from: Parsed, depth: u32) -> Parsed
-    ensures { λ r. ⌜ Reads-as (now (classes .entry)) (factor-reader depth) from r ⌝ }
+fn factor(classes: &[u8], from: usize, depth: u32) -> usize
+    ensures { λ r. ⌜ Reads-from (now (classes .entry)) (factor-reader depth) from r ⌝ }
 {
     let class = next_class(classes, from);
     if class == NAME {
@@ -325,8 +310,8 @@ fn factor(classes: &[u8], from: Parsed, depth: u32) -> Parsed
 }
 
 // `real` `(` expression `)`, `(` expression `)`, or `-` factor; `inside` is the depth of what it encloses.
-fn opener(classes: &[u8], from: Parsed, inside: u32) -> Parsed
-    ensures { λ r. ⌜ Reads-as (now (classes .entry)) (opener-reader (factor-reader inside)) from r ⌝ }
+fn opener(classes: &[u8], from: usize, inside: u32) -> usize
+    ensures { λ r. ⌜ Reads-from (now (classes .entry)) (opener-reader (factor-reader inside)) from r ⌝ }
 {
     let class = next_class(classes, from);
     if class == REAL {
@@ -345,8 +330,8 @@ fn opener(classes: &[u8], from: Parsed, inside: u32) -> Parsed
 }
 
 // Factors under `*` and `/`.
-fn term(classes: &[u8], from: Parsed, depth: u32) -> Parsed
-    ensures { λ r. ⌜ Reads-as (now (classes .entry)) (term-reader depth) from r ⌝ }
+fn term(classes: &[u8], from: usize, depth: u32) -> usize
+    ensures { λ r. ⌜ Reads-from (now (classes .entry)) (term-reader depth) from r ⌝ }
 {
     let mut p = factor(classes, from, depth);
     while next_is_either(classes, p, TIMES, DIVIDE) {
@@ -356,8 +341,8 @@ fn term(classes: &[u8], from: Parsed, depth: u32) -> Parsed
 }
 
 // Terms under `+` and `-`.
-pub fn expression(classes: &[u8], from: Parsed, depth: u32) -> Parsed
-    ensures { λ r. ⌜ Reads-as (now (classes .entry)) (expression-reader depth) from r ⌝ }
+pub fn expression(classes: &[u8], from: usize, depth: u32) -> usize
+    ensures { λ r. ⌜ Reads-from (now (classes .entry)) (expression-reader depth) from r ⌝ }
 {
     let mut p = term(classes, from, depth);
     while next_is_either(classes, p, PLUS, MINUS) {
@@ -367,8 +352,8 @@ pub fn expression(classes: &[u8], from: Parsed, depth: u32) -> Parsed
 }
 
 // Name, or name `:` interface.
-fn target(classes: &[u8], from: Parsed) -> Parsed
-    ensures { λ r. ⌜ Reads-as (now (classes .entry)) target-reader from r ⌝ }
+fn target(classes: &[u8], from: usize) -> usize
+    ensures { λ r. ⌜ Reads-from (now (classes .entry)) target-reader from r ⌝ }
 {
     let name = token(classes, from, NAME);
     if next_class(classes, name) != COLON {
@@ -378,8 +363,8 @@ fn target(classes: &[u8], from: Parsed) -> Parsed
 }
 
 // Optionally `with` attribute `=` expression.
-fn filter(classes: &[u8], from: Parsed, depth: u32) -> Parsed
-    ensures { λ r. ⌜ Reads-as (now (classes .entry)) (filter-reader depth) from r ⌝ }
+fn filter(classes: &[u8], from: usize, depth: u32) -> usize
+    ensures { λ r. ⌜ Reads-from (now (classes .entry)) (filter-reader depth) from r ⌝ }
 {
     if next_class(classes, from) != WITH {
         return from;
@@ -390,8 +375,8 @@ fn filter(classes: &[u8], from: Parsed, depth: u32) -> Parsed
 }
 
 // After `value`: `changed`, or `=` expression.
-fn test(classes: &[u8], from: Parsed, depth: u32) -> Parsed
-    ensures { λ r. ⌜ Reads-as (now (classes .entry)) (test-reader depth) from r ⌝ }
+fn test(classes: &[u8], from: usize, depth: u32) -> usize
+    ensures { λ r. ⌜ Reads-from (now (classes .entry)) (test-reader depth) from r ⌝ }
 {
     if next_class(classes, from) == CHANGED {
         return any_token(classes, from);
@@ -401,8 +386,8 @@ fn test(classes: &[u8], from: Parsed, depth: u32) -> Parsed
 }
 
 // `event` name `from` target, its filter, `value` and its test.
-fn clause(classes: &[u8], from: Parsed, depth: u32) -> Parsed
-    ensures { λ r. ⌜ Reads-as (now (classes .entry)) (clause-reader depth) from r ⌝ }
+fn clause(classes: &[u8], from: usize, depth: u32) -> usize
+    ensures { λ r. ⌜ Reads-from (now (classes .entry)) (clause-reader depth) from r ⌝ }
 {
     let event = token(classes, from, EVENT);
     let name = token(classes, event, NAME);
@@ -414,8 +399,8 @@ fn clause(classes: &[u8], from: Parsed, depth: u32) -> Parsed
 }
 
 // `(` condition `)`, while openers may come, or a clause.
-pub fn atom(classes: &[u8], from: Parsed, depth: u32) -> Parsed
-    ensures { λ r. ⌜ Reads-as (now (classes .entry)) (atom-reader depth) from r ⌝ }
+pub fn atom(classes: &[u8], from: usize, depth: u32) -> usize
+    ensures { λ r. ⌜ Reads-from (now (classes .entry)) (atom-reader depth) from r ⌝ }
 {
     if depth == 0 {
         return clause(classes, from, depth);
@@ -429,8 +414,8 @@ pub fn atom(classes: &[u8], from: Parsed, depth: u32) -> Parsed
 }
 
 // Atoms under `and`.
-fn conjunction(classes: &[u8], from: Parsed, depth: u32) -> Parsed
-    ensures { λ r. ⌜ Reads-as (now (classes .entry)) (conjunction-reader depth) from r ⌝ }
+fn conjunction(classes: &[u8], from: usize, depth: u32) -> usize
+    ensures { λ r. ⌜ Reads-from (now (classes .entry)) (conjunction-reader depth) from r ⌝ }
 {
     let mut p = atom(classes, from, depth);
     while next_is(classes, p, AND) {
@@ -440,8 +425,8 @@ fn conjunction(classes: &[u8], from: Parsed, depth: u32) -> Parsed
 }
 
 // Conjunctions under `or`.
-fn condition(classes: &[u8], from: Parsed, depth: u32) -> Parsed
-    ensures { λ r. ⌜ Reads-as (now (classes .entry)) (condition-reader depth) from r ⌝ }
+fn condition(classes: &[u8], from: usize, depth: u32) -> usize
+    ensures { λ r. ⌜ Reads-from (now (classes .entry)) (condition-reader depth) from r ⌝ }
 {
     let mut p = conjunction(classes, from, depth);
     while next_is(classes, p, OR) {
@@ -451,8 +436,8 @@ fn condition(classes: &[u8], from: Parsed, depth: u32) -> Parsed
 }
 
 // `action` name `(` expression `)` `on` target, and its filter.
-fn call(classes: &[u8], from: Parsed) -> Parsed
-    ensures { λ r. ⌜ Reads-as (now (classes .entry)) call-reader from r ⌝ }
+fn call(classes: &[u8], from: usize) -> usize
+    ensures { λ r. ⌜ Reads-from (now (classes .entry)) call-reader from r ⌝ }
 {
     let action = token(classes, from, ACTION);
     let name = token(classes, action, NAME);
@@ -465,8 +450,8 @@ fn call(classes: &[u8], from: Parsed) -> Parsed
 }
 
 // Each after a `,`.
-fn calls(classes: &[u8], from: Parsed) -> Parsed
-    ensures { λ r. ⌜ Reads-as (now (classes .entry)) (many COMMA call-after) from r ⌝ }
+fn calls(classes: &[u8], from: usize) -> usize
+    ensures { λ r. ⌜ Reads-from (now (classes .entry)) (many COMMA call-after) from r ⌝ }
 {
     let mut p = from;
     while next_is(classes, p, COMMA) {
@@ -476,8 +461,8 @@ fn calls(classes: &[u8], from: Parsed) -> Parsed
 }
 
 // After `when`: condition `trigger` calls `end`.
-fn rule(classes: &[u8], from: Parsed) -> Parsed
-    ensures { λ r. ⌜ ((start : Token) → Reads-as (now (classes .entry)) (rule-after start) from r) ⌝ }
+fn rule(classes: &[u8], from: usize) -> usize
+    ensures { λ r. ⌜ ((start : Token) → Reads-from (now (classes .entry)) (rule-after start) from r) ⌝ }
 {
     let condition = condition(classes, from, OPENERS);
     let trigger = token(classes, condition, TRIGGER);
@@ -486,8 +471,8 @@ fn rule(classes: &[u8], from: Parsed) -> Parsed
     token(classes, others, END)
 }
 
-fn rules(classes: &[u8], from: Parsed) -> Parsed
-    ensures { λ r. ⌜ Reads-as (now (classes .entry)) (many WHEN rule-after) from r ⌝ }
+fn rules(classes: &[u8], from: usize) -> usize
+    ensures { λ r. ⌜ Reads-from (now (classes .entry)) (many WHEN rule-after) from r ⌝ }
 {
     let mut p = from;
     while next_is(classes, p, WHEN) {
@@ -497,8 +482,8 @@ fn rules(classes: &[u8], from: Parsed) -> Parsed
 }
 
 // Interfaces, entities, `rules`, rules, `end`.
-fn file(classes: &[u8], from: Parsed) -> Parsed
-    ensures { λ r. ⌜ Reads-as (now (classes .entry)) file-reader from r ⌝ }
+fn file(classes: &[u8], from: usize) -> usize
+    ensures { λ r. ⌜ Reads-from (now (classes .entry)) file-reader from r ⌝ }
 {
     let interfaces = interfaces(classes, from);
     let entities = entities(classes, interfaces);
@@ -511,14 +496,12 @@ fn file(classes: &[u8], from: Parsed) -> Parsed
 pub fn parse(classes: &[u8]) -> Parsing
     ensures { λ r. ⌜ Parses-as (now (classes .entry)) r ⌝ }
 {
-    let whole = file(classes, Parsed::Next(0));
-    match whole {
-        Parsed::Refused(at) => Parsing::UngrammaticalAt(at),
-        Parsed::Next(at) => {
-            if at < classes.len() {
-                return Parsing::UngrammaticalAt(at);
-            }
-            Parsing::Grammatical
-        }
+    let whole = file(classes, 0);
+    if REFUSED <= whole {
+        return Parsing::UngrammaticalAt(whole - REFUSED);
     }
+    if whole < classes.len() {
+        return Parsing::UngrammaticalAt(whole);
+    }
+    Parsing::Grammatical
 }

@@ -2,16 +2,16 @@
 ghost use Prim.Native.Nat.{ℕ, _≤_};
 ghost use mathlib.Core.Path.{_≡_};
 ghost use lib.ListN.{getD};
-ghost use Rattle.text.specs.declared.grammar.Parsed.the-variants.{Next};
 ghost use Rattle.text.specs.definitions.Readers.{halt};
 ghost use Rattle.text.specs.definitions.Syntax.{OPENERS};
 ghost use Rattle.text.specs.definitions.Grammar.{simple-or, expression-reader, atom-reader};
+ghost use Rattle.text.specs.contracts.ParseAnswers.{Next, parsed-of};
 ghost use Rattle.text.specs.contracts.Walks.{Steps, Ends};
 use crate::classes::NAME;
 use crate::classes::PLUS;
 use crate::classes::REAL;
 use crate::grammar::OPENERS;
-use crate::grammar::Parsed;
+use crate::grammar::REFUSED;
 use crate::grammar::atom;
 use crate::grammar::expression;
 
@@ -36,17 +36,17 @@ pub fn class_at(classes: &[u8], i: usize) -> u8
 }
 
 // Where what was read from number `at` on ends; `at`, if it was refused.
-fn end_of(answer: Parsed, at: usize) -> usize
+fn end_of(answer: usize, at: usize) -> usize
     ensures onward { λ r. ⌜ at ≤ r ⌝ }
-    ensures ends { λ r. ⌜ ((i : ℕ) → answer ≡ Next i → at ≤ i → r ≡ i) ⌝ }
+    ensures ends { λ r. ⌜ ((i : ℕ) → parsed-of answer ≡ Next i → at ≤ i → r ≡ i) ⌝ }
 {
-    let Parsed::Next(i) = answer else {
-        return at;
-    };
-    if i < at {
+    if REFUSED <= answer {
         return at;
     }
-    i
+    if answer < at {
+        return at;
+    }
+    answer
 }
 
 // The number of the token after what begins with no opener: name `.` member, or a literal, which is one token.
@@ -65,7 +65,7 @@ fn leaf_end(classes: &[u8], at: usize) -> usize
 fn parsed_end(classes: &[u8], at: usize) -> usize
     ensures { λ r. ⌜ Ends (now (classes .entry)) (expression-reader OPENERS) at r ⌝ }
 {
-    end_of(expression(classes, Parsed::Next(at), OPENERS), at)
+    end_of(expression(classes, at, OPENERS), at)
 }
 
 // The number of the token after the expression at number `at`. Most expressions are one leaf: no opener has a class below that of `real`, and no
@@ -87,5 +87,5 @@ pub fn expression_end(classes: &[u8], at: usize) -> usize
 pub fn atom_end(classes: &[u8], at: usize) -> usize
     ensures { λ r. ⌜ Ends (now (classes .entry)) (atom-reader OPENERS) at r ⌝ }
 {
-    end_of(atom(classes, Parsed::Next(at), OPENERS), at)
+    end_of(atom(classes, at, OPENERS), at)
 }

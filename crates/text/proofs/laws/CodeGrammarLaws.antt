@@ -7,10 +7,8 @@ use mathlib.Core.Option.{none}
 use native.Mathlib.Nat.{zero-add}
 use native.Mathlib.Omega.{arith}
 use lib.Dec.{eqb}
-use lib.ListN.{length, drop, length-map, length-drop, drop-of-length-le}
+use lib.ListN.{length, drop, length-drop, drop-of-length-le}
 use borrow.Author.Tests.{eqb-true}
-use Rattle.text.specs.declared.grammar.Parsed.{Parsed}
-use Rattle.text.specs.declared.grammar.Parsed.the-variants.{Next, Refused}
 use Rattle.text.specs.declared.grammar.Parsing.{Parsing}
 use Rattle.text.specs.declared.grammar.Parsing.the-variants.{Grammatical, UngrammaticalAt}
 use Rattle.text.specs.definitions.Tokens.{Token, NAME, TRUE, FALSE, WHOLE-NUMBER, REAL-NUMBER, ROUND-OPEN, ROUND-CLOSE}
@@ -30,6 +28,9 @@ use Rattle.text.specs.definitions.Grammar.{
 use Rattle.text.specs.definitions.Parse.{ungrammatical-at, offset-of, ended, parsed, parse}
 use Rattle.text.specs.contracts.EnumAnswers.{parsing-answer}
 use Rattle.text.specs.contracts.ParseAnswers.{
+  Parsed,
+  Next,
+  Refused,
   classes-of,
   parse-answer,
   answer-from,
@@ -49,6 +50,7 @@ use Rattle.text.proofs.laws.ReaderLaws.{count}
 use Rattle.text.proofs.laws.PredictiveLaws.{parses-bounded}
 use Rattle.text.proofs.laws.GrammarLaws.{file-parses}
 use Rattle.text.proofs.laws.CodeReaderLaws.{
+  same-length,
   and-then-answers,
   and-give-answers,
   expect-answers,
@@ -151,9 +153,6 @@ module _ {cs : List ℕ} {p q : Parsed} where
     atom-opens (suc left) z e h i o =
         let k : suc left - 1 ≡ left = omega arith in
         chosen-answers n e refl _ h λ t. and-then-answers (rw k at i) some-condition λ c. expect-answers ROUND-CLOSE o λ t. give-answers _ _
-
-same-length : (cs : List ℕ) (ts : List Token) → classes-of ts ≡ cs → length ts ≡ length cs
-same-length cs ts e = sym (length-map ts _) ∙ ap length e
 
 -- an answer that says enough of the tokens has document 01's number
 module _ {cs : List ℕ} where

@@ -1,18 +1,14 @@
 -- Laws of the readers in code, one for each combinator: from what the parts answer to what the whole answers.
-use Prim.Native.Nat.{ℕ, zero, suc, _+_, _≤_, _<_}
+use Prim.Native.Nat.{ℕ, zero, suc, _+_, _-_, _≤_, _<_}
 use mathlib.Core.Path.{_≡_, refl, sym, _∙_, ap}
 use mathlib.Core.List.{List, [], _∷_, cons≢nil}
 use mathlib.Core.Bool.{Bool, true, false, false≢true}
 use native.Mathlib.Nat.{add-zero}
 use native.Mathlib.Omega.{arith}
 use lib.Dec.{eqb, ltb}
-use lib.ListN.{length, drop, getD, length-drop, drop-of-length-le}
+use lib.ListN.{length, drop, getD, length-drop, length-map, drop-of-length-le}
 use lib.Seq.{drop-cons, drop-drop}
-use types.Run.{OneOf, miss}
-use denote.Enum.Declared.{tagOf}
-use borrow.Author.Tests.{eq-eqb, ne-eqb, eqb-true, ltb-true}
-use Rattle.text.specs.declared.grammar.Parsed.{Parsed}
-use Rattle.text.specs.declared.grammar.Parsed.the-variants.{Next, Refused}
+use borrow.Author.Tests.{eq-eqb, ne-eqb, eqb-true, lt-ltb, le-ltb, ltb-true, ltb-false}
 use Rattle.text.specs.definitions.Tokens.{Token}
 use Rattle.text.specs.definitions.Readers.{
   Parse,
@@ -35,10 +31,16 @@ use Rattle.text.specs.definitions.Readers.{
   many,
 }
 use Rattle.text.specs.contracts.ParseAnswers.{
+  Parsed,
+  Next,
+  Refused,
+  REFUSED,
+  parsed-of,
   classes-of,
   parse-answer,
   answer-from,
   Reads-as,
+  Reads-from,
   any-token,
   classes-from,
   first-class,
@@ -46,7 +48,6 @@ use Rattle.text.specs.contracts.ParseAnswers.{
   is-class,
   refused-at,
 }
-use Rattle.text.proofs.grammar.Parsed.{the-type}
 use Rattle.text.proofs.laws.ReaderLaws.{expect-takes, expect-refuses, if-next-first, if-next-second, loop-ends, loop-stops, loop-turns}
 use Rattle.text.proofs.laws.LanguageLaws.{sample, classes-sample}
 
@@ -58,6 +59,9 @@ drop-classes : (at : ℕ) (ts : List Token) → classes-of (drop at ts) ≡ drop
 drop-classes zero ts = refl
 drop-classes (suc at) [] = refl
 drop-classes (suc at) (t ∷ ts) = drop-classes at ts
+
+pub same-length : (cs : List ℕ) (ts : List Token) → classes-of ts ≡ cs → length ts ≡ length cs
+same-length cs ts e = sym (length-map ts _) ∙ ap length e
 
 answer-shift : {A : Type 0} (at n : ℕ) (p : Parse A) → parse-answer at (shift n p) ≡ parse-answer (at + n) p
 unfolding parse-answer shift
@@ -72,11 +76,6 @@ instead (Next at) same h = record {
   told = λ ts e. h .told ts e ∙ ap (parse-answer at) (same (drop at ts) (drop-classes at ts ∙ ap (drop at) e));
 }
 instead (Refused at) same h = record { told = h .told }
-
--- what was refused is the answer of every reader
-kept : {A : Type 0} {cs : List ℕ} {r : Parser A} (at : ℕ) → Reads-as cs r (Refused at) (Refused at)
-unfolding answer-from
-kept at = record { told = λ ts e. refl }
 
 -- a reading leaves no more tokens than it found
 pub tokens-left : {A : Type 0} {cs : List ℕ} {r : Parser A} {p q : Parsed} → Reads-as cs r p q
@@ -108,7 +107,7 @@ module _ {A : Type 0} {cs : List ℕ} where
   pub give-answers : (a : A) (p : Parsed) → Reads-as cs (give a) p p
   unfolding answer-from parse-answer give
   give-answers a (Next at) = record { told = λ ts e. ap Next (sym (add-zero at)) }
-  give-answers a (Refused at) = kept at
+  give-answers a (Refused at) = record { told = λ ts e. refl }
 
   pub halt-answers : {q : Parsed} (p : Parsed) → q ≡ refused-at p → Reads-as cs (halt {A = A}) p q
   unfolding answer-from parse-answer halt refused-at
@@ -172,6 +171,12 @@ unfolding next-is first-class
 lacks c [] e = refl
 lacks c (t ∷ ts) e = ne-eqb (t .class) c e
 
+-- any token is the expected one, where that comes
+comes-any : (c : ℕ) (us : List Token) → next-is c us ≡ true → any-token us ≡ expect c give us
+unfolding any-token give next-is shift
+comes-any c [] i = absurd (false≢true i)
+comes-any c (t ∷ ts) i = sym (expect-takes c give t ts (eqb-true (t .class) c i))
+
 -- there is a token where a class is seen or a test passes
 class-some : (c : ℕ) (cs : List ℕ) → ltb c 255 ≡ true → c ≡ first-class cs → 0 < length cs
 unfolding first-class
@@ -187,12 +192,7 @@ module _ {cs : List ℕ} {p : Parsed} {c d : ℕ} (n : d ≡ first-class (classe
   module _ (e : d ≡ c) (l : ltb c 255 ≡ true) where
     -- the token that was looked at is the expected one
     pub seen-answers : {q : Parsed} → Reads-as cs any-token p q → Reads-as cs (expect c give) p q
-    unfolding any-token give next-is shift
-    seen-answers h = instead p (λ us i. same us (comes c us l (sym e ∙ n ∙ sym (ap first-class i)))) h
-      where
-        same : (us : List Token) → next-is c us ≡ true → any-token us ≡ expect c give us
-        same [] i = absurd (false≢true i)
-        same (t ∷ ts) i = sym (expect-takes c give t ts (eqb-true (t .class) c i))
+    seen-answers h = instead p (λ us i. comes-any c us (comes c us l (sym e ∙ n ∙ sym (ap first-class i)))) h
 
     pub seen-less : {q : Parsed} → Reads-as cs any-token p q → length (classes-from cs q) < length (classes-from cs p)
     seen-less h = taken-less p (class-some c (classes-from cs p) l (sym e ∙ n)) h
@@ -281,64 +281,59 @@ pub turn-less : {A : Type 0} {cs : List ℕ} {r : Parser A} {u v : Parsed} (test
     → length (classes-from cs v) < length (classes-from cs q)
 turn-less {cs = cs} test q n e h s = omega (arith, taken-less q (passes-some test (classes-from cs q) (sym n ∙ e)) h, tokens-left s)
 
--- what the functions that look at one token answer: after a refusal, and at an index
-is-refused : (P : Parsed → Type 0) (p : Parsed) → OneOf (1 ∷ []) (tagOf the-type p) → ((at : ℕ) → P (Refused at)) → P p
-is-refused P (Next at) k f = absurd (miss (1 ∷ []) 0 tt k)
-is-refused P (Refused at) k f = f at
+-- what a position stands for: below REFUSED, from there on, and with REFUSED added to it
+pub parsed-next : (n : ℕ) → n < REFUSED → parsed-of n ≡ Next n
+unfolding parsed-of
+parsed-next n l = rw (lt-ltb n REFUSED l, parsed-of)
 
-pub refused-stays : (p : Parsed) → OneOf (1 ∷ []) (tagOf the-type p) → p ≡ refused-at p
-unfolding refused-at
-refused-stays p k = is-refused (λ p. p ≡ refused-at p) p k λ at. refl
+pub parsed-refused : (n : ℕ) → REFUSED ≤ n → parsed-of n ≡ Refused (n - REFUSED)
+unfolding parsed-of
+parsed-refused n l = rw (le-ltb n REFUSED l, parsed-of)
 
-module _ (cs : List ℕ) where
-  module _ (p : Parsed) (k : OneOf (1 ∷ []) (tagOf the-type p)) where
-    pub refused-left : classes-from cs p ≡ []
+pub parsed-added : (n : ℕ) → parsed-of (n + REFUSED) ≡ Refused n
+parsed-added n = let k : n + REFUSED - REFUSED ≡ n = omega arith in parsed-refused (n + REFUSED) (omega arith) ∙ ap Refused k
+
+-- what the functions that look at one token answer: behind the last token, and at a token of fewer than REFUSED
+module _ (cs : List ℕ) (from : ℕ) where
+  pub none-left : length cs ≤ from → classes-from cs (parsed-of from) ≡ []
+  unfolding classes-from
+  none-left l = by (ltb from REFUSED) refl
+    where
+      by : (b : Bool) → ltb from REFUSED ≡ b → classes-from cs (parsed-of from) ≡ []
+      by true e = rw (parsed-next from (ltb-true from REFUSED e)) (drop-of-length-le cs l)
+      by false e = rw (parsed-refused from (ltb-false from REFUSED e))
+
+  pub none-answers : {A : Type 0} (r : Parser A) → r [] ≡ unfit-after 0 → length cs ≤ from → {q : Parsed} → q ≡ refused-at (parsed-of from)
+      → Reads-as cs r (parsed-of from) q
+  unfolding halt
+  none-answers r e l h = instead (parsed-of from) (λ us i. on us (i ∙ none-left l)) (halt-answers (parsed-of from) h)
+    where
+      on : (us : List Token) → classes-of us ≡ [] → halt us ≡ r us
+      on [] i = sym e
+      on (t ∷ ts) i = absurd (cons≢nil i)
+
+  module _ (few : length cs < REFUSED) (l : from < length cs) where
+    pub some-left : classes-from cs (parsed-of from) ≡ getD cs from 0 ∷ drop (suc from) cs
     unfolding classes-from
-    refused-left = is-refused (λ p. classes-from cs p ≡ []) p k λ at. refl
+    some-left = rw (parsed-next from (omega arith)) (drop-cons cs from 0 l)
 
-    pub refused-answers : {A : Type 0} {r : Parser A} → Reads-as cs r p p
-    refused-answers {r = r} = is-refused (λ p. Reads-as cs r p p) p k λ at. kept at
+    pub any-token-answers : Reads-from cs any-token from (from + 1)
+    unfolding answer-from parse-answer any-token
+    any-token-answers = record {
+      told = λ ts e.
+          let first = drop-cons ts from some-token (omega (arith, same-length cs ts e)) in
+          rw (parsed-next (from + 1) (omega arith), parsed-next from (omega arith), first);
+    }
 
-  module _ {p : Parsed} {at : ℕ} (i : p ≡ Next at) where
-    pub none-left : length cs ≤ at → classes-from cs p ≡ []
-    unfolding classes-from
-    none-left l = rw i (drop-of-length-le cs l)
+    -- the class of the token that comes next
+    pub class-there : getD cs from 0 ≡ first-class (classes-from cs (parsed-of from))
+    unfolding first-class
+    class-there = ap first-class (sym some-left)
 
-    pub some-left : at < length cs → classes-from cs p ≡ getD cs at 0 ∷ drop (suc at) cs
-    unfolding classes-from
-    some-left l = rw i (drop-cons cs at 0 l)
-
-    here : {A : Type 0} {r : Parser A} {w : Parsed} → ((us : List Token) → classes-of us ≡ classes-from cs p → w ≡ parse-answer at (r us))
-        → Reads-as cs r p w
-    unfolding answer-from classes-from
-    here f = record { told = λ ts e. f (drop at ts) (drop-classes at ts ∙ rw (i, e)) ∙ rw i }
-
-    pub none-answers : {A : Type 0} (r : Parser A) → r [] ≡ unfit-after 0 → length cs ≤ at → Reads-as cs r p (Refused at)
-    unfolding parse-answer
-    none-answers r e l = here λ us h. on us (h ∙ none-left l)
+    pub token-answers : {c : ℕ} → getD cs from 0 ≡ c → Reads-from cs (expect c give) from (from + 1)
+    unfolding next-is
+    token-answers {c} h = instead (parsed-of from) (λ us i. comes-any c us (on us (i ∙ some-left))) any-token-answers
       where
-        on : (us : List Token) → classes-of us ≡ [] → Refused at ≡ parse-answer at (r us)
-        on [] h = rw (e, add-zero)
-        on (t ∷ ts) h = absurd (cons≢nil h)
-
-    module _ (l : at < length cs) where
-      -- by the token that stands there
-      there : {A : Type 0} {r : Parser A} {w : Parsed}
-          → ((t : Token) (ts : List Token) → t .class ≡ getD cs at 0 → w ≡ parse-answer at (r (t ∷ ts))) → Reads-as cs r p w
-      there {r = r} {w = w} f = here λ us h. on us (h ∙ some-left l)
-        where
-          on : (us : List Token) → classes-of us ≡ getD cs at 0 ∷ drop (suc at) cs → w ≡ parse-answer at (r us)
-          on [] h = absurd (cons≢nil (sym h))
-          on (t ∷ ts) h = f t ts (cc)
-
-      pub any-token-answers : Reads-as cs any-token p (Next (at + 1))
-      unfolding parse-answer any-token
-      any-token-answers = there λ t ts e. refl
-
-      pub token-answers : {c : ℕ} → getD cs at 0 ≡ c → Reads-as cs (expect c give) p (Next (at + 1))
-      unfolding parse-answer shift give
-      token-answers {c} h = there λ t ts e. rw (expect-takes c give t ts (e ∙ h))
-
-      pub other-answers : {c : ℕ} → (getD cs at 0 ≡ c → ⊥) → Reads-as cs (expect c give) p (Refused at)
-      unfolding parse-answer
-      other-answers {c} h = there λ t ts e. rw (expect-refuses c give t ts (ne-eqb (t .class) c (λ f. h (sym e ∙ f))), add-zero)
+        on : (us : List Token) → classes-of us ≡ getD cs from 0 ∷ drop (suc from) cs → next-is c us ≡ true
+        on [] i = absurd (cons≢nil (sym i))
+        on (t ∷ ts) i = eq-eqb (t .class) c (cc)

@@ -1,25 +1,33 @@
 -- Where the parser ends a reading, the walk of its reader ends.
-use Prim.Native.Nat.{ℕ, suc, _+_, _≤_}
+use Prim.Native.Nat.{ℕ, suc, _+_, _≤_, _<_}
 use mathlib.Core.Path.{_≡_, refl, sym, ap, _∙_}
 use mathlib.Core.List.{List, [], _∷_}
+use mathlib.Core.Bool.{Bool, true, false}
 use mathlib.Core.Option.{some}
 use native.Mathlib.Omega.{arith}
-use lib.ListN.{length, getD, getElem?, drop}
+use lib.Dec.{ltb}
+use lib.ListN.{length, getD, getElem?, drop, drop-of-length-le}
+use borrow.Author.Tests.{ltb-true, ltb-false}
 use Rattle.text.specs.definitions.Tokens.{Token}
 use Rattle.text.specs.definitions.Readers.{Parse, read, unfit-after, Parser}
-use Rattle.text.specs.declared.grammar.Parsed.{Parsed}
-use Rattle.text.specs.declared.grammar.Parsed.the-variants.{Next, Refused}
-use Rattle.text.specs.contracts.ParseAnswers.{classes-of, parse-answer, answer-from, refused-at, Reads-as}
+use Rattle.text.specs.contracts.ParseAnswers.{
+  Parsed,
+  Next,
+  Refused,
+  REFUSED,
+  parsed-of,
+  classes-of,
+  parse-answer,
+  answer-from,
+  Reads-as,
+}
 use Rattle.text.specs.contracts.Walks.{Rows, meant, vain, Means-at, Walks, Read-there, Ends}
+use Rattle.text.proofs.laws.CodeReaderLaws.{parsed-next}
 use Rattle.text.proofs.laws.WalkLaws.{walk-yields}
 
--- what is refused, as it stays so, has no next token
-pub refused-ends : {p : Parsed} {i : ℕ} → p ≡ refused-at p → p ≡ Next i → ⊥
-unfolding refused-at
-refused-ends {p} {i} r e =
-    let q : Next i ≡ Refused i = sym e ∙ r ∙ ap refused-at e in
-    let z : _≡_ {A = ℕ} 0 1 = cc in
-    absurd (omega arith)
+-- what is refused has no next token
+pub refused-ends : {p : Parsed} {i j : ℕ} → p ≡ Refused j → p ≡ Next i → ⊥
+refused-ends r e = let z : _≡_ {A = ℕ} 0 1 = cc in absurd (omega arith)
 
 pub next-same : {p : Parsed} {i j : ℕ} → p ≡ Next i → p ≡ Next j → i ≡ j
 next-same {p} {i} {j} e q =
@@ -51,10 +59,17 @@ module _ {A : Type 0} {classes : List ℕ} {r : Parser A} {at next : ℕ} where
   pub walk-ends : {R : Type 0} {yields : Rows classes → A → R → Type 0} {v : R} → Walks (λ w. w) yields r at v next → Ends classes r at next
   walk-ends h = record { onward = h .onward; means = λ w l. read-there w (λ a n e. walk-yields h w l e .1) }
 
-  pub answer-ends : {answer : Parsed} → Reads-as classes r (Next at) answer → at ≤ next → ((i : ℕ) → answer ≡ Next i → at ≤ i → next ≡ i)
-      → Ends classes r at next
+  -- by the parser, where there are fewer tokens than REFUSED; behind the last of them the reader reads nothing
+  pub answer-ends : length classes < REFUSED → r [] ≡ unfit-after 0 → {answer : Parsed} → Reads-as classes r (parsed-of at) answer → at ≤ next
+      → ((i : ℕ) → answer ≡ Next i → at ≤ i → next ≡ i) → Ends classes r at next
   unfolding answer-from parse-answer
-  answer-ends h o f = record {
-    onward = o;
-    means = λ w l. read-there w (λ a n e. f (at + n) (h .told (w .tokens) (row-classes w) ∙ ap (parse-answer at) e) (omega arith));
-  }
+  answer-ends few none h o f = record { onward = o; means = λ w l. read-there w (λ a n e. on w a n e (ltb at (length classes)) refl) }
+    where
+      on : (w : Rows classes) (a : A) (n : ℕ) → r (drop at (w .tokens)) ≡ read a n → (b : Bool) → ltb at (length classes) ≡ b → next ≡ at + n
+      on w a n e true i =
+          let p : parsed-of at ≡ Next at = parsed-next at (omega (arith, ltb-true at (length classes) i)) in
+          f (at + n) (rw p at (h .told (w .tokens) (row-classes w)) ∙ ap (parse-answer at) e) (omega arith)
+      on w a n e false i =
+          let q : drop at (w .tokens) ≡ [] = drop-of-length-le (w .tokens) {i = at} (omega (arith, ltb-false at (length classes) i, w .count)) in
+          let z : _≡_ {A = ℕ} 0 1 = cc in
+          absurd (omega arith)

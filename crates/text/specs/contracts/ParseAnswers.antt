@@ -1,12 +1,10 @@
--- What the parser in code answers: indexes of tokens, found from their classes alone.
-use Prim.Native.Nat.{ℕ, _+_, _≤_}
+-- What the parser in code answers: positions among tokens, found from their classes alone.
+use Prim.Native.Nat.{ℕ, _+_, _-_, _≤_}
 use mathlib.Core.Path.{_≡_}
 use mathlib.Core.List.{List, [], _∷_, map}
-use mathlib.Core.Bool.{Bool, false, _||_}
-use lib.Dec.{eqb}
+use mathlib.Core.Bool.{Bool, true, false, _||_}
+use lib.Dec.{eqb, ltb}
 use lib.ListN.{length, drop}
-use Rattle.text.specs.declared.grammar.Parsed.{Parsed}
-use Rattle.text.specs.declared.grammar.Parsed.the-variants.{Next, Refused}
 use Rattle.text.specs.declared.grammar.Parsing.{Parsing}
 use Rattle.text.specs.declared.grammar.Parsing.the-variants.{Grammatical, UngrammaticalAt}
 use Rattle.text.specs.definitions.Tokens.{Token, TRUE, FALSE, WHOLE-NUMBER, REAL-NUMBER}
@@ -16,6 +14,19 @@ use Rattle.text.specs.definitions.Grammar.{file-reader}
 use Rattle.text.specs.definitions.Parse.{Parse-verdict as Outcome, grammatical, ungrammatical-at, offset-of, parse}
 use Rattle.text.specs.definitions.Answers.{refusal-answer}
 use Rattle.text.specs.contracts.EnumAnswers.{parsing-answer}
+
+-- where a reading ended: the index of the next token, or of the first that fits nothing
+pub data Parsed : Type 0 where
+  Next : ℕ → Parsed
+  Refused : ℕ → Parsed
+
+-- in code that is one number, a position, and from this one on it is a refusal: no slice has so many bytes
+abbrev pub REFUSED : ℕ
+REFUSED = 9223372036854775808
+
+-- what a position stands for: the index of the next token or, with REFUSED added to it, that of the first that fits nothing
+unfoldable pub parsed-of : ℕ → Parsed
+parsed-of n = elim (ltb n REFUSED) [ true ↦ Next n | false ↦ Refused (n - REFUSED) ]
 
 abbrev pub classes-of : List Token → List ℕ
 classes-of ts = map (λ t. t .class) ts
@@ -35,6 +46,10 @@ module _ {A : Type 0} where
   -- from `start` on the reader answers so, for all tokens that have these classes
   pub record Reads-as (classes : List ℕ) (reader : Parser A) (start answer : Parsed) : Type 0 where
     pub told : (ts : List Token) → classes-of ts ≡ classes → answer ≡ answer-from start reader ts
+
+  -- the same from one position to another
+  abbrev pub Reads-from : List ℕ → Parser A → ℕ → ℕ → Type 0
+  Reads-from classes reader from to = Reads-as classes reader (parsed-of from) (parsed-of to)
 
 -- whichever token comes next
 unfoldable pub any-token : Parser Token

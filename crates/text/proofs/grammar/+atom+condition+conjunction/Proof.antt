@@ -7,7 +7,7 @@ use borrow.Author.Needs.{needs}
 use borrow.Fn.Kinds.{In}
 use borrow.Fn.PlainCycle.{Measures, is, falls, and}
 use Rattle.text.specs.definitions.Grammar.{both-at, either-at, atom-reader, conjunction-reader, condition-reader}
-use Rattle.text.specs.contracts.ParseAnswers.{classes-from, is-class}
+use Rattle.text.specs.contracts.ParseAnswers.{parsed-of, classes-from, is-class}
 use Rattle.text.specs.definitions.Readers.{joined}
 use Rattle.text.specs.definitions.Tokens.{AND, OR}
 use Rattle.text.proofs.laws.CodeGrammarLaws.{some-condition, atom-halts, atom-lacks, atom-opens}
@@ -30,13 +30,13 @@ use Rattle.text.proofs.grammar.+atom+condition+conjunction.{statement}
 use Rattle.text.proofs.grammar.+atom+condition+conjunction.Tie.{close}
 
 abbrev μ-atom : Measures 1 atom-kinds.ps ℕ
-μ-atom κs a = length (classes-from (a .0 .now) (a .1 .0)) * 3
+μ-atom κs a = length (classes-from (a .0 .now) (parsed-of (a .1 .0))) * 3
 
 abbrev μ-condition : Measures 1 condition-kinds.ps ℕ
-μ-condition κs a = length (classes-from (a .0 .now) (a .1 .0)) * 3 + 2
+μ-condition κs a = length (classes-from (a .0 .now) (parsed-of (a .1 .0))) * 3 + 2
 
 abbrev μ-conjunction : Measures 1 conjunction-kinds.ps ℕ
-μ-conjunction κs a = length (classes-from (a .0 .now) (a .1 .0)) * 3 + 1
+μ-conjunction κs a = length (classes-from (a .0 .now) (parsed-of (a .1 .0))) * 3 + 1
 
 abbrev atom-at : ℕ → In 1 atom-kinds.ps
 atom-at t = and 1 atom-kinds.ps (is 1 atom-kinds.ps μ-atom t) atom.Pre
@@ -112,10 +112,10 @@ abbrev condition-claims : ℕ → condition-lts.Claims
 condition-claims t = (conjunction-below t, conjunction.Post, next-is-reads.Asked, next-is-reads.Learnt, any-token-reads.Asked, any-token-reads.Learnt)
 
 abbrev condition-Inv-loop : condition-lts.InvT-loop
-condition-Inv-loop classes depth p₀ p = Going classes (is-class OR) (joined (conjunction-reader depth) either-at) p₀ p
+condition-Inv-loop classes from depth p₀ p = Going classes (is-class OR) (joined (conjunction-reader depth) either-at) (parsed-of p₀) (parsed-of p)
 
 abbrev condition-μ-loop : condition-lts.MeasureT-loop
-condition-μ-loop classes depth p₀ p = length (classes-from classes p)
+condition-μ-loop classes from depth p₀ p = length (classes-from classes (parsed-of p))
 
 condition-conjunction-requires : (t : ℕ) → condition-lts.Need-conjunction-requires
     (condition-claims t) (condition-at t) condition.Post condition-Inv-loop condition-μ-loop
@@ -161,10 +161,10 @@ abbrev conjunction-claims : ℕ → conjunction-lts.Claims
 conjunction-claims t = (atom-below t, atom.Post, next-is-reads.Asked, next-is-reads.Learnt, any-token-reads.Asked, any-token-reads.Learnt)
 
 abbrev conjunction-Inv-loop : conjunction-lts.InvT-loop
-conjunction-Inv-loop classes depth p₀ p = Going classes (is-class AND) (joined (atom-reader depth) both-at) p₀ p
+conjunction-Inv-loop classes from depth p₀ p = Going classes (is-class AND) (joined (atom-reader depth) both-at) (parsed-of p₀) (parsed-of p)
 
 abbrev conjunction-μ-loop : conjunction-lts.MeasureT-loop
-conjunction-μ-loop classes depth p₀ p = length (classes-from classes p)
+conjunction-μ-loop classes from depth p₀ p = length (classes-from classes (parsed-of p))
 
 conjunction-atom-requires : (t : ℕ) → conjunction-lts.Need-atom-requires
     (conjunction-claims t) (conjunction-at t) conjunction.Post conjunction-Inv-loop conjunction-μ-loop

@@ -7,7 +7,7 @@ use borrow.Author.Needs.{needs}
 use borrow.Fn.Kinds.{In}
 use borrow.Fn.PlainCycle.{Measures, is, falls, and}
 use Rattle.text.specs.definitions.Grammar.{apply-at, opener-reader, factor-reader, term-reader, expression-reader}
-use Rattle.text.specs.contracts.ParseAnswers.{classes-from, is-either}
+use Rattle.text.specs.contracts.ParseAnswers.{parsed-of, classes-from, is-either}
 use Rattle.text.specs.definitions.Readers.{joined}
 use Rattle.text.specs.definitions.Tokens.{ROUND-OPEN, ROUND-CLOSE, PLUS, MINUS, TIMES, DIVIDE}
 use Rattle.text.proofs.laws.CodeGrammarLaws.{some-expression, factor-name, factor-unsigned, factor-halts, factor-opens}
@@ -54,16 +54,16 @@ use Rattle.text.proofs.grammar.+expression+factor+opener+term.{statemen
 use Rattle.text.proofs.grammar.+expression+factor+opener+term.Tie.{close}
 
 abbrev μ-expression : Measures 1 expression-kinds.ps ℕ
-μ-expression κs a = length (classes-from (a .0 .now) (a .1 .0)) * 4 + 3
+μ-expression κs a = length (classes-from (a .0 .now) (parsed-of (a .1 .0))) * 4 + 3
 
 abbrev μ-factor : Measures 1 factor-kinds.ps ℕ
-μ-factor κs a = length (classes-from (a .0 .now) (a .1 .0)) * 4 + 1
+μ-factor κs a = length (classes-from (a .0 .now) (parsed-of (a .1 .0))) * 4 + 1
 
 abbrev μ-opener : Measures 1 opener-kinds.ps ℕ
-μ-opener κs a = length (classes-from (a .0 .now) (a .1 .0)) * 4
+μ-opener κs a = length (classes-from (a .0 .now) (parsed-of (a .1 .0))) * 4
 
 abbrev μ-term : Measures 1 term-kinds.ps ℕ
-μ-term κs a = length (classes-from (a .0 .now) (a .1 .0)) * 4 + 2
+μ-term κs a = length (classes-from (a .0 .now) (parsed-of (a .1 .0))) * 4 + 2
 
 abbrev expression-at : ℕ → In 1 expression-kinds.ps
 expression-at t =
@@ -102,10 +102,10 @@ expression-claims t = (
 )
 
 abbrev expression-Inv-loop : expression-lts.InvT-loop
-expression-Inv-loop classes depth p₀ p = Going classes (is-either PLUS MINUS) (joined (term-reader depth) apply-at) p₀ p
+expression-Inv-loop classes from depth p₀ p = Going classes (is-either PLUS MINUS) (joined (term-reader depth) apply-at) (parsed-of p₀) (parsed-of p)
 
 abbrev expression-μ-loop : expression-lts.MeasureT-loop
-expression-μ-loop classes depth p₀ p = length (classes-from classes p)
+expression-μ-loop classes from depth p₀ p = length (classes-from classes (parsed-of p))
 
 expression-term-requires : (t : ℕ) → expression-lts.Need-term-requires
     (expression-claims t) (expression-at t) expression.Post expression-Inv-loop expression-μ-loop
@@ -300,10 +300,10 @@ abbrev term-claims : ℕ → term-lts.Claims
 term-claims t = (factor-below t, factor.Post, next-is-either-reads.Asked, next-is-either-reads.Learnt, any-token-reads.Asked, any-token-reads.Learnt)
 
 abbrev term-Inv-loop : term-lts.InvT-loop
-term-Inv-loop classes depth p₀ p = Going classes (is-either TIMES DIVIDE) (joined (factor-reader depth) apply-at) p₀ p
+term-Inv-loop classes from depth p₀ p = Going classes (is-either TIMES DIVIDE) (joined (factor-reader depth) apply-at) (parsed-of p₀) (parsed-of p)
 
 abbrev term-μ-loop : term-lts.MeasureT-loop
-term-μ-loop classes depth p₀ p = length (classes-from classes p)
+term-μ-loop classes from depth p₀ p = length (classes-from classes (parsed-of p))
 
 term-factor-requires : (t : ℕ) → term-lts.Need-factor-requires (term-claims t) (term-at t) term.Post term-Inv-loop term-μ-loop
 term-factor-requires t c κs = search needs

@@ -2,7 +2,7 @@
 use lib.ListN.{length}
 use borrow.Author.Needs.{needs}
 use Rattle.text.specs.definitions.Grammar.{call-after}
-use Rattle.text.specs.contracts.ParseAnswers.{classes-from, is-class}
+use Rattle.text.specs.contracts.ParseAnswers.{parsed-of, classes-from, is-class}
 use Rattle.text.specs.definitions.Readers.{added}
 use Rattle.text.specs.definitions.Tokens.{COMMA}
 use Rattle.text.proofs.laws.CodeReaderLaws.{Going, begins, many-answers, added-answers, stops, goes-on, turn-less}
@@ -10,10 +10,10 @@ use Rattle.text.proofs.grammar.calls.Statement.{statement}
 use Rattle.text.proofs.grammar.calls.Tie as tie
 
 abbrev Inv-loop : tie.InvT-loop
-Inv-loop classes p₀ p = Going classes (is-class COMMA) (added call-after) p₀ p
+Inv-loop classes from p₀ p = Going classes (is-class COMMA) (added call-after) (parsed-of p₀) (parsed-of p)
 
 abbrev μ-loop : tie.MeasureT-loop
-μ-loop classes p₀ p = length (classes-from classes p)
+μ-loop classes from p₀ p = length (classes-from classes (parsed-of p))
 
 loop-holds : tie.Need-loop-holds Inv-loop μ-loop
 loop-holds c = begins

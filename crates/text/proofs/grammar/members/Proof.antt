@@ -2,7 +2,7 @@
 use lib.ListN.{length}
 use borrow.Author.Needs.{needs}
 use Rattle.text.specs.definitions.Grammar.{member-after}
-use Rattle.text.specs.contracts.ParseAnswers.{classes-from, is-class}
+use Rattle.text.specs.contracts.ParseAnswers.{parsed-of, classes-from, is-class}
 use Rattle.text.specs.definitions.Readers.{added}
 use Rattle.text.specs.definitions.Syntax.{Sort, attribute}
 use Rattle.text.proofs.laws.CodeReaderLaws.{some-token, Going, begins, many-answers, added-answers, stops, goes-on, turn-less}
@@ -10,10 +10,10 @@ use Rattle.text.proofs.grammar.members.Statement.{statement}
 use Rattle.text.proofs.grammar.members.Tie as tie
 
 abbrev Inv-loop : tie.InvT-loop
-Inv-loop classes first p₀ p = (s : Sort) → Going classes (is-class first) (added (member-after s)) p₀ p
+Inv-loop classes from first p₀ p = (s : Sort) → Going classes (is-class first) (added (member-after s)) (parsed-of p₀) (parsed-of p)
 
 abbrev μ-loop : tie.MeasureT-loop
-μ-loop classes first p₀ p = length (classes-from classes p)
+μ-loop classes from first p₀ p = length (classes-from classes (parsed-of p))
 
 loop-holds : tie.Need-loop-holds Inv-loop μ-loop
 loop-holds c s = begins

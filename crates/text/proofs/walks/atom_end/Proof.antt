@@ -1,5 +1,8 @@
 -- `atom_end` meets its contract.
+use mathlib.Core.Path.{refl}
+use native.Mathlib.Omega.{arith}
 use borrow.Author.Needs.{needs}
+use Rattle.text.specs.definitions.Grammar.{atom-reader}
 use Rattle.text.proofs.steps.EndLaws.{answer-ends}
 use Rattle.text.proofs.walks.atom_end.Statement.{statement}
 use Rattle.text.proofs.walks.atom_end.Tie as tie
@@ -11,7 +14,8 @@ end-of-requires : tie.Need-end-of-requires
 end-of-requires c κs = search needs
 
 returns : tie.Need-returns
-returns c = answer-ends (c .before .atom .ensures) (c .end-of .ensures .0) (c .end-of .ensures .1)
+unfolding atom-reader
+returns c = answer-ends (omega arith) refl (c .before .atom .ensures) (c .end-of .ensures .0) (c .end-of .ensures .1)
 
 pub atom-end-spec : {M : Type 1} → statement M
 atom-end-spec = tie.close (tie.spec atom-requires end-of-requires returns)
