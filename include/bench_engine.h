@@ -1,7 +1,7 @@
 /* The Pantagruel bench engine: a bench file is checked once; then each line of readings is one call.
  *
- * Every call answers with one number. Its low 8 bits are 0 for acceptance or the number of a refusal; the bits above them are the offset
- * of a refused text, or the length of a written row or sheet. A refused call changes no byte that was lent to it.
+ * The answer of every call but byte_class has two parts. Its low 8 bits are 0 for acceptance or the number of a refusal; the bits above them
+ * are the offset of a refused text, or the length of a written row or sheet. A refused call changes no byte that was lent to it.
  *
  * Memory is lent as a pointer and a length; the slices lent to one call must not overlap. Any bytes and any lengths may be lent. Memory
  * longer than its stated size is fine: what lies past the written part stays as it was. A call takes some 360 KB of stack.
@@ -54,6 +54,22 @@ uint64_t bench_row(const uint8_t *bench, size_t bench_length, const uint8_t *sta
 uint64_t bench_sheet(const uint8_t *bench, size_t bench_length, const uint8_t *state, size_t state_length,
                      const uint8_t *readings, size_t readings_length, const uint8_t *cells, size_t cells_length,
                      uint8_t *sheet, size_t sheet_length);
+
+/* What the bytes of a bench file are for. */
+enum bench_byte_class {
+    BENCH_BYTE_LETTER = 0,
+    BENCH_BYTE_DIGIT = 1,
+    BENCH_BYTE_UNDERSCORE = 2,
+    BENCH_BYTE_MARK = 3,         /* { } ( ) : = , . + - * / */
+    BENCH_BYTE_BLANK = 4,        /* space, tab, line feed */
+    BENCH_BYTE_HASH = 5,         /* starts a comment */
+    BENCH_BYTE_COMMENT_ONLY = 6, /* every other one of 33 to 126 */
+    BENCH_BYTE_NOT_ALLOWED = 7
+};
+
+/* The class of a byte, one of these eight, as the check of a bench file has it. It is lent no memory and refuses nothing: the answer is the
+ * class itself, and not to be taken apart. */
+uint64_t byte_class(uint8_t byte);
 
 #ifdef __cplusplus
 }

@@ -331,6 +331,34 @@ static void halves_left_of_zero(void)
     check_rows(rows, sizeof rows / sizeof rows[0]);
 }
 
+/* The class of every byte, by the names of the header; and that a byte of each class is refused by 12, or not, where a word begins. */
+static void classes_of_bytes(void)
+{
+    static const char *const members[] = {
+        [BENCH_BYTE_LETTER] = "abcdefghijklmnopqrstuvwxyzABCDEFGHIJKLMNOPQRSTUVWXYZ",
+        [BENCH_BYTE_DIGIT] = "0123456789",
+        [BENCH_BYTE_UNDERSCORE] = "_",
+        [BENCH_BYTE_MARK] = "{}():=,.+-*/",
+        [BENCH_BYTE_BLANK] = " \t\n",
+        [BENCH_BYTE_HASH] = "#",
+        [BENCH_BYTE_COMMENT_ONLY] = "!\"$%&';<>?@[\\]^`|~",
+    };
+    uint8_t wanted[256];
+    memset(wanted, BENCH_BYTE_NOT_ALLOWED, sizeof wanted);
+    for (uint8_t class = 0; class < BENCH_BYTE_NOT_ALLOWED; class++)
+        for (const char *byte = members[class]; *byte; byte++)
+            wanted[(uint8_t)*byte] = class;
+    lend_exact();
+    for (unsigned byte = 0; byte < 256; byte++) {
+        check(byte_class((uint8_t)byte) == wanted[byte], "byte_class of each byte");
+        put_text(&text, "rules ?");
+        text.lent[6] = (uint8_t)byte;
+        int is_bad = wanted[byte] == BENCH_BYTE_UNDERSCORE || wanted[byte] >= BENCH_BYTE_COMMENT_ONLY;
+        int is_gap = wanted[byte] == BENCH_BYTE_BLANK || wanted[byte] == BENCH_BYTE_HASH;
+        check_answer(checked(), is_bad ? 12 : 13, is_gap ? 7 : 6, "a byte of each class after `rules`");
+    }
+}
+
 /* Sheets. Each row is written here as its six texts, which stand right aligned in 10 and five times 14 columns. */
 
 static void check_sheet(uint64_t answer, const char *const rows[][6], size_t count, const char *what)
@@ -799,6 +827,7 @@ int main(void)
         pedal_rows();
         lamp_joins_late();
         halves_left_of_zero();
+        classes_of_bytes();
         probe_sheet();
         later_day();
         sizes_of_sheets();

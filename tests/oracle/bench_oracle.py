@@ -1,13 +1,15 @@
 """An executable reading of document 01 ("The Pantagruel bench engine") with orders 1
-to 3 of document 02 ("Requests that came later"); no later order is in force here.
+to 4 of document 02 ("Requests that came later"); no later order is in force here.
 
 The module follows the order of document 01: values and sums, words, grammar,
-counts, names, kinds, the bare machine, lines of readings, the runner; the day sheet
-of document 02 stands behind them.  It aims at being easy to compare with the text,
-not at speed.  "Readings" below are the pages that decide the documents' open points.
-A quotation is document 01's unless document 02 or Readings is named beside it.
+counts, names, kinds, the bare machine, lines of readings, the runner; of document 02
+the byte classes stand before the words and the day sheet at the end.  It aims at
+being easy to compare with the text, not at speed.  "Readings" below are the pages
+that decide the documents' open points.  A quotation is document 01's unless document
+02 or Readings is named beside it.
 
-Public: check, Bench, run, state_after, sheet, stated_size, printed_sheet, main.
+Public: check, Bench, run, state_after, sheet, stated_size, printed_sheet, byte_class,
+printed_classes, main.
 """
 
 import math
@@ -182,6 +184,49 @@ def to_real(value: Cell) -> Cell:
 
 
 # --------------------------------------------------------------------------
+# Byte classes (document 02, order 4)
+# --------------------------------------------------------------------------
+
+# document 02, order 4: "a letter, a digit, `_`, a mark, a blank, `#`, for comments only, or not allowed",
+# "numbered 0 to 7 in this order"
+LETTER, DIGIT, UNDERSCORE, MARK, BLANK, COMMENT_SIGN, COMMENTS_ONLY, NOT_ALLOWED = range(8)
+
+LETTERS = frozenset(b"abcdefghijklmnopqrstuvwxyzABCDEFGHIJKLMNOPQRSTUVWXYZ")
+DIGITS = frozenset(b"0123456789")
+MARKS = frozenset(b"{}():=,.+-*/")
+BLANKS = frozenset(b" \t\n")  # Readings: "blank (9, 10, 32)"
+ALLOWED = frozenset(range(32, 127)) | frozenset(b"\t\n")  # "32 to 126, tab (9) and line feed (10)"
+
+
+def byte_class(byte: int) -> int:
+    """The class of a byte.  Words are taken by it alone, but for the line feed that closes a comment and
+    the `r` behind digits.
+
+    For comments only is an allowed byte that begins no word, goes on in no word and parts no two words.
+    """
+    if byte in LETTERS:
+        return LETTER
+    if byte in DIGITS:
+        return DIGIT
+    if byte == ord("_"):
+        return UNDERSCORE
+    if byte in MARKS:
+        return MARK
+    if byte in BLANKS:
+        return BLANK
+    if byte == ord("#"):
+        return COMMENT_SIGN
+    if byte in ALLOWED:
+        return COMMENTS_ONLY
+    return NOT_ALLOWED
+
+
+def printed_classes() -> bytes:
+    """What `--classes` prints: bytes 0 to 255 in order, each with its class, in decimal."""
+    return b"".join(b"%d %d\n" % (byte, byte_class(byte)) for byte in range(256))
+
+
+# --------------------------------------------------------------------------
 # Words
 # --------------------------------------------------------------------------
 
@@ -189,12 +234,8 @@ LONGEST_TEXT = 32768
 LONGEST_NAME = 24
 MOST_DIGITS = 10
 
-LETTERS = frozenset(b"abcdefghijklmnopqrstuvwxyzABCDEFGHIJKLMNOPQRSTUVWXYZ")
-DIGITS = frozenset(b"0123456789")
-NAME_BYTES = LETTERS | DIGITS | frozenset(b"_")
-BLANKS = frozenset(b" \t\n")
-MARKS = frozenset(b"{}():=,.+-*/")
-COMMENT_BYTES = frozenset(range(32, 127)) | frozenset(b"\t")
+NAME_CLASSES = frozenset([LETTER, DIGIT, UNDERSCORE])
+NUMBER_CLASSES = frozenset([DIGIT])
 
 RESERVED = frozenset(
     b"interface attribute event action entity rules when from with value changed "
@@ -224,25 +265,27 @@ class Refusal(Exception):
         self.place = place
 
 
-def end_of_run(text: bytes, start: int, allowed: frozenset) -> int:
-    """The first place from start on whose byte is not allowed (or the length)."""
+def end_of_run(text: bytes, start: int, classes: frozenset) -> int:
+    """The first place from start on whose byte is of none of these classes (or the length)."""
     stop = start
-    while stop < len(text) and text[stop] in allowed:
+    while stop < len(text) and byte_class(text[stop]) in classes:
         stop += 1
     return stop
 
 
 def end_of_comment(text: bytes, start: int) -> int:
     """ "`#` starts a comment up to the line feed or the end", of allowed bytes only."""
-    stop = end_of_run(text, start, COMMENT_BYTES)
-    if stop < len(text) and text[stop] != 10:
-        raise Refusal(12, stop)
+    stop = start
+    while stop < len(text) and text[stop] != 10:
+        if byte_class(text[stop]) == NOT_ALLOWED:
+            raise Refusal(12, stop)
+        stop += 1
     return stop
 
 
 def name_at(text: bytes, start: int) -> Tuple[Word, int]:
     """ "a letter, then letters, digits or `_`, 24 bytes at most (a longer run is no word)" """
-    stop = end_of_run(text, start, NAME_BYTES)
+    stop = end_of_run(text, start, NAME_CLASSES)
     run_text = text[start:stop]
     if len(run_text) > LONGEST_NAME:
         raise Refusal(12, start)
@@ -252,7 +295,7 @@ def name_at(text: bytes, start: int) -> Tuple[Word, int]:
 
 def number_at(text: bytes, start: int) -> Tuple[Word, int]:
     """ "1 to 10 digits, at most 2147483647; with `r` after it, that whole as a real" """
-    stop = end_of_run(text, start, DIGITS)
+    stop = end_of_run(text, start, NUMBER_CLASSES)
     if stop - start > MOST_DIGITS:
         raise Refusal(12, start)
     number = int(text[start:stop])
@@ -271,18 +314,18 @@ def words_of(text: bytes) -> List[Word]:
     words = []
     place = 0
     while place < len(text):
-        byte = text[place]
-        if byte in BLANKS:
+        first = byte_class(text[place])
+        if first == BLANK:
             place += 1
-        elif byte == ord("#"):
+        elif first == COMMENT_SIGN:
             place = end_of_comment(text, place)
-        elif byte in LETTERS:
+        elif first == LETTER:
             word, place = name_at(text, place)
             words.append(word)
-        elif byte in DIGITS:
+        elif first == DIGIT:
             word, place = number_at(text, place)
             words.append(word)
-        elif byte in MARKS:
+        elif first == MARK:
             words.append(Word(FIXED, text[place : place + 1], place))
             place += 1
         else:
@@ -1681,8 +1724,11 @@ def content(path: Path) -> bytes:
 def main(arguments: List[str]) -> int:
     with_sheet = len(arguments) == 3 and arguments[0] == "--sheet"
     if len(arguments) != 1 and not with_sheet:
-        sys.stderr.write("usage: python3 bench_oracle.py [--sheet CELLS] FOLDER\n")
+        sys.stderr.write("usage: python3 bench_oracle.py --classes | [--sheet CELLS] FOLDER\n")
         return 2
+    if arguments == ["--classes"]:
+        sys.stdout.buffer.write(printed_classes())
+        return 0
     folder = Path(arguments[-1])
     texts = content(folder / "bench.txt"), content(folder / "readings.txt")
     printed = printed_sheet(*texts, os.fsencode(arguments[1])) if with_sheet else run(*texts)

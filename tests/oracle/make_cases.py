@@ -1,13 +1,13 @@
-"""Makes cases.json, bench texts and readings with the results of bench_oracle, and
-sheets.json, the same for the day sheet.
+"""Makes cases.json, bench texts and readings with the results of bench_oracle,
+sheets.json, the same for the day sheet, and classes.txt, the class of every byte.
 
 Every stored result comes from bench_oracle; next to each written case stands the
-result worked out by hand from document 01 with orders 1 to 3 of document 02, and the two
+result worked out by hand from document 01 with orders 1 to 4 of document 02, and the two
 must agree.  In a refused bench text the mark @ (no byte of any such text otherwise)
 shows the expected place.
 
 `python3 tests/oracle/make_cases.py`, or with --check, compares: it fails, and names
-the first case that differs, if a file is not what is made here.  --write writes both.
+the first case or line that differs, if a file is not what is made here.  --write writes all three.
 """
 
 import copy
@@ -18,11 +18,12 @@ import sys
 from itertools import product, zip_longest
 from pathlib import Path
 
-from bench_oracle import Bench, check, printed_sheet, run, sheet, state_after, stated_size
+from bench_oracle import Bench, byte_class, check, printed_classes, printed_sheet, run, sheet, state_after, stated_size
 
 SEED = 20240601
 OUTPUT = Path(__file__).resolve().parent / "cases.json"
 SHEETS_OUTPUT = OUTPUT.with_name("sheets.json")
+CLASSES_OUTPUT = OUTPUT.with_name("classes.txt")
 
 CASES = []
 SHEETS = []
@@ -120,7 +121,7 @@ def make_accepted():
 
 
 # --------------------------------------------------------------------------
-# Words and grammar (12, 13)
+# Words (12)
 # --------------------------------------------------------------------------
 
 
@@ -131,6 +132,49 @@ def make_words():
     refused("word-number-too-large", 12, "entity s : I { a = 2147483647r b = - @2147483648r } rules end")
     refused("word-bad-byte-in-comment", 12, "rules end # tab\t is fine\n# return is not@\r\n")
 
+
+# --------------------------------------------------------------------------
+# Bytes at each kind of place (document 02, order 4)
+# --------------------------------------------------------------------------
+
+# an accepted file, if what stands behind the 7 is left out
+SEVEN = "interface I { attribute a : whole } entity s : I { a = 7%s } rules end"
+
+
+def make_bytes():
+    # every allowed byte but the line feed in one comment; outside it the ends of both alphabets at the beginning of a
+    # name, inside one and right behind digits, all digits at the beginning of a number and in a name, `_` inside and at
+    # the end of names, marks, blanks and `#` right behind names and digits; the text ends with an empty comment
+    accepted(
+        "byte-every-allowed-one",
+        "interface aZ_{attribute bcdefghijklmnopqrstuvwxy:whole attribute Az_0:whole attribute a:whole "
+        "attribute Z09a:whole attribute zA9:whole attribute BCDEFGHIJKLMNOPQRSTUVWXY:whole "
+        "attribute a1234567890_:whole event z:whole action A(whole)}"
+        "entity Z9:aZ_{bcdefghijklmnopqrstuvwxy=1Az_0=9a=90Z09a=09zA9=0#"
+        "\t !\"#$%&'()*+,-./0123456789:;<=>?@ABCDEFGHIJKLMNOPQRSTUVWXYZ[\\]^_`abcdefghijklmnopqrstuvwxyz{|}~\n"
+        "BCDEFGHIJKLMNOPQRSTUVWXY=2\ta1234567890_=3\n}"
+        "rules\nwhen event z from Z9 value=Z9.a+4*Z9.Az_0-5/Z9.zA9+6-Z9.a*Z9.a/Z9.a\t"
+        "trigger action A(7)on Z9 with a=8,action A(Z9.z)on Z9#,\nend end#",
+    )
+    # `_` neither goes on in a number nor begins a name behind it
+    refused("byte-underscore-after-digits", 12, SEVEN % "@_0")
+    # the byte before `a`, where a name should begin
+    refused("byte-comments-only-begins", 12, "interface @`a { } rules end")
+    # the byte after `Z`: the name ends before it and is a word, so the place is not the name's
+    refused("byte-comments-only-after-name", 12, "interface Z@[ { } rules end")
+    # `;` is neither a mark nor a blank
+    refused("byte-comments-only-after-digits", 12, SEVEN % "@;")
+    # a carriage return is no blank, not even before a line feed
+    refused("byte-not-allowed-begins", 12, "rules @\r\nend\r\n")
+    # a byte 0 does not end the text
+    refused("byte-not-allowed-after-name", 12, "rules end@\0")
+    # the byte before the space is no blank
+    refused("byte-not-allowed-after-digits", 12, SEVEN % "@\x1f")
+
+
+# --------------------------------------------------------------------------
+# Grammar (13)
+# --------------------------------------------------------------------------
 
 OPEN_I = "interface I { attribute a : real event r : real action k ( real ) } entity s : I { a = 1r } rules "
 
@@ -1735,6 +1779,46 @@ def check_quotients():
         assert right == 0 or sum(rounds_down(quotient, left, right) for quotient in range(-21, 22)) == 1, (left, right)
 
 
+# the bytes of classes 0 to 6 by document 01; class 6 is what the others leave of 33 to 126
+CLASS_BYTES = [LETTERS, "0123456789", "_", "{}():=,.+-*/", " \t\n", "#", "!\"$%&';<>?@[\\]^`|~"]
+
+# two alphabets of 26, ten digits, `_`, twelve marks, three blanks, `#`; of the 94 bytes 33 to 126 the other
+# 94 - 52 - 10 - 1 - 12 - 1; not allowed are 256 less those 94 and three blanks
+CLASS_COUNTS = [52, 10, 1, 12, 3, 1, 18, 159]
+
+
+def check_classes():
+    """The table of byte classes, against the numbers and the bytes that are written down above."""
+    classes = [byte_class(byte) for byte in range(256)]
+    assert sum(CLASS_COUNTS) == 256
+    assert [classes.count(number) for number in range(8)] == CLASS_COUNTS, classes
+    for number, text in enumerate(CLASS_BYTES):
+        assert len(text) == CLASS_COUNTS[number], number
+        assert all(classes[ord(byte)] == number for byte in text), number
+    lines = printed_classes().split(b"\n")
+    assert lines == [b"%d %d" % pair for pair in enumerate(classes)] + [b""]
+
+
+def check_places_of_bytes():
+    """Every byte right behind the beginning of a text, a name, ten digits and `#`: the answer for each class."""
+    for before, answers in (
+        # 13 at a word that begins no file, or at the length behind a blank or comment
+        (b"", [(13, 0), (13, 0), (12, 0), (13, 0), (13, 1), (13, 1), (12, 0), (12, 0)]),
+        # 13 at 6 for a longer word than `end`, at 9 for a word behind it
+        (b"rules end", [(13, 6), (13, 6), (13, 6), (13, 9), (0, 0), (0, 0), (12, 9), (12, 9)]),
+        # 12 at 0 for eleven digits
+        (b"1234567890", [(13, 0), (12, 0), (12, 10), (13, 0), (13, 0), (13, 0), (12, 10), (12, 10)]),
+        # only what is not allowed anywhere is not allowed in a comment; the line feed closes it
+        (b"rules end#", [(0, 0)] * 7 + [(12, 10)]),
+    ):
+        for byte in range(256):
+            assert check(before + bytes([byte])) == answers[byte_class(byte)], (before, byte)
+    # a comment goes on behind every allowed byte but the line feed
+    for byte in range(256):
+        answer = (12, 6) if byte_class(byte) == 7 else (0, 0) if byte == 10 else (13, 10)
+        assert check(b"rules#" + bytes([byte]) + b"end") == answer, byte
+
+
 def check_sizes():
     """Limits of length and number."""
     assert check(b"rules end".ljust(32768)) == (0, 0)
@@ -1847,7 +1931,7 @@ def check_folder_of_sheets():
 
 def check_folder_of_cases():
     """What the list must hold."""
-    assert 70 <= len(CASES) <= 110, len(CASES)
+    assert 70 <= len(CASES) <= 120, len(CASES)
     codes = [case["check"][0] for case in CASES if case["readings"] is None]
     assert codes.count(0) >= 3
     for code in range(12, 19):
@@ -1860,6 +1944,7 @@ def check_folder_of_cases():
 def make_all():
     make_accepted()
     make_words()
+    make_bytes()
     make_grammar()
     make_counts()
     make_names()
@@ -1877,6 +1962,8 @@ def make_all():
     make_quotients()
     make_random()
     check_quotients()
+    check_classes()
+    check_places_of_bytes()
     check_sizes()
     check_missing_columns()
     check_folder_of_cases()
@@ -1896,7 +1983,7 @@ def make_all_sheets():
 
 
 # --------------------------------------------------------------------------
-# The files of cases: compared, or written
+# The stored files: compared, or written
 # --------------------------------------------------------------------------
 
 
@@ -1925,10 +2012,9 @@ def difference_of_case(have, want):
     return "case %s: %s is %s and should be %s" % (want["name"], key, json.dumps(have.get(key)), json.dumps(want.get(key)))
 
 
-def difference(stored, cases):
-    """The first thing in these bytes that is not as it should be, in words; None if there is none."""
-    if stored == content(cases):
-        return None
+def difference_of_cases(stored, wanted):
+    """The first thing in these bytes of a file of cases that is not as wanted, in words."""
+    cases = json.loads(wanted.decode("ascii"))
     try:
         have_cases = json.loads(stored.decode("ascii"))
     except ValueError as error:
@@ -1941,26 +2027,38 @@ def difference(stored, cases):
     return "its cases are right, but not its layout"
 
 
-def is_right(path, cases):
-    """Whether the file holds these cases; prints what is unlike."""
-    found = difference(path.read_bytes(), cases) if path.is_file() else "there is no such file"
-    if found is not None:
+def difference_of_lines(stored, wanted):
+    """The first line in these bytes that is not as wanted, in words; None stands for no line."""
+    pairs = enumerate(zip_longest(stored.split(b"\n"), wanted.split(b"\n")), 1)
+    return next("line %d is %s and should be %s" % (number, have, want) for number, (have, want) in pairs if have != want)
+
+
+def is_right(path, wanted, difference):
+    """Whether the file holds these bytes; prints what is unlike."""
+    stored = path.read_bytes() if path.is_file() else None
+    if stored != wanted:
+        found = "there is no such file" if stored is None else difference(stored, wanted)
         print("%s is not what make_cases.py makes (--write would write it): %s" % (path.name, found))
-    return found is None
+    return stored == wanted
 
 
 def main(arguments):
     write = asked_to_write(arguments)
     make_all()
     make_all_sheets()
-    files = [(OUTPUT, CASES), (SHEETS_OUTPUT, SHEETS)]
+    files = [
+        (OUTPUT, content(CASES), difference_of_cases),
+        (SHEETS_OUTPUT, content(SHEETS), difference_of_cases),
+        (CLASSES_OUTPUT, printed_classes(), difference_of_lines),
+    ]
     if write:
-        for path, cases in files:
-            path.write_bytes(content(cases))
-    elif not all([is_right(path, cases) for path, cases in files]):
+        for path, wanted, _ in files:
+            path.write_bytes(wanted)
+    elif not all([is_right(*file) for file in files]):
         return 1
     print("%d cases" % len(CASES))
     print("%d sheets" % len(SHEETS))
+    print("%d byte classes" % printed_classes().count(b"\n"))
     return 0
 
 

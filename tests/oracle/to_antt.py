@@ -1,8 +1,9 @@
-"""The stored cases as statements about the definitions: crates/stored_texts/proofs/theorems/StoredTexts.antt,
+"""The stored cases as statements about the definitions: crates/stored_texts/proofs/theorems/StoredTexts.antt and StoredClasses.antt,
 crates/replay_cases/proofs/theorems/StoredLines.antt and crates/sheet_cases/proofs/theorems/StoredSheets.antt.
 
-cases.json and sheets.json hold texts and readings with what bench_oracle.py makes of them. Each statement says that the definitions compute the same,
-by `refl`. With no argument or `--check` it fails if the files differ, in more than layout, from what they should be; `--write` writes them.
+cases.json and sheets.json hold texts and readings with what bench_oracle.py makes of them, classes.txt its table of byte classes. Each statement says
+that the definitions compute the same, by `refl`. With no argument or `--check` it fails if the files differ, in more than layout, from what they
+should be; `--write` writes them.
 """
 
 import json
@@ -17,6 +18,13 @@ use Prim.Native.Nat.{_+_, _*_}
 use mathlib.Core.Path.{_≡_, refl}
 use Rattle.text.specs.definitions.Bytes.{ascii}
 use Rattle.checking.specs.definitions.Verdict.{verdict, verdict-answer}
+"""
+
+CLASSES = """-- The class of each byte. Made by tests/oracle/to_antt.py from tests/oracle/classes.txt.
+use mathlib.Core.Path.{_≡_, refl}
+use mathlib.Core.List.{[], _∷_}
+use Rattle.text.specs.definitions.ByteClass.{byte-class}
+use Rattle.text.specs.contracts.ByteTables.{tabulate, at-bytes}
 """
 
 LINES = """-- Readings, and all that is printed for them. Made by tests/oracle/to_antt.py from tests/oracle/cases.json.
@@ -36,10 +44,17 @@ use Rattle.sheet_cases.specs.definitions.SheetOf.{sheet-of}
 
 REALS = "Ieee.add Ieee.sub Ieee.mul Ieee.div Ieee.neg Ieee.eq Ieee.ofInt Ieee.ofBits Ieee.toBits Ieee.isNan"
 
+# what else is not printed is written by its number
+ESCAPES = {"\\": "\\\\", '"': '\\"', "\n": "\\n", "\t": "\\t", "\r": "\\r", "\0": "\\0"}
+
+
+def escaped(char: str) -> str:
+    return ESCAPES.get(char, char if " " <= char <= "~" else f"\\u{{{ord(char):x}}}")
+
 
 def quoted(text: str) -> str:
     """A text as antt writes it, with Rust's escapes."""
-    return '"' + text.replace("\\", "\\\\").replace('"', '\\"').replace("\n", "\\n").replace("\t", "\\t").replace("\r", "\\r") + '"'
+    return '"' + "".join(map(escaped, text)) + '"'
 
 
 def of_text(case: dict) -> str:
@@ -55,6 +70,14 @@ def of_sheet(case: dict) -> str:
     texts = " ".join(f"(ascii {quoted(case[name])})" for name in ("bench", "before", "readings", "cells"))
     answer = f"refused {case['number']}" if case["number"] else f"accepted (ascii {quoted(case['sheet'])})"
     return f"sheet-of {texts} ≡ {answer}"
+
+
+def file_of_classes(lines: list) -> str:
+    """The table of classes.txt, whose line k has the byte k and its class."""
+    if [line.split(" ")[0] for line in lines] != [str(byte) for byte in range(256)]:
+        raise SystemExit("classes.txt has not one line for each byte")
+    table = " ∷ ".join(line.split(" ")[1] for line in lines)
+    return f"{CLASSES}\npub byte-classes : at-bytes byte-class ≡ {table} ∷ []\nunfolding tabulate byte-class\nbyte-classes = refl\n"
 
 
 def file_of(imports: str, cases: list, statement, opened: str) -> str:
@@ -74,7 +97,9 @@ def main() -> int:
     texts = [case for case in cases if case["readings"] is None]
     runs = [case for case in cases if case["readings"] is not None]
     sheets = json.loads((HERE / "sheets.json").read_text())
+    classes = (HERE / "classes.txt").read_text().splitlines()
     files = {
+        "stored_texts/proofs/theorems/StoredClasses.antt": file_of_classes(classes),
         "stored_texts/proofs/theorems/StoredTexts.antt": file_of(TEXTS, texts, of_text, "verdict verdict-answer ascii"),
         "replay_cases/proofs/theorems/StoredLines.antt": file_of(LINES, runs, of_readings, "replay ascii\n    " + REALS),
         "sheet_cases/proofs/theorems/StoredSheets.antt": file_of(SHEETS, sheets, of_sheet, "sheet-of ascii Ieee.lt\n    " + REALS),
@@ -86,7 +111,7 @@ def main() -> int:
         elif path.read_text().split() != text.split():
             print(f"{name} is not what the stored cases give")
             return 1
-    print(f"{len(texts)} texts, {len(runs)} runs, {len(sheets)} sheets")
+    print(f"{len(texts)} texts, {len(runs)} runs, {len(sheets)} sheets, {len(classes)} byte classes")
     return 0
 
 

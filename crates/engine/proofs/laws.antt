@@ -10,3 +10,4 @@ pub mod FollowsLaws
 pub mod LineLaws
 pub mod ServingLaws
 pub mod SheetLaws
+pub mod ClassLaws

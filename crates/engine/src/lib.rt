@@ -1,12 +1,14 @@
 // The engine's entry points: a bench file is checked once; then each line of readings is one call.
 //
-// Every call answers with one number: document 01's number in its low 8 bits, 0 for acceptance, and above them the offset of a refused text
-// or the length of a written row or sheet. Nothing lent is trusted: memory may have any bytes and any length, and a refusal changes none of it.
+// Every call that is lent memory answers with one number: document 01's number in its low 8 bits, 0 for acceptance, and above them the offset of a
+// refused text or the length of a written row or sheet. Nothing lent is trusted: memory may have any bytes and any length, and a refusal changes none
+// of it.
 pub mod bench; // the bench image
 pub mod line; // a line on a checked bench
 pub mod serve; // a call on a bench's text
 
 ghost use Rattle.engine.specs.definitions.Calls.{Check-contract, Fresh-contract, Line-contract, Header-contract, Row-contract, Sheet-contract};
+ghost use Rattle.engine.specs.definitions.Calls.{Class-contract};
 use bench::text_of;
 use checking::layout::MOST_BYTES;
 use cycles::layout::MOST_ROW_BYTES;
@@ -15,6 +17,7 @@ use cycles::layout::STATE;
 use days::sheet::is_short;
 use serve::Call;
 use serve::serve;
+use text::class_of_byte;
 
 // Stated sizes, as that of a state: memory that is shorter is refused by 31.
 const BENCH: usize = NUMBER_BYTES + MOST_BYTES;
@@ -183,4 +186,12 @@ pub extern "C" fn bench_sheet(
         cells,
         sheet,
     )
+}
+
+// The class of a byte, 0 to 7, as the lexer has it: letter, digit, `_`, mark, blank, `#`, for comments only, not allowed.
+#[no_mangle]
+pub extern "C" fn byte_class(byte: u8) -> u64
+    ensures { λ r. ⌜ Class-contract byte r ⌝ }
+{
+    class_of_byte(byte) as u64
 }

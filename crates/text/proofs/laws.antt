@@ -11,8 +11,10 @@ pub mod NumberLaws
 pub mod LiteralLaws
 pub mod RunLaws
 pub mod FixedLaws
+pub mod ByteTableLaws
 pub mod DigitRunLaws
 pub mod ItemLaws
+pub mod ClassLaws
 pub mod RowLaws
 pub mod IntoColumnsLaws
 pub mod TokenFacts

@@ -1,3 +1,4 @@
 -- What is promised, proved.
 pub mod SkipLaws
 pub mod ParserViable
+pub mod ByteClasses

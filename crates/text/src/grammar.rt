@@ -53,7 +53,7 @@ pub const OPENERS: u32 = 16;
 
 // Where a reading ended is one number, a position: below REFUSED the index of the next token, from there on REFUSED plus the index of the first
 // token that fits nothing. No slice has so many bytes: a refused position lies behind every column, and one test tells that no token is left.
-// An enum of the two goes through memory at every call here, and the parser waits for it: tests/speed/text measures the time.
+// An enum of the two would go through memory at every call here, for which the parser would wait.
 pub const REFUSED: usize = 9223372036854775808;
 
 // What all tokens are: a file, or unfit from this one on (their count, if they end early).

@@ -1,5 +1,5 @@
 // The text of a bench file: its bytes and its tokens.
-pub mod bytes; // which bytes tokens and gaps are made of
+pub mod bytes; // the class of each byte
 pub mod classes; // the numbers of the tokens' classes
 pub mod grammar; // which token classes make a file
 pub mod reader; // a text with an offset, from which items are taken
@@ -7,13 +7,7 @@ pub mod reading; // a text into columns of tokens that are a file
 pub mod tokens; // what begins at an offset, and all tokens as columns
 pub mod walks; // steps over a column, and where a reading ends
 
-pub use bytes::is_between;
-pub use bytes::is_blank;
-pub use bytes::is_comment_byte;
-pub use bytes::is_digit;
-pub use bytes::is_letter;
-pub use bytes::is_name_byte;
-pub use bytes::mark_class;
+pub use bytes::class_of_byte;
 pub use grammar::Parsing;
 pub use grammar::parse;
 pub use reader::item_at;

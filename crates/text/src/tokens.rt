@@ -1,53 +1,103 @@
 // The tokens of a bench file: what begins at an offset, and the whole text's tokens as columns.
 ghost use mathlib.Core.Path.{_≡_};
 ghost use mathlib.Core.List.{List, [], _∷_};
+ghost use mathlib.Core.Bool.{true};
 ghost use mathlib.Core.Option.{Option·getD};
-ghost use Prim.Native.Nat.{_+_, _≤_, _<_};
+ghost use Prim.Native.Nat.{_+_, _-_, _≤_, _<_};
 ghost use lib.ListN.{length, drop};
-ghost use Rattle.text.specs.definitions.Bytes.{run, is-digit};
-ghost use Rattle.text.specs.definitions.Tokens.{Fixed, spelled, reserved, class-in, NAME, name-item, number-item};
+ghost use Rattle.text.specs.definitions.Bytes.{run, is-digit, is-comment-byte};
+ghost use Rattle.text.specs.definitions.ByteClass.{byte-class};
+ghost use Rattle.text.specs.definitions.Tokens.{Fixed, spelled, reserved, class-in, NAME, name-item, number-item, digits-value};
+ghost use Rattle.text.specs.contracts.ByteTables.{at-bytes, mark-class};
 ghost use Rattle.text.specs.contracts.TokenTable.{goes-on, of-length, part, located, token-at, offset-after, columns-of, Lexes};
 use crate::Item;
 use crate::Lexed;
 use crate::Run;
-use crate::bytes::is_blank;
-use crate::bytes::is_comment_byte;
-use crate::bytes::is_digit;
-use crate::bytes::is_letter;
-use crate::bytes::is_name_byte;
-use crate::bytes::mark_class;
+use crate::bytes::BLANK;
+use crate::bytes::DIGIT;
+use crate::bytes::HASH;
+use crate::bytes::LETTER;
+use crate::bytes::MARK;
+use crate::bytes::NOT_ALLOWED;
+use crate::bytes::UNDERSCORE;
+use crate::bytes::class_table;
+use crate::bytes::entry;
+use crate::bytes::mark_table;
 use crate::classes;
-use crate::reader::item_at;
-use values::Number;
-use values::forms::scan;
+use crate::reader::item_in;
 use values::slices::same_bytes;
 
 // ---- runs
 
+// Does a comment go on with the byte, which has this class? Of the blanks, the line feed ends it.
+fn is_in_comment(class: u8, b: u8) -> bool
+    requires { ⌜ class ≡ byte-class b ⌝ }
+    ensures { λ r. ⌜ r ≡ is-comment-byte b ⌝ }
+{
+    if class < BLANK {
+        return true;
+    }
+    if class == NOT_ALLOWED {
+        return false;
+    }
+    b != b'\n'
+}
+
 // Does a run go on with the byte?
-fn runs_on(which: Run, b: u8) -> bool
+fn runs_on(table: &[u8], which: Run, b: u8) -> bool
+    requires { ⌜ now table ≡ at-bytes byte-class ⌝ }
     ensures { λ r. ⌜ r ≡ goes-on which b ⌝ }
 {
+    let class = entry(table, b);
     match which {
-        Run::Comment => is_comment_byte(b),
-        Run::Name => is_name_byte(b),
-        Run::Digits => is_digit(b),
+        Run::Comment => is_in_comment(class, b),
+        Run::Name => class <= UNDERSCORE,
+        Run::Digits => class == DIGIT,
     }
 }
 
-// Where the longest run from an offset on ends.
-fn run_end(text: &[u8], at: usize, which: Run) -> usize
+// Where the longest run from an offset on ends, byte by byte.
+fn short_run_end(table: &[u8], text: &[u8], at: usize, which: Run) -> usize
+    requires { ⌜ now table ≡ at-bytes byte-class ⌝ }
     requires { ⌜ at ≤ length (now text) ⌝ }
     ensures { λ r. ⌜ (r ≡ at + length (run (goes-on which) (drop at (now (text .entry))))) × (r ≤ length (now (text .entry))) ⌝ }
 {
     let mut i = at;
     while i < text.len() {
-        if !runs_on(which, text[i]) {
+        if !runs_on(table, which, text[i]) {
             return i;
         }
         i += 1;
     }
     i
+}
+
+// The same, four bytes a turn while so many are left: one test for the text's end serves all four.
+fn run_end(table: &[u8], text: &[u8], at: usize, which: Run) -> usize
+    requires { ⌜ now table ≡ at-bytes byte-class ⌝ }
+    requires { ⌜ at ≤ length (now text) ⌝ }
+    ensures { λ r. ⌜ (r ≡ at + length (run (goes-on which) (drop at (now (text .entry))))) × (r ≤ length (now (text .entry))) ⌝ }
+{
+    let mut i = at;
+    while 4 <= text.len() - i {
+        let second = i + 1;
+        let third = second + 1;
+        let fourth = third + 1;
+        if !runs_on(table, which, text[i]) {
+            return i;
+        }
+        if !runs_on(table, which, text[second]) {
+            return second;
+        }
+        if !runs_on(table, which, text[third]) {
+            return third;
+        }
+        if !runs_on(table, which, text[fourth]) {
+            return fourth;
+        }
+        i = fourth + 1;
+    }
+    short_run_end(table, text, i, which)
 }
 
 // ---- names and reserved words
@@ -140,6 +190,29 @@ fn name_at(text: &[u8], at: usize, end: usize) -> Item
     }
 }
 
+// What a digit stands for.
+fn digit_value(b: u8) -> u64
+    requires { ⌜ is-digit b ≡ true ⌝ }
+    ensures { λ r. ⌜ (r ≡ b - 48) × (r < 10) ⌝ }
+{
+    (b - b'0') as u64
+}
+
+// The value of a run of digits, ten at most.
+fn digits_value(digits: &[u8]) -> u64
+    requires { ⌜ (length (now digits) ≤ 10) × (run is-digit (now digits) ≡ now digits) ⌝ }
+    ensures { λ r. ⌜ r ≡ digits-value 0 (now (digits .entry)) ⌝ }
+{
+    let mut n: u64 = 0;
+    let mut i: usize = 0;
+    while i < digits.len() {
+        let d = digit_value(digits[i]);
+        n = n * 10 + d;
+        i += 1;
+    }
+    n
+}
+
 // The number in the digits from `at` to `end`, and in an `r` after them.
 fn number_at(text: &[u8], at: usize, end: usize) -> Item
     requires { ⌜ (at < end) × (end ≤ length (now text)) ⌝ }
@@ -149,35 +222,30 @@ fn number_at(text: &[u8], at: usize, end: usize) -> Item
     if 10 < end - at {
         return Item::Bad;
     }
-    let number = scan(&text[at..end], 0, 10);
-    match number {
-        Number::Is(n) => {
-            if 2147483647 < n {
-                return Item::Bad;
-            }
-            let value = n as u32;
-            if end < text.len() {
-                if text[end] == b'r' {
-                    return Item::Found {
-                        class: classes::REAL_NUMBER,
-                        value: value,
-                        next: end + 1,
-                    };
-                }
-            }
-            Item::Found {
-                class: classes::WHOLE_NUMBER,
+    let n = digits_value(&text[at..end]);
+    if 2147483647 < n {
+        return Item::Bad;
+    }
+    let value = n as u32;
+    if end < text.len() {
+        if text[end] == b'r' {
+            return Item::Found {
+                class: classes::REAL_NUMBER,
                 value: value,
-                next: end,
-            }
+                next: end + 1,
+            };
         }
-        // never: all are digits
-        Number::Not => Item::Bad,
+    }
+    Item::Found {
+        class: classes::WHOLE_NUMBER,
+        value: value,
+        next: end,
     }
 }
 
-// What begins at an offset.
-pub(crate) fn token_at(text: &[u8], at: usize) -> Item
+// What begins at an offset, by the tables of byte classes and of marks.
+pub(crate) fn token_by(table: &[u8], marks: &[u8], text: &[u8], at: usize) -> Item
+    requires { ⌜ (now table ≡ at-bytes byte-class) × (now marks ≡ at-bytes mark-class) ⌝ }
     ensures { λ r. ⌜ r ≡ token-at (now (text .entry)) at ⌝ }
 {
     if text.len() <= at {
@@ -185,27 +253,28 @@ pub(crate) fn token_at(text: &[u8], at: usize) -> Item
     }
     let b = text[at];
     let next = at + 1;
-    if is_blank(b) {
-        return Item::Gap(next);
+    let class = entry(table, b);
+    match class {
+        LETTER => name_at(text, at, run_end(table, text, next, Run::Name)),
+        DIGIT => number_at(text, at, run_end(table, text, next, Run::Digits)),
+        MARK => Item::Found {
+            class: entry(marks, b),
+            value: 0,
+            next: next,
+        },
+        BLANK => Item::Gap(next),
+        HASH => Item::Gap(run_end(table, text, next, Run::Comment)),
+        _ => Item::Bad,
     }
-    if b == b'#' {
-        return Item::Gap(run_end(text, next, Run::Comment));
-    }
-    if is_letter(b) {
-        return name_at(text, at, run_end(text, next, Run::Name));
-    }
-    if is_digit(b) {
-        return number_at(text, at, run_end(text, next, Run::Digits));
-    }
-    let class = mark_class(b);
-    if class == classes::NAME {
-        return Item::Bad;
-    }
-    Item::Found {
-        class: class,
-        value: 0,
-        next: next,
-    }
+}
+
+// What begins at an offset.
+pub(crate) fn token_at(text: &[u8], at: usize) -> Item
+    ensures { λ r. ⌜ r ≡ token-at (now (text .entry)) at ⌝ }
+{
+    let table = class_table();
+    let marks = mark_table();
+    token_by(&table, &marks, text, at)
 }
 
 // The offset after what begins at an offset; the same where nothing does.
@@ -223,14 +292,17 @@ pub(crate) fn offset_after(text: &[u8], at: usize) -> usize
 
 // ---- all tokens
 
-// The tokens of a text into columns, a row for each: class, offset, length and value. Rows after the last may hold anything.
-pub fn lex(
+// The tokens of a text into columns, by the tables.
+fn lex_by(
+    table: &[u8],
+    marks: &[u8],
     text: &[u8],
     classes: &mut [u8],
     offsets: &mut [u16],
     lengths: &mut [u8],
     values: &mut [u32],
 ) -> Lexed
+    requires { ⌜ (now table ≡ at-bytes byte-class) × (now marks ≡ at-bytes mark-class) ⌝ }
     ensures { λ r. ⌜ Lexes (now (text .entry)) (columns-of (now (classes .entry)) (now (offsets .entry)) (now (lengths .entry)) (now (values .entry)))
         (columns-of (now (classes .exit)) (now (offsets .exit)) (now (lengths .exit)) (now (values .exit))) r ⌝ }
 {
@@ -252,7 +324,7 @@ pub fn lex(
     let mut at: usize = 0;
     let mut n: usize = 0;
     loop {
-        let item = item_at(text, at);
+        let item = item_in(table, marks, text, at);
         match item {
             Item::Gap(next) => {
                 at = next;
@@ -273,4 +345,20 @@ pub fn lex(
             }
         }
     }
+}
+
+// The tokens of a text into columns, a row for each: class, offset, length and value. Rows after the last may hold anything.
+pub fn lex(
+    text: &[u8],
+    classes: &mut [u8],
+    offsets: &mut [u16],
+    lengths: &mut [u8],
+    values: &mut [u32],
+) -> Lexed
+    ensures { λ r. ⌜ Lexes (now (text .entry)) (columns-of (now (classes .entry)) (now (offsets .entry)) (now (lengths .entry)) (now (values .entry)))
+        (columns-of (now (classes .exit)) (now (offsets .exit)) (now (lengths .exit)) (now (values .exit))) r ⌝ }
+{
+    let table = class_table();
+    let marks = mark_table();
+    lex_by(&table, &marks, text, classes, offsets, lengths, values)
 }

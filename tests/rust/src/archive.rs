@@ -1,4 +1,4 @@
-//! Safe wrappers over the six calls of the engine's archive.
+//! Safe wrappers over the seven calls of the engine's archive.
 
 use std::collections::hash_map::DefaultHasher;
 use std::fs;
@@ -57,6 +57,7 @@ mod c {
             sheet: *mut u8,
             sheet_length: usize,
         ) -> u64;
+        pub fn byte_class(byte: u8) -> u64;
     }
 }
 
@@ -110,4 +111,9 @@ pub fn bench_sheet(bench: &[u8], state: &[u8], readings: &[u8], cells: &[u8], sh
             sheet.len(),
         )
     }
+}
+
+/// Lends nothing.
+pub fn byte_class(byte: u8) -> u64 {
+    unsafe { c::byte_class(byte) }
 }

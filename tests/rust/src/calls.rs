@@ -1,4 +1,5 @@
-//! The six calls as the interpreter answers them. Each is a function of the lent bytes alone.
+//! The six calls on lent memory as the interpreter answers them. Each is a function of the lent bytes alone. The seventh, a byte's class,
+//! lends nothing: it is the interpreter's own function.
 
 use crate::image::{self, sheet_size, BENCH_SIZE, ROW_SIZE, STATE_SIZE};
 use crate::interpreter::grammar::Bench;

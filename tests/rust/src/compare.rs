@@ -2,6 +2,7 @@
 
 use crate::generate::case::{Call, Case, Lent, Step};
 use crate::image::{BENCH_SIZE, ROW_SIZE, STATE_SIZE};
+use crate::interpreter::bytes::byte_class;
 use crate::memory::{Memory, Side, Tally, OURS};
 use crate::show::show_bytes;
 use crate::{archive, interpreter};
@@ -75,7 +76,7 @@ impl Sides {
             return Err(Box::new(self.mismatch(step, what, ours, theirs)));
         }
         self.steps += 1;
-        self.tally.count(step, theirs, &self.theirs);
+        self.tally.count(&self.text, step, theirs, &self.theirs);
         Ok(theirs)
     }
 
@@ -133,6 +134,12 @@ pub fn run(case: &Case) -> Result<Tally, Box<Mismatch>> {
         sides.step(step)?;
     }
     Ok(sides.tally)
+}
+
+/// The bytes whose classes differ, each with the interpreter's class and the engine's.
+pub fn other_classes() -> Vec<(u8, u64, u64)> {
+    let classes = |byte: u8| (byte, byte_class(byte), archive::byte_class(byte));
+    (0..=255).map(classes).filter(|(_, ours, theirs)| ours != theirs).collect()
 }
 
 // What a reader sees of a mismatch.

@@ -1,4 +1,4 @@
-//! A second interpreter of the Pantagruel bench engine, written from document 01 and orders 1 to 3 of document 02 alone, and the means
+//! A second interpreter of the Pantagruel bench engine, written from document 01 and orders 1 to 4 of document 02 alone, and the means
 //! to compare it with the engine.
 //!
 //! What needs the engine's archive exists only with it: the interpreter is never compared with itself.
@@ -13,6 +13,7 @@ pub mod image;
 pub mod interpreter;
 pub mod memory;
 pub mod options;
+pub mod places;
 pub mod replay;
 pub mod runner;
 pub mod sheets;

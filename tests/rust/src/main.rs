@@ -4,6 +4,7 @@ use second::compare::{self, Mismatch};
 use second::generate::{self, case::Case};
 use second::memory::Tally;
 use second::options::{Options, USAGE};
+use second::places::coverage::place_name;
 use second::two_runs::{self, Verdict};
 use second::{archive, shrink};
 use std::env;
@@ -29,6 +30,11 @@ struct Report {
     proper_fired_differing: u64,
     proper_joining_differing: u64,
     pairs: u64,
+    /// Bytes whose classes differ.
+    other_classes: u64,
+    /// Texts with one byte at one kind of place, and those of them that are checked otherwise.
+    placed: u64,
+    other_placed: u64,
 }
 
 fn main() -> ExitCode {
@@ -38,18 +44,54 @@ fn main() -> ExitCode {
     };
     archive::assert_current();
     let mut report = Report::default();
+    report.byte_classes();
+    report.placed_bytes();
     options.case_numbers().for_each(|number| report.case(options.seed, number));
     report.print();
-    let complete = options.single() || report.failed > 0 || report.complete(options.cases);
-    println!("{} passed, {} failed", report.passed, report.failed + u64::from(!complete));
-    ExitCode::from(u8::from(report.failed > 0 || !complete))
+    let failures = report.failed + report.other_classes + report.other_placed;
+    let complete = options.single() || failures > 0 || report.complete(options.cases);
+    println!("{} passed, {} failed", report.passed, failures + u64::from(!complete));
+    ExitCode::from(u8::from(failures > 0 || !complete))
 }
 
 impl Report {
+    /// The class of every byte.
+    fn byte_classes(&mut self) {
+        for (byte, ours, theirs) in compare::other_classes() {
+            println!("byte {byte}: class {ours} by the interpreter, {theirs} by the engine");
+            self.other_classes += 1;
+        }
+    }
+
+    /// A check of every byte at every kind of place.
+    fn placed_bytes(&mut self) {
+        for (place, byte, case) in generate::places::every() {
+            self.placed += 1;
+            let Err(mismatch) = compare::run(&case) else { continue };
+            if self.other_placed < SHOWN_MOST {
+                println!("byte {byte}, {}: {}\n{}", place_name(place), mismatch.what, compare::show(&case, &mismatch));
+            }
+            self.other_placed += 1;
+        }
+    }
+
     fn case(&mut self, seed: u64, number: u64) {
-        let passed = if number % TWO_RUNS_EVERY == TWO_RUNS_EVERY - 1 { self.two_runs(seed, number) } else { self.one_run(seed, number) };
+        let ran = if number % TWO_RUNS_EVERY == TWO_RUNS_EVERY - 1 { self.two_runs(seed, number) } else { self.one_run(seed, number) };
+        let passed = self.put_in(seed, number) && ran;
         self.passed += u64::from(passed);
         self.failed += u64::from(!passed);
+    }
+
+    /// A text with bytes put in. It counts for them alone: the answers of the table are for the other cases to draw.
+    fn put_in(&mut self, seed: u64, number: u64) -> bool {
+        let case = generate::places::case(seed, number);
+        match compare::run(&case) {
+            Ok(tally) => {
+                self.tally.places.add(&tally.places);
+                true
+            }
+            Err(mismatch) => self.show(number, &case, &mismatch),
+        }
     }
 
     fn one_run(&mut self, seed: u64, number: u64) -> bool {
@@ -105,9 +147,12 @@ impl Report {
 
     fn print(&self) {
         println!("the second interpreter against the engine's archive");
+        println!("256 byte classes: {} differ", self.other_classes);
+        println!("{} texts, every byte at every kind of place: {} differ", self.placed, self.other_placed);
         println!("{} cases, {} calls, {} accepted lines with fired actions", self.passed + self.failed, self.tally.calls, self.tally.fired);
         let counts: Vec<String> = NUMBERS.iter().map(|number| format!("{number}: {}", self.count(*number))).collect();
         println!("answers: {}", counts.join(", "));
+        self.tally.places.print();
         self.tally.sheets.print();
         println!(
             "two runs: {} trials ({} void), {} pairs of accepted lines; {} with a nonempty proper closed set, {} of these with a fired action of the set, {} of these with other readings elsewhere, {} of these with an action fired in a line in which an entity of the set comes",
@@ -127,7 +172,7 @@ impl Report {
             println!("answer {number} came up less than {least} times");
             complete = false;
         }
-        for lack in self.tally.sheets.lacking(least) {
+        for lack in self.tally.places.lacking(least).into_iter().chain(self.tally.sheets.lacking(least)) {
             println!("{lack}");
             complete = false;
         }

@@ -4,7 +4,8 @@ use crate::calls;
 use crate::generate::case::{Call, Case, Lent, Step, LONGER_MOST};
 use crate::generate::prng::Prng;
 use crate::image::{BENCH_SIZE, ROW_SIZE, STATE_SIZE};
-use crate::sheets::coverage::Coverage;
+use crate::places::coverage::Coverage as Places;
+use crate::sheets::coverage::Coverage as Sheets;
 use std::collections::BTreeMap;
 
 /// Bytes past everything that is ever lent: nobody may touch them.
@@ -95,7 +96,9 @@ pub struct Tally {
     pub calls: u64,
     /// Accepted lines that gave some fired action.
     pub fired: u64,
-    pub sheets: Coverage,
+    pub sheets: Sheets,
+    /// Of the texts that were checked.
+    pub places: Places,
 }
 
 impl Tally {
@@ -106,11 +109,15 @@ impl Tally {
         self.calls += other.calls;
         self.fired += other.fired;
         self.sheets.add(&other.sheets);
+        self.places.add(&other.places);
     }
 
-    /// Counts one step and its answer, with the memory after it.
-    pub fn count(&mut self, step: &Step, answer: Option<u64>, memory: &Memory) {
+    /// Counts one step and its answer, with the bench text and the memory after it.
+    pub fn count(&mut self, text: &[u8], step: &Step, answer: Option<u64>, memory: &Memory) {
         let Some(answer) = answer else { return };
+        if matches!(step.call, Call::Check) {
+            self.places.take(text, answer);
+        }
         if matches!(step.call, Call::Sheet { .. }) {
             return self.sheets.take(step, answer, memory);
         }
@@ -135,7 +142,7 @@ pub fn answers(case: &Case) -> Tally {
     for step in &case.steps {
         memory.lend_sheet(step);
         let answer = OURS.answer(&case.text, step, &mut memory);
-        tally.count(step, answer, &memory);
+        tally.count(&case.text, step, answer, &memory);
     }
     tally
 }

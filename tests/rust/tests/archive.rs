@@ -23,6 +23,18 @@ fn the_engine_is_not_the_interpreter() {
 }
 
 #[test]
+fn byte_classes_agree() {
+    assert_eq!(compare::other_classes(), []);
+}
+
+#[test]
+fn placed_bytes_agree() {
+    for (place, byte, case) in generate::places::every() {
+        assert!(compare::run(&case).is_ok(), "byte {byte}, {place:?}");
+    }
+}
+
+#[test]
 fn cases_agree() {
     for number in 0..100 {
         assert!(compare::run(&generate::case(3, number)).is_ok(), "case {number}");

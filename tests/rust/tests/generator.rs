@@ -1,6 +1,6 @@
-//! The generator itself: its valid benches are accepted, its cases draw every answer of the table and tell machines that read clause
-//! filters in the wrong cycle or divide wholes by another rule from the right one, a seed makes a case again. Its sheets are tried in
-//! tests/wrong_sheets.rs.
+//! The generator itself: its valid benches are accepted, its cases draw every answer of the table, have bytes of every class at every kind
+//! of place, and tell machines that read clause filters in the wrong cycle or divide wholes by another rule from the right one, a seed
+//! makes a case again. Its sheets are tried in tests/wrong_sheets.rs.
 
 use second::generate::bench::{bench, render, LARGE, LOOSE, SMALL};
 use second::generate::case::{Call, Case};
@@ -116,6 +116,18 @@ fn cases_show_late_filters() {
         shown >= 90 && at_joining >= 30 && at_staying >= 12,
         "{shown} shown, {at_joining} at joining, {at_staying} at staying entities"
     );
+}
+
+/// Catches a generator whose texts lack bytes of some class at some kind of place, or have them only where a text is accepted, or only
+/// where it is refused.
+#[test]
+fn cases_have_every_class_at_every_place() {
+    let mut tally = Tally::default();
+    for number in 0..3_000 {
+        tally.add(&memory::answers(&generate::without_sheets(3, number)));
+        tally.add(&memory::answers(&generate::places::case(3, number)));
+    }
+    assert_eq!(tally.places.lacking(40), [""; 0]);
 }
 
 fn unless_zero(b: i64, value: impl FnOnce() -> i64) -> Cell {
@@ -346,5 +358,9 @@ fn a_seed_makes_a_case_again() {
         assert_eq!(case, generate::case(3, number));
         assert_ne!(case, generate::case(4, number));
         assert_ne!(case, generate::case(3, number + 1));
+        let placed = generate::places::case(3, number);
+        assert_eq!(placed, generate::places::case(3, number));
+        assert_ne!(placed, generate::places::case(4, number));
+        assert_ne!(placed, generate::places::case(3, number + 1));
     }
 }

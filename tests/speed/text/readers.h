@@ -7,3 +7,7 @@ uint64_t measure_text(const uint8_t *text, size_t text_len, uint8_t *classes, si
 
 uint64_t plain_read(const uint8_t *text, size_t text_len, uint8_t *classes, size_t classes_len, uint16_t *offsets, size_t offsets_len,
                     uint8_t *lengths, size_t lengths_len, uint32_t *values, size_t values_len);
+
+/* The proved reader of another archive, under another name. */
+uint64_t before_text(const uint8_t *text, size_t text_len, uint8_t *classes, size_t classes_len, uint16_t *offsets, size_t offsets_len,
+                     uint8_t *lengths, size_t lengths_len, uint32_t *values, size_t values_len);

@@ -1,4 +1,5 @@
-/* Compares the two readers on the texts that are given as arguments: the same answers, also on damaged texts, and then their times. */
+/* Compares the two readers on the texts that are given as arguments: the same answers, also on damaged texts, and then their times. Built with
+ * BEFORE, it has the proved reader of another archive beside them, whose times are taken in the same rounds. */
 #define _POSIX_C_SOURCE 199309L
 #include "readers.h"
 #include <stdio.h>
@@ -97,6 +98,10 @@ static double microseconds(void) {
     return (double)t.tv_sec * 1e6 + (double)t.tv_nsec / 1e3;
 }
 
+#ifdef BEFORE
+static columns former;
+#endif
+
 static volatile uint64_t sink;
 static double once(reader *r, columns *c, const uint8_t *text, size_t n, int calls) {
     double from = microseconds();
@@ -107,6 +112,11 @@ static double once(reader *r, columns *c, const uint8_t *text, size_t n, int cal
 static int by_size(const void *a, const void *b) {
     double x = *(const double *)a, y = *(const double *)b;
     return (x > y) - (x < y);
+}
+
+static double median(double *times) {
+    qsort(times, ROUNDS, sizeof *times, by_size);
+    return times[ROUNDS / 2];
 }
 
 static uint8_t text[ROOM * 2], copy[ROOM * 2];
@@ -141,22 +151,29 @@ int main(int argc, char **argv) {
     printf("%lu texts, the same answers: %lu files, %lu times 11, %lu times 12, %lu times 13, %lu times 31\n", compared, by_code[0], by_code[11],
            by_code[12], by_code[13], by_code[31]);
 
-    printf("%-28s %7s %8s %12s %12s %7s\n", "text", "bytes", "tokens", "Rattle us", "plain C us", "ratio");
+    printf("%-12s %7s %8s %10s %10s %7s\n", "text", "bytes", "tokens", "Rattle us", "plain C us", "ratio");
     for (int i = 1; i < argc; i++) {
         FILE *f = fopen(argv[i], "rb");
         size_t n = fread(text, 1, ROOM, f);
         fclose(f);
         int calls = n < 4096 ? 50 : 1;
         static double a[ROUNDS], b[ROUNDS];
+#ifdef BEFORE
+        static double c[ROUNDS];
+#endif
         for (int k = 0; k < ROUNDS; k++) {
             a[k] = once(measure_text, &ours, text, n, calls);
             b[k] = once(plain_read, &theirs, text, n, calls);
+#ifdef BEFORE
+            c[k] = once(before_text, &former, text, n, calls);
+#endif
         }
-        qsort(a, ROUNDS, sizeof *a, by_size);
-        qsort(b, ROUNDS, sizeof *b, by_size);
+        double plain = median(b), now = median(a);
         const char *title = strrchr(argv[i], '/') ? strrchr(argv[i], '/') + 1 : argv[i];
-        printf("%-28s %7zu %8llu %12.2f %12.2f %7.2f\n", title, n, (unsigned long long)(run(measure_text, &ours, text, n) >> 8), a[ROUNDS / 2], b[ROUNDS / 2],
-               a[ROUNDS / 2] / b[ROUNDS / 2]);
+        printf("%-12s %7zu %8llu %10.2f %10.2f %7.2f\n", title, n, (unsigned long long)(run(measure_text, &ours, text, n) >> 8), now, plain, now / plain);
+#ifdef BEFORE
+        printf("%-12s %7s %8s %10.2f %10s %7.2f\n", "  before", "", "", median(c), "", median(c) / plain);
+#endif
     }
     return 0;
 }

@@ -1,13 +1,14 @@
 -- The three demands, proved: each claim under the words that it answers, and cited in a line below. A call appears by its contract, which equates
 -- its answer and all memory that it may write with a function of what was lent (Calls); which refusal comes first, the places, and that bytes past
 -- what is written stay, are said there.
-use Prim.Native.Nat.{ℕ, _≤_}
+use Prim.Native.Nat.{ℕ, _≤_, _<_}
 use mathlib.Core.Path.{_≡_}
 use mathlib.Core.Logic.{_↔_}
 use mathlib.Core.List.{List, [], _∷_, map}
 use mathlib.Core.Option.{some}
 use lib.ListN.{length}
 use Rattle.text.specs.definitions.Syntax.{File}
+use Rattle.text.specs.definitions.ByteClass.{Classified}
 use Rattle.checking.specs.definitions.Verdict.{Verdict, verdict}
 use Rattle.checking.specs.definitions.Admitted.{Admitted}
 use Rattle.cycles.specs.definitions.Outcome.{running, proceed}
@@ -18,7 +19,17 @@ use Rattle.cycles.specs.definitions.StateImage.{STATE, state-of}
 use Rattle.cycles.specs.definitions.ClosedSet.{Closed}
 use Rattle.days.specs.definitions.DaySheet.{sheet-size}
 use Rattle.engine.specs.definitions.BenchImage.{BENCH}
-use Rattle.engine.specs.definitions.Calls.{ROW, After-line, Check-contract, Fresh-contract, Line-contract, Header-contract, Row-contract, Sheet-contract}
+use Rattle.engine.specs.definitions.Calls.{
+  ROW,
+  After-line,
+  Check-contract,
+  Fresh-contract,
+  Line-contract,
+  Header-contract,
+  Row-contract,
+  Sheet-contract,
+  Class-contract,
+}
 use Rattle.engine.specs.definitions.Runs.{Request, Run-start, Run, sight, ref-run, taken-lines}
 use Rattle.engine.specs.definitions.DemandOne.{number-of, CHECK-NUMBERS, FRESH-NUMBERS, LINE-NUMBERS, HEADER-NUMBERS, ROW-NUMBERS, SHEET-NUMBERS, Listed-answer}
 use Rattle.engine.specs.definitions.DemandTwo.{
@@ -39,6 +50,7 @@ use Rattle.engine.specs.definitions.DemandThree.{Same-lines, Same-values
 use Rattle.engine.proofs.laws.NumberLaws.{check-numbered, fresh-numbered, line-numbered, header-numbered, row-numbered}
 use Rattle.engine.proofs.laws.CheckLaws.{check-admits}
 use Rattle.engine.proofs.laws.SheetLaws.{sheet-numbered, sheet-sheets}
+use Rattle.engine.proofs.laws.ClassLaws.{answer-classified}
 use Rattle.engine.proofs.laws.FollowsLaws.{fresh-freshens, line-follows, header-names, row-shows, row-reads-back}
 use Rattle.engine.proofs.laws.RunLaws.{run-stays, runs-apart, run-resent}
 
@@ -91,6 +103,8 @@ pub record Demand-two : Type 0 where
   pub sheets : (bench state readings cells sheet new-sheet : List ℕ) (r : ℕ) → Sheet-contract bench state readings cells sheet new-sheet r
       → BENCH ≤ length bench → STATE ≤ length state → sheet-size readings ≤ length sheet
       → ((number-of r ≡ 0) ↔ Sheet-lent bench state readings cells) × (number-of r ≡ 0 → Sheets bench state readings cells sheet r new-sheet)
+  -- the class of a byte (document 02, order 4), of all 256
+  pub classes : (byte r : ℕ) → byte < 256 → Class-contract byte r → Classified byte r
   -- "a resent line changes nothing and gives its first row again"
   pub resent : (text : List ℕ) (f : File) → verdict text ≡ Verdict.accepted f
       → (bench state : List ℕ) → Run-start text bench state
@@ -109,6 +123,7 @@ demand-two = record {
   names = header-names;
   shows = row-shows;
   sheets = sheet-sheets;
+  classes = answer-classified;
   resent = run-resent;
   reads-back = row-reads-back;
 }

@@ -1,6 +1,7 @@
 -- The public calls as functions of the lent bytes: the answer, and every lent byte after the call. An answer has document 01's number in its
--- low 8 bits, 0 for acceptance, and above them the offset of a refusal of a text or the length of a written row or sheet.
-use Prim.Native.Nat.{ℕ, _+_, _*_, _%_}
+-- low 8 bits, 0 for acceptance, and above them the offset of a refusal of a text or the length of a written row or sheet. One call is lent no
+-- memory: its answer is the class of a byte.
+use Prim.Native.Nat.{ℕ, _*_, _%_}
 use mathlib.Core.Path.{_≡_}
 use mathlib.Core.List.{List, _++_}
 use mathlib.Core.Bool.{true, false, _||_}
@@ -8,6 +9,7 @@ use mathlib.Core.Option.{Option, none, some}
 use lib.Dec.{ltb, eqb}
 use lib.ListN.{length, drop}
 use Rattle.text.specs.definitions.Syntax.{File}
+use Rattle.text.specs.definitions.ByteClass.{byte-class}
 use Rattle.checking.specs.definitions.Verdict.{Verdict, verdict, verdict-answer}
 use Rattle.cycles.specs.definitions.Store.{State, Line}
 use Rattle.cycles.specs.definitions.Cycle.{fresh}
@@ -191,3 +193,7 @@ Row-contract bench state row new-row r = record { answer = r; row = new-row } �
 abbrev pub Sheet-contract : (bench state readings cells sheet new-sheet : List ℕ) → ℕ → Type 0
 Sheet-contract bench state readings cells sheet new-sheet r =
     record { answer = r; sheet = new-sheet } ≡ sheet-call bench state readings cells sheet
+
+-- "let a call give the class of a byte" (document 02, order 4): no memory is lent, nothing is refused, and the answer is the class itself
+abbrev pub Class-contract : (byte : ℕ) → ℕ → Type 0
+Class-contract byte r = r ≡ byte-class byte

@@ -40,6 +40,38 @@ pub word-bad-byte-in-comment : verdict-answer (verdict (ascii "rules end # tab\t
 unfolding verdict verdict-answer ascii
 word-bad-byte-in-comment = refl
 
+pub byte-every-allowed-one : verdict-answer (verdict (ascii "interface aZ_{attribute bcdefghijklmnopqrstuvwxy:whole attribute Az_0:whole attribute a:whole attribute Z09a:whole attribute zA9:whole attribute BCDEFGHIJKLMNOPQRSTUVWXY:whole attribute a1234567890_:whole event z:whole action A(whole)}entity Z9:aZ_{bcdefghijklmnopqrstuvwxy=1Az_0=9a=90Z09a=09zA9=0#\t !\"#$%&'()*+,-./0123456789:;<=>?@ABCDEFGHIJKLMNOPQRSTUVWXYZ[\\]^_`abcdefghijklmnopqrstuvwxyz{|}~\nBCDEFGHIJKLMNOPQRSTUVWXY=2\ta1234567890_=3\n}rules\nwhen event z from Z9 value=Z9.a+4*Z9.Az_0-5/Z9.zA9+6-Z9.a*Z9.a/Z9.a\ttrigger action A(7)on Z9 with a=8,action A(Z9.z)on Z9#,\nend end#")) ≡ 0 + 256 * 0
+unfolding verdict verdict-answer ascii
+byte-every-allowed-one = refl
+
+pub byte-underscore-after-digits : verdict-answer (verdict (ascii "interface I { attribute a : whole } entity s : I { a = 7_0 } rules end")) ≡ 12 + 256 * 56
+unfolding verdict verdict-answer ascii
+byte-underscore-after-digits = refl
+
+pub byte-comments-only-begins : verdict-answer (verdict (ascii "interface `a { } rules end")) ≡ 12 + 256 * 10
+unfolding verdict verdict-answer ascii
+byte-comments-only-begins = refl
+
+pub byte-comments-only-after-name : verdict-answer (verdict (ascii "interface Z[ { } rules end")) ≡ 12 + 256 * 11
+unfolding verdict verdict-answer ascii
+byte-comments-only-after-name = refl
+
+pub byte-comments-only-after-digits : verdict-answer (verdict (ascii "interface I { attribute a : whole } entity s : I { a = 7; } rules end")) ≡ 12 + 256 * 56
+unfolding verdict verdict-answer ascii
+byte-comments-only-after-digits = refl
+
+pub byte-not-allowed-begins : verdict-answer (verdict (ascii "rules \r\nend\r\n")) ≡ 12 + 256 * 6
+unfolding verdict verdict-answer ascii
+byte-not-allowed-begins = refl
+
+pub byte-not-allowed-after-name : verdict-answer (verdict (ascii "rules end\0")) ≡ 12 + 256 * 9
+unfolding verdict verdict-answer ascii
+byte-not-allowed-after-name = refl
+
+pub byte-not-allowed-after-digits : verdict-answer (verdict (ascii "interface I { attribute a : whole } entity s : I { a = 7\u{1f} } rules end")) ≡ 12 + 256 * 56
+unfolding verdict verdict-answer ascii
+byte-not-allowed-after-digits = refl
+
 pub grammar-early-end-blanks-comment : verdict-answer (verdict (ascii "interface I { }\nrules\t # no end\n \t")) ≡ 13 + 256 * 34
 unfolding verdict verdict-answer ascii
 grammar-early-end-blanks-comment = refl

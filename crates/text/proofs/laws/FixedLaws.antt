@@ -9,7 +9,7 @@ use lib.Dec.{leb, eqb}
 use lib.ListN.{length}
 use borrow.Author.Tests.{leb-true, eqb-false, eq-eqb, ne-eqb}
 use Rattle.values.specs.definitions.Bytes.{same-bytes}
-use Rattle.values.proofs.laws.ByteLaws.{same-bytes-self, same-bytes-equal}
+use Rattle.values.proofs.laws.ByteLaws.{same-bytes-equal}
 use Rattle.text.specs.definitions.Bytes.{between}
 use Rattle.text.specs.definitions.Tokens.{Fixed, spelled, reserved, marks, class-in, NAME}
 use Rattle.text.specs.contracts.TokenTable.{of-length}
@@ -106,32 +106,6 @@ not-reserved bs n2 n3 n4 n5 n6 n7 n9 =
     let none-so-long : some-passes (λ s. eqb n (length s)) reserved ≡ false =
     rw (other 2 n2, other 3 n3, other 4 n4, other 5 n5, other 6 n6, other 7 n7, other 9 n9) in
     rw (class-none (λ s. eqb n (length s)) reserved bs (eq-eqb n n refl) none-so-long)
-
-pub not-mark : (b : ℕ) → (b ≡ 123 → ⊥) → (b ≡ 125 → ⊥) → (b ≡ 40 → ⊥) → (b ≡ 41 → ⊥) → (b ≡ 58 → ⊥) → (b ≡ 61 → ⊥) → (b ≡ 44 → ⊥) → (b ≡ 46 → ⊥)
-    → (b ≡ 43 → ⊥) → (b ≡ 45 → ⊥) → (b ≡ 42 → ⊥) → (b ≡ 47 → ⊥) → NAME ≡ Option·getD (class-in marks (b ∷ [])) NAME
-unfolding some-passes marks same-bytes
-not-mark b n1 n2 n3 n4 n5 n6 n7 n8 n9 n10 n11 n12 =
-    let other = ne-eqb b in
-    let none-so-spelled : some-passes (same-bytes (b ∷ [])) marks ≡ false =
-    rw (
-      other 123 n1,
-      other 125 n2,
-      other 40 n3,
-      other 41 n4,
-      other 58 n5,
-      other 61 n6,
-      other 44 n7,
-      other 46 n8,
-      other 43 n9,
-      other 45 n10,
-      other 42 n11,
-      other 47 n12,
-    ) in
-    rw (class-none (same-bytes (b ∷ [])) marks (b ∷ []) (same-bytes-self (b ∷ [])) none-so-spelled)
-
--- the class of a byte that is known
-pub mark-at : (b k c : ℕ) → b ≡ k → c ≡ Option·getD (class-in marks (k ∷ [])) NAME → c ≡ Option·getD (class-in marks (b ∷ [])) NAME
-mark-at b k c e h = rw e h
 
 pub class-nothing : (bs : List ℕ) → NAME ≡ Option·getD (class-in [] bs) NAME
 unfolding class-in

@@ -57,7 +57,7 @@ module _ (b : ℕ) (bs : List ℕ) where
         unfolding item
         item-mark e = rw (not-blank, item, no-comment, no-letter, e)
 
--- ---- names, numbers and marks
+-- ---- names and numbers
 
 pub name-long : (bs : List ℕ) → 24 < length bs → name-item bs ≡ bad
 unfolding name-item
@@ -137,23 +137,6 @@ module _ (text : List ℕ) (at end : ℕ) (h : at < end) (k : end ≤ length tex
       number-part-last i =
           let p : end ≡ at + 1 + (end - at - 1) = omega arith in
           rw (fits, drop-of-length-le text {i = end} i, ← p)
-
-pub mark-found : (b at c : ℕ) → c ≡ Option·getD (class-in marks (b ∷ [])) NAME → (c ≡ NAME → ⊥)
-    → Found c 0 (at + 1) ≡ located at (mark-item (class-in marks (b ∷ [])))
-unfolding located mark-item
-mark-found b at c e n = go (class-in marks (b ∷ [])) e
-  where
-    go : (o : Option ℕ) → c ≡ Option·getD o NAME → Found c 0 (at + 1) ≡ located at (mark-item o)
-    go none e = absurd (n e)
-    go (some d) e = let p : at + 1 + 0 ≡ at + 1 = omega arith in rw (p, e)
-
-pub mark-none : (b at c : ℕ) → c ≡ Option·getD (class-in marks (b ∷ [])) NAME → c ≡ NAME → Bad ≡ located at (mark-item (class-in marks (b ∷ [])))
-unfolding located mark-item
-mark-none b at c e n = go (class-in marks (b ∷ [])) e (mark-bounds (b ∷ []))
-  where
-    go : (o : Option ℕ) → c ≡ Option·getD o NAME → ((d : ℕ) → o ≡ some d → (24 ≤ d) × (d ≤ 35)) → Bad ≡ located at (mark-item o)
-    go none e k = refl
-    go (some d) e k = absurd (omega (arith, k d refl))
 
 -- ---- how far an item reaches
 

@@ -5,20 +5,22 @@ use mathlib.Core.Bool.{Bool, true, false}
 use Prim.Native.Nat.{ℕ, suc, _+_, _-_, _<_, _≤_}
 use native.Mathlib.Nat.{add-zero}
 use native.Mathlib.Omega.{arith}
-use mathlib.Core.Option.{Option·getD}
-use lib.Dec.{ltb, eqb}
+use lib.Dec.{ltb}
 use lib.ListN.{length, getD, take, drop, drop-of-length-le, length-drop}
 use lib.Seq.{drop-drop}
-use borrow.Author.Tests.{ltb-true, ltb-false, eq-eqb, ne-eqb}
+use borrow.Author.Tests.{ltb-true, ltb-false}
 use Rattle.text.specs.declared.Item.{Item as Answer}
 use Rattle.text.specs.declared.Item.the-variants.{Gap, Found, Bad, End}
-use Rattle.text.specs.definitions.Bytes.{is-letter, is-digit, is-name-byte, is-blank, is-comment-byte, run}
-use Rattle.text.specs.definitions.Tokens.{NAME, name-item, number-item, class-in, marks}
+use Rattle.text.specs.definitions.Bytes.{is-digit, is-name-byte, is-comment-byte, run}
+use Rattle.text.specs.definitions.ByteClass.{LETTER, DIGIT, MARK, BLANK, HASH, byte-class}
+use Rattle.text.specs.definitions.Tokens.{name-item, number-item}
 use Rattle.text.specs.definitions.Tokens.{Lexeme, gap, found, bad, item, tokens, no-token-at, add-token, taken, tokens-from}
+use Rattle.text.specs.contracts.ByteTables.{BYTES, mark-class}
 use Rattle.text.specs.contracts.TokenTable.{part, located, token-at, after, offset-after}
 use Rattle.text.proofs.theorems.SkipLaws.{tokens-skip}
 use Rattle.text.proofs.laws.RunLaws.{byte-at, run-yes, run-again, run-part}
-use Rattle.text.proofs.laws.ItemLaws.{item-blank, item-comment, item-name, item-number, item-mark, mark-found, mark-none, Reaches, item-reaches}
+use Rattle.text.proofs.laws.ItemLaws.{Reaches, item-reaches}
+use Rattle.text.proofs.laws.ClassLaws.{item-of-blank, item-of-hash, item-of-letter, digit-is, item-of-digit, item-of-mark, item-of-other}
 
 -- ---- the tokens after the bytes of an item
 
@@ -53,44 +55,44 @@ module _ (text : List ℕ) (at : ℕ) where
     pub at-item : {i : Lexeme} → item (getD text at 0) (drop (at + 1) text) ≡ i → located at i ≡ token-at text at
     at-item e = sym (at-byte ∙ ap (located at) e)
 
-    -- each kind of byte, as code finds it
-
-    pub blank-at : is-blank (getD text at 0) ≡ true → Gap (at + 1) ≡ token-at text at
-    unfolding located
-    blank-at e = rw (← add-zero (at + 1)) (at-item (item-blank (getD text at 0) (drop (at + 1) text) e))
-
-    module _ (not-blank : is-blank (getD text at 0) ≡ false) where
-      pub comment-at : getD text at 0 ≡ 35 → (end : ℕ) → end ≡ at + 1 + length (run is-comment-byte (drop (at + 1) text)) → Gap end ≡ token-at text at
+    -- each class of byte, as code finds it
+    module _ (small : getD text at 0 < BYTES) where
+      pub blank-at : byte-class (getD text at 0) ≡ BLANK → Gap (at + 1) ≡ token-at text at
       unfolding located
-      comment-at c end e = rw e (at-item (item-comment (getD text at 0) (drop (at + 1) text) not-blank (eq-eqb (getD text at 0) 35 c)))
+      blank-at e = rw (← add-zero (at + 1)) (at-item (item-of-blank (getD text at 0) (drop (at + 1) text) small e))
 
-      module _ (no-comment : getD text at 0 ≡ 35 → ⊥) where
-        abbrev no-hash : eqb (getD text at 0) 35 ≡ false
-        no-hash = ne-eqb (getD text at 0) 35 no-comment
+      pub comment-at : byte-class (getD text at 0) ≡ HASH → (end : ℕ) → end ≡ at + 1 + length (run is-comment-byte (drop (at + 1) text))
+          → Gap end ≡ token-at text at
+      unfolding located
+      comment-at e end l = rw l (at-item (item-of-hash (getD text at 0) (drop (at + 1) text) small e))
 
-        pub name-at : is-letter (getD text at 0) ≡ true → (end : ℕ) → end ≡ at + 1 + length (run is-name-byte (drop (at + 1) text))
-            → (r : Answer) → r ≡ located at (name-item (part at end text)) → r ≡ token-at text at
-        name-at l end e r f = f ∙ rw (e, run-part is-name-byte text at h) (at-item (item-name (getD text at 0) (drop (at + 1) text) not-blank no-hash l))
+      pub name-at : byte-class (getD text at 0) ≡ LETTER → (end : ℕ) → end ≡ at + 1 + length (run is-name-byte (drop (at + 1) text))
+          → (r : Answer) → r ≡ located at (name-item (part at end text)) → r ≡ token-at text at
+      name-at e end l r f = f ∙ rw (l, run-part is-name-byte text at h) (at-item (item-of-letter (getD text at 0) (drop (at + 1) text) small e))
 
-        module _ (no-letter : is-letter (getD text at 0) ≡ false) where
-          module _ (d : is-digit (getD text at 0) ≡ true) (end : ℕ) (e : end ≡ at + 1 + length (run is-digit (drop (at + 1) text))) where
-            pub digits-at : run is-digit (part at end text) ≡ part at end text
-            digits-at =
-                rw (e, run-part is-digit text at h, run-yes is-digit (getD text at 0) (run is-digit (drop (at + 1) text)) d)
-                (ap (_∷_ (getD text at 0)) (run-again is-digit (drop (at + 1) text)))
+      module _ (e : byte-class (getD text at 0) ≡ DIGIT) (end : ℕ) (l : end ≡ at + 1 + length (run is-digit (drop (at + 1) text))) where
+        pub digits-at : run is-digit (part at end text) ≡ part at end text
+        digits-at =
+            let d = digit-is (getD text at 0) (drop (at + 1) text) small e refl in
+            rw (l, run-part is-digit text at h, run-yes is-digit (getD text at 0) (run is-digit (drop (at + 1) text)) d)
+            (ap (_∷_ (getD text at 0)) (run-again is-digit (drop (at + 1) text)))
 
-            pub number-at : (r : Answer) → r ≡ located at (number-item (part at end text) (drop end text)) → r ≡ token-at text at
-            number-at r f =
-                f
-                ∙ rw (e, run-part is-digit text at h, ← drop-drop (length (run is-digit (drop (at + 1) text))) (at + 1) text)
-                (at-item (item-number (getD text at 0) (drop (at + 1) text) not-blank no-hash no-letter d))
+        pub number-at : (r : Answer) → r ≡ located at (number-item (part at end text) (drop end text)) → r ≡ token-at text at
+        number-at r f =
+            f
+            ∙ rw (l, run-part is-digit text at h, ← drop-drop (length (run is-digit (drop (at + 1) text))) (at + 1) text)
+            (at-item (item-of-digit (getD text at 0) (drop (at + 1) text) small e))
 
-          module _ (no-digit : is-digit (getD text at 0) ≡ false) (c : ℕ) (e : c ≡ Option·getD (class-in marks (getD text at 0 ∷ [])) NAME) where
-            pub mark-at : (c ≡ NAME → ⊥) → Found c 0 (at + 1) ≡ token-at text at
-            mark-at n = mark-found (getD text at 0) at c e n ∙ at-item (item-mark (getD text at 0) (drop (at + 1) text) not-blank no-hash no-letter no-digit)
+      pub mark-at : byte-class (getD text at 0) ≡ MARK → (c : ℕ) → c ≡ mark-class (getD text at 0) → Found c 0 (at + 1) ≡ token-at text at
+      unfolding located
+      mark-at e c i = rw (i, ← add-zero (at + 1)) (at-item (item-of-mark (getD text at 0) (drop (at + 1) text) small e))
 
-            pub nothing-at : c ≡ NAME → Bad ≡ token-at text at
-            nothing-at n = mark-none (getD text at 0) at c e n ∙ at-item (item-mark (getD text at 0) (drop (at + 1) text) not-blank no-hash no-letter no-digit)
+      module _ {c : ℕ} (i : c ≡ byte-class (getD text at 0)) where
+        pub nothing-at : (c ≡ LETTER → ⊥) → (c ≡ DIGIT → ⊥) → (c ≡ MARK → ⊥) → (c ≡ BLANK → ⊥) → (c ≡ HASH → ⊥) → Bad ≡ token-at text at
+        unfolding located
+        nothing-at l d m s k =
+            let other = item-of-other (getD text at 0) (drop (at + 1) text) small in
+            at-item (other (λ e. l (i ∙ e)) (λ e. d (i ∙ e)) (λ e. m (i ∙ e)) (λ e. s (i ∙ e)) (λ e. k (i ∙ e)))
 
     -- and what it makes of the tokens
 

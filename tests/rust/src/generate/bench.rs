@@ -7,6 +7,9 @@ use crate::interpreter::value::Kind;
 
 pub const KINDS: [Kind; 3] = [Kind::Whole, Kind::Bool, Kind::Real];
 
+/// How many bytes a comment has between `#` and line feed.
+const COMMENT_BYTES: usize = 14;
+
 /// Few short names for everything, so that names of different things often meet; some look like reserved words or numbers.
 const NAMES: [&str; 22] = [
     "a",
@@ -496,8 +499,19 @@ fn separate(prng: &mut Prng, style: usize, before: &str, after: &str, text: &mut
         0 | 1 => text.push(b' '),
         2 if !clash(before, after) => {}
         2 => text.push(b' '),
-        _ => text.extend_from_slice(prng.pick(&[" ", " ", " ", "\n", "\t", "  ", " # a comment: \"~\n", "#\n"]).as_bytes()),
+        _ => match *prng.pick(&[" ", " ", " ", "\n", "\t", "  ", "#", "#\n"]) {
+            "#" => text.extend(comment(&mut prng.aside())),
+            other => text.extend_from_slice(other.as_bytes()),
+        },
     }
+}
+
+/// A comment of any bytes that are allowed in it.
+fn comment(prng: &mut Prng) -> Vec<u8> {
+    let mut text = b" #".to_vec();
+    text.extend((0..COMMENT_BYTES).map(|_| if prng.chance(5) { b'\t' } else { prng.between(32, 126) as u8 }));
+    text.push(b'\n');
+    text
 }
 
 /// Whether two words without a blank between would be read otherwise.

@@ -1,4 +1,5 @@
-//! Seeded cases: valid benches and readings, damage in every way of document 01's table, limits, random bytes; sheets in between.
+//! Seeded cases: valid benches and readings, damage in every way of document 01's table, limits, random bytes; sheets in between. Texts
+//! with bytes put in are cases of their own.
 
 pub mod bench;
 pub mod case;
@@ -7,6 +8,7 @@ pub mod damage;
 pub mod days;
 pub mod limits;
 pub mod lines;
+pub mod places;
 pub mod prng;
 pub mod quotients;
 pub mod run;

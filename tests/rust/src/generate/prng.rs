@@ -15,6 +15,11 @@ impl Prng {
         prng
     }
 
+    /// A source of its own: what is drawn from it leaves this one as it is.
+    pub fn aside(&self) -> Prng {
+        Prng(self.clone().draw())
+    }
+
     pub fn draw(&mut self) -> u64 {
         self.0 = self.0.wrapping_add(0x9e37_79b9_7f4a_7c15);
         let mut z = self.0;

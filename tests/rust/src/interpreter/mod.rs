@@ -1,6 +1,7 @@
 //! The interpreter: each file is one part of document 01. Order 1 of document 02 changes one of them, the machine; order 2 another, the
-//! values; order 3 adds one, the day sheet.
+//! values; order 3 adds one, the day sheet; order 4 one that parts the bytes into classes, by which the text is then read.
 
+pub mod bytes;
 pub mod check;
 pub mod grammar;
 pub mod line;

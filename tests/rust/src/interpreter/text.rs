@@ -1,5 +1,7 @@
 //! "Text of a bench file": bytes to words.
 
+use super::bytes::{class, Class};
+
 pub const TEXT_MOST: usize = 32_768;
 const NAME_MOST: usize = 24;
 const DIGITS_MOST: usize = 10;
@@ -64,9 +66,9 @@ pub fn words(text: &[u8]) -> Result<Vec<Word<'_>>, Refusal> {
     let mut found = Vec::new();
     let mut at = 0;
     while at < text.len() {
-        match text[at] {
-            b' ' | b'\t' | b'\n' => at += 1,
-            b'#' => at = comment_end(text, at)?,
+        match class(text[at]) {
+            Class::Blank => at += 1,
+            Class::Hash => at = comment_end(text, at)?,
             _ => {
                 let (token, end) = word(text, at)?;
                 found.push(Word { token, place: at });
@@ -80,7 +82,7 @@ pub fn words(text: &[u8]) -> Result<Vec<Word<'_>>, Refusal> {
 fn comment_end(text: &[u8], start: usize) -> Result<usize, Refusal> {
     let mut at = start;
     while at < text.len() && text[at] != b'\n' {
-        if text[at] != b'\t' && !(32..=126).contains(&text[at]) {
+        if class(text[at]) == Class::NotAllowed {
             return refuse(12, at);
         }
         at += 1;
@@ -89,24 +91,25 @@ fn comment_end(text: &[u8], start: usize) -> Result<usize, Refusal> {
 }
 
 fn word(text: &[u8], at: usize) -> Result<(Token<'_>, usize), Refusal> {
-    match text[at] {
-        b'a'..=b'z' | b'A'..=b'Z' => name(text, at),
-        b'0'..=b'9' => number(text, at),
-        mark if b"{}():=,.+-*/".contains(&mark) => Ok((Token::Mark(mark), at + 1)),
+    match class(text[at]) {
+        Class::Letter => name(text, at),
+        Class::Digit => number(text, at),
+        Class::Mark => Ok((Token::Mark(text[at]), at + 1)),
         _ => refuse(12, at),
     }
 }
 
-fn run_end(text: &[u8], start: usize, belongs: impl Fn(u8) -> bool) -> usize {
+/// The end of the longest run of bytes of these classes.
+fn run_end(text: &[u8], start: usize, classes: &[Class]) -> usize {
     let mut end = start;
-    while end < text.len() && belongs(text[end]) {
+    while end < text.len() && classes.contains(&class(text[end])) {
         end += 1;
     }
     end
 }
 
 fn name(text: &[u8], at: usize) -> Result<(Token<'_>, usize), Refusal> {
-    let end = run_end(text, at, |byte| byte.is_ascii_alphanumeric() || byte == b'_');
+    let end = run_end(text, at, &[Class::Letter, Class::Digit, Class::Underscore]);
     if end - at > NAME_MOST {
         return refuse(12, at);
     }
@@ -119,7 +122,7 @@ fn name(text: &[u8], at: usize) -> Result<(Token<'_>, usize), Refusal> {
 }
 
 fn number(text: &[u8], at: usize) -> Result<(Token<'_>, usize), Refusal> {
-    let end = run_end(text, at, |byte| byte.is_ascii_digit());
+    let end = run_end(text, at, &[Class::Digit]);
     if end - at > DIGITS_MOST {
         return refuse(12, at);
     }
