@@ -4,7 +4,7 @@
  * are the offset of a refused text, or the length of a written row or sheet. A refused call changes no byte that was lent to it.
  *
  * Memory is lent as a pointer and a length; the slices lent to one call must not overlap. Any bytes and any lengths may be lent. Memory
- * longer than its stated size is fine: what lies past the written part stays as it was. A call takes some 360 KB of stack.
+ * longer than its stated size is fine: what lies past the written part stays as it was. A call takes some 390 KB of stack.
  */
 #ifndef BENCH_ENGINE_H
 #define BENCH_ENGINE_H
@@ -18,7 +18,7 @@ extern "C" {
 
 /* Stated sizes: memory that is shorter is refused by 31. */
 #define BENCH_SIZE 32772u
-#define BENCH_STATE_SIZE 10468u
+#define BENCH_STATE_SIZE 35117u
 #define BENCH_ROW_SIZE 32768u
 
 /* That of a sheet depends on the readings, by the line feeds in them: two rows of 81 bytes for each, and 30 rows that close the sheet. */
@@ -31,11 +31,14 @@ extern "C" {
 /* Checks a bench file and writes its image to bench. 31; 11 to 18 with the offset of the fault; or 0. */
 uint64_t bench_check(const uint8_t *text, size_t text_length, uint8_t *bench, size_t bench_length);
 
-/* Writes the fresh state of a checked bench. 31, 32 or 0. */
+/* Writes the fresh state of a checked bench. A state belongs to the bench file's text: after any edit of the text begin with a fresh state, for
+ * every call refuses the old one by 33. 31, 32 or 0. */
 uint64_t state_fresh(const uint8_t *bench, size_t bench_length, uint8_t *state, size_t state_length);
 
-/* Takes one line: header and record, without line feeds. Moves the state on and writes the line's row, without a line feed. A line that
- * is sent again leaves the state and gives its row again. 31, 32, 33, 22, 21, 23, 24, 25; or 0 with the row's length. */
+/* Takes one line: header (`by n`, then the columns) and record (the sender's name, that sender's number, then the values), without line
+ * feeds. Moves the state on and writes the line's row, sender and number first, without a line feed. Each of up to eight senders numbers its own
+ * lines. A line that its sender sends again, its last number with the same readings, leaves the state and gives its row again, even after lines
+ * of others. 31, 32, 33, 22, 21, 43 (the sender is no name), 42 (a ninth sender), 23, 24, 25; or 0 with the row's length. */
 uint64_t bench_line(const uint8_t *bench, size_t bench_length, uint8_t *state, size_t state_length,
                     const uint8_t *names, size_t names_length, const uint8_t *values, size_t values_length,
                     uint8_t *row, size_t row_length);
@@ -43,9 +46,10 @@ uint64_t bench_line(const uint8_t *bench, size_t bench_length, uint8_t *state, s
 /* Writes the row of names, without a line feed. 31, 32; or 0 with its length. */
 uint64_t bench_header(const uint8_t *bench, size_t bench_length, uint8_t *row, size_t row_length);
 
-/* Writes the row of the line that a state was left by. 31, 32, 33; or 0 with its length. */
+/* Writes the row of a sender's last line; of a sender that has sent none, its name, 0 and nothing fired. 31, 32, 33, 43 (the sender is no
+ * name); or 0 with the row's length. */
 uint64_t bench_row(const uint8_t *bench, size_t bench_length, const uint8_t *state, size_t state_length,
-                   uint8_t *row, size_t row_length);
+                   const uint8_t *sender, size_t sender_length, uint8_t *row, size_t row_length);
 
 /* Writes the day sheet of a text of readings (names, then lines of values, as in readings.txt), run on from a state, which stays as it
  * is. Rows of 80 bytes and a line feed: for each new line its number and the chosen cells as they read after it; at the end, of each real

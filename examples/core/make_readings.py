@@ -8,6 +8,7 @@ import struct
 from pathlib import Path
 
 SEED = 300
+SENDER = "bench_box"  # one box reads the whole bench
 RINGS = 300
 START = 137000  # right of zero: the stage was zeroed in mid travel
 TURN = 151  # the core came in two pieces; the first ring of the second, measured on the way back
@@ -24,7 +25,7 @@ def real(number):
 
 
 def record(number, *fields):
-    return " ".join([str(number)] + [str(field) for field in fields])
+    return " ".join([SENDER, str(number)] + [str(field) for field in fields])
 
 
 def width_of(ring, draw):
@@ -62,7 +63,7 @@ def disturbed(ring, number, good):
 
 def readings():
     draw = random.Random(SEED)
-    lines = ["n stage.pos stage.edge stage.dir pedal.count pedal.held camera.width"]
+    lines = ["by n stage.pos stage.edge stage.dir pedal.count pedal.held camera.width"]
     number = 1
     pos = START
     lines.append(record(number, pos, pos, LEFT, "-", "false", "-"))

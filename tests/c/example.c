@@ -1,5 +1,5 @@
 /* A short program to copy: it checks a bench file, then gives each line of a file of readings to the engine and prints the rows; with
- * cells, also the day sheet.
+ * cells, also the day sheet. Each line is sent twice, as by a controller that gets no answer in time: nothing is stored twice.
  *
  *     cc -I include example.c libengine.a -o example
  *     ./example bench.txt readings.txt
@@ -58,6 +58,31 @@ static int next_line(struct bytes *rest, struct bytes *line)
     return 1;
 }
 
+/* The engine's side: one call for each line that arrives. */
+static uint64_t take_line(struct bytes names, struct bytes line)
+{
+    return bench_line(bench, sizeof bench, state, sizeof state, names.start, names.length, line.start, line.length, row, sizeof row);
+}
+
+/* A controller's side. Its lines begin with its name and its own next number, whatever the others are at. Here its first answer is always
+ * lost: it has waited in vain, cannot tell whether its line or the answer went astray, and sends the very same line again, with the same
+ * number. If the line had arrived, this one changes no byte of the state and gives the same row, even after lines of other controllers; if
+ * not, it is taken now. Only then comes the next number. (One that has forgotten its number asks bench_row for its last line.) */
+static uint64_t send_line(struct bytes names, struct bytes line)
+{
+    static uint8_t first_row[BENCH_ROW_SIZE], first_state[BENCH_STATE_SIZE];
+    uint64_t first, again;
+    first = take_line(names, line);
+    memcpy(first_row, row, sizeof row);
+    memcpy(first_state, state, sizeof state);
+    again = take_line(names, line);
+    if (again != first || memcmp(row, first_row, sizeof row) != 0 || memcmp(state, first_state, sizeof state) != 0) {
+        fprintf(stderr, "a line that was sent again was stored twice\n");
+        exit(1);
+    }
+    return again;
+}
+
 /* An answer of 0 in its low 8 bits: the call did its work, and the bits above give the length of the row it wrote.
  * Any other number: the call was refused and changed no byte; for lines the number is all there is to say. */
 static void print_row(uint64_t answer)
@@ -95,7 +120,8 @@ static void print_sheet(struct bytes day, const char *cells)
 
 int main(int count, char **arguments)
 {
-    struct bytes text, day, rest, line, names = {(uint8_t *)"", 0};
+    struct bytes text, day, rest, line, names = {(uint8_t *)"", 0}, nothing = {(uint8_t *)"a 0", 3};
+    unsigned long lines = 0;
     uint64_t answer;
     if (count != 3 && count != 4) {
         fprintf(stderr, "usage: %s BENCH READINGS [CELLS]\n", arguments[0]);
@@ -111,25 +137,26 @@ int main(int count, char **arguments)
         printf("refused %u %zu\n", BENCH_NUMBER(answer), BENCH_REST(answer));
         return 1;
     }
-    /* Once per run. From now on leave bench and state alone between calls: the engine refuses by 32 or 33 what is none. */
+    /* Once per run, and after any edit of the bench file: a state belongs to its text. From now on leave bench and state alone between calls:
+     * the engine refuses by 32 or 33 what is none. */
     state_fresh(bench, sizeof bench, state, sizeof state);
     memcpy(morning, state, sizeof state);
 
-    /* The first line names the columns; it is handed to every call, and each call may refuse it by 22. To learn of that before any
-     * values are there, number 0 is sent: it is always refused, by 24 after names of no columns, by 21 after others, by 22 if ill formed. */
+    /* The first line names the columns, after `by n`; it is handed to every call, and each call may refuse it by 22. To learn of that before
+     * any values are there, number 0 is sent: it is always refused, by 24 after names of no columns, by 21 after others, by 22 if ill formed. */
     next_line(&rest, &names);
-    answer = bench_line(bench, sizeof bench, state, sizeof state, names.start, names.length, (const uint8_t *)"0", 1, row, sizeof row);
+    answer = take_line(names, nothing);
     if (BENCH_NUMBER(answer) == 22) {
         print_row(answer);
         return 1;
     }
     print_row(bench_header(bench, sizeof bench, row, sizeof row));
 
-    /* Each further line is one cycle. A refused line (21, 23, 24, 25) does not count: correct it and send it again.
-     * A line that is sent twice is taken once; its row is given again, so a sender in doubt may repeat it. */
-    while (next_line(&rest, &line))
-        print_row(bench_line(bench, sizeof bench, state, sizeof state, names.start, names.length, line.start, line.length, row, sizeof row));
+    /* Each further line is one cycle. A refused line (21, 43, 42, 23, 24, 25) does not count: correct it and send it again. */
+    for (; next_line(&rest, &line); lines++)
+        print_row(send_line(names, line));
     if (count == 4)
         print_sheet(day, arguments[3]);
+    fprintf(stderr, "%lu lines, each sent twice: the same answers, rows and states\n", lines);
     return 0;
 }

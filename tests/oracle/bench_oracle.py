@@ -1,12 +1,12 @@
 """An executable reading of document 01 ("The Pantagruel bench engine") with orders 1
-to 4 of document 02 ("Requests that came later"); no later order is in force here.
+to 5 of document 02 ("Requests that came later"); no later order is in force here.
 
 The module follows the order of document 01: values and sums, words, grammar,
 counts, names, kinds, the bare machine, lines of readings, the runner; of document 02
-the byte classes stand before the words and the day sheet at the end.  It aims at
-being easy to compare with the text, not at speed.  "Readings" below are the pages
-that decide the documents' open points.  A quotation is document 01's unless document
-02 or Readings is named beside it.
+the byte classes stand before the words, the senders of lines with the machine and its
+lines, and the day sheet at the end.  It aims at being easy to compare with the text,
+not at speed.  "Readings" below are the pages that decide the documents' open points.
+A quotation is document 01's unless document 02 or Readings is named beside it.
 
 Public: check, Bench, run, state_after, sheet, stated_size, printed_sheet, byte_class,
 printed_classes, main.
@@ -1153,11 +1153,22 @@ class Store:
 
 
 @dataclass(frozen=True)
+class Kept:
+    """Document 02, order 5: "The state keeps for each sender its last number, last readings and the
+    actions then fired". """
+
+    number: int
+    readings: Readings
+    fired: Tuple[Cell, ...]  # "in entity and member order"
+
+
+@dataclass(frozen=True)
 class State:
+    """In the place of document 01's one last line it has the last line of each known sender."""
+
     now: Store
     before: Store  # "the same as the rules saw it one cycle before"
-    number: int  # "the last line's number (0 when fresh)"
-    readings: Readings  # the last line's
+    senders: Dict[bytes, Kept]  # the known ones, by name, in the order of their first taken line
 
 
 class Machine:
@@ -1187,11 +1198,12 @@ class Machine:
             for assignment in entity.assignments:
                 cells[(number, assignment.attribute.text)] = assignment.value
         count = len(self.file.entities)
-        return State(Store((True,) * count, cells), Store((False,) * count, unset), 0, {})
+        return State(Store((True,) * count, cells), Store((False,) * count, unset), {})
 
     # -- one cycle
 
-    def cycle(self, state: State, number: int, readings: Readings) -> State:
+    def cycle(self, state: State, sender: bytes, number: int, readings: Readings) -> State:
+        """What is kept of other senders stays; the cells do not ask who has sent a line."""
         seen = self.with_line(state.now, readings)
         writes = self.writes(seen, state.before)
         cells = dict(seen.cells)
@@ -1199,7 +1211,9 @@ class Machine:
             cells[cell] = None  # "Action cells become unset, then take the writes."
         for cell, value in writes:
             cells[cell] = value  # "The last write to a cell stands."
-        return State(Store(seen.present, cells), seen, number, readings)
+        fired = tuple(cells[cell] for cell in self.action_cells())
+        senders = {**state.senders, sender: Kept(number, readings, fired)}
+        return State(Store(seen.present, cells), seen, senders)
 
     def with_line(self, store: Store, readings: Readings) -> Store:
         """ "Presence is applied, then readings. An entity that leaves has events and actions unset." """
@@ -1322,6 +1336,7 @@ def presence_after(present: Tuple[bool, ...], readings: Readings) -> Tuple[bool,
 LONGEST_NAMES = 32768
 LONGEST_VALUES = 8192
 GREATEST_NUMBER = 4294967295
+MOST_SENDERS = 8
 
 HEXADECIMAL = frozenset(b"0123456789abcdef")
 
@@ -1338,6 +1353,15 @@ def number_of_line(field: bytes) -> Optional[int]:
     if len(field) > MOST_DIGITS or not plain_digits(field):
         return None
     return int(field)
+
+
+def is_sender(field: bytes) -> bool:
+    """Document 02, order 5: "form as in bench files, reserved words allowed".  The field is not empty.
+
+    That is "a letter, then letters, digits or `_`, 24 bytes at most".
+    """
+    begins = byte_class(field[0]) == LETTER
+    return begins and end_of_run(field, 0, NAME_CLASSES) == len(field) and len(field) <= LONGEST_NAME
 
 
 def read_whole(field: bytes) -> Optional[Whole]:
@@ -1385,7 +1409,7 @@ def value_text(value: Cell) -> bytes:
 
 
 class LineRefusal(Exception):
-    """One of 21 to 25."""
+    """One of 21 to 25, 42 and 43."""
 
     def __init__(self, code: int):
         super().__init__(code)
@@ -1415,43 +1439,54 @@ class Bench:
         return self.file.entities[number].name.text
 
     def names(self) -> bytes:
-        """The row of names: `n` and every action cell as `entity.action`."""
+        """The row of names: `by n` and every action cell as `entity.action`."""
         cells = [self.entity_name(number) + b"." + action for number, action in self.machine.action_cells()]
-        return b" ".join([b"n"] + cells)
+        return b" ".join([b"by", b"n"] + cells)
 
     def fresh(self) -> State:
         return self.machine.fresh()
 
-    def row(self, state: State) -> bytes:
-        """The number and the fired actions "in entity and member order" of the last line."""
-        fired = [value_text(state.now.cells[cell]) for cell in self.machine.action_cells()]
-        return b" ".join([b"%d" % state.number] + fired)
+    def kept(self, state: State, sender: bytes) -> Kept:
+        """What the state keeps for a sender.  Readings: "A sender that is not known has last number 0." """
+        nothing_fired = (None,) * len(self.machine.action_cells())
+        return state.senders.get(sender, Kept(0, {}, nothing_fired))
+
+    def row(self, state: State, sender: bytes) -> bytes:
+        """Document 02, order 5: "Rows begin with sender and number too"; then the actions fired in that line."""
+        kept = self.kept(state, sender)
+        return b" ".join([sender, b"%d" % kept.number] + [value_text(value) for value in kept.fired])
 
     def line(self, state: State, names: bytes, values: bytes) -> Tuple[int, Optional[bytes], State]:
-        """One cycle call: 0 with the row and the new state, or 21..25 with the state unchanged."""
+        """One cycle call: 0 with the row and the new state, or a refusal's number with the state unchanged.
+
+        The order is 22, 21, 43, 42, 23 (ill formed, another kind), the test for resent, 23 (absent
+        entity), 24, 25.
+        """
         try:
             columns = self.columns(names)
-            number, fields = self.fields(columns, values)
-            readings = self.readings(state, columns, fields)
-            self.check_number(state, number)
+            sender, number, fields = self.fields(columns, values)
+            self.check_sender(state, sender)
+            readings = self.readings(columns, fields)
+            if self.is_resent(state, sender, number, readings):
+                # "the state stays"; document 02, order 5: "a resent line gives that sender's row, even after
+                # lines of others"
+                return 0, self.row(state, sender), state
+            self.check_absent(state, readings)
+            self.check_number(state, sender, number)
         except LineRefusal as refusal:
             return refusal.code, None, state
-        if number == state.number:
-            if readings != state.readings:
-                return 25, None, state
-            return 0, self.row(state), state  # resent: "the state stays"
-        following = self.machine.cycle(state, number, readings)
-        return 0, self.row(following), following
+        following = self.machine.cycle(state, sender, number, readings)
+        return 0, self.row(following, sender), following
 
     def columns(self, names: bytes) -> List[Column]:
-        """The line of names, or 22."""
+        """The line of names, or 22.  Document 02, order 5: "The line of names begins `by n`"."""
         if len(names) > LONGEST_NAMES or b"\n" in names:
             raise LineRefusal(22)
-        first, *others = names.split(b" ")
-        if first != b"n":
+        fields = names.split(b" ")
+        if fields[:2] != [b"by", b"n"]:
             raise LineRefusal(22)
         columns: List[Column] = []
-        for field in others:
+        for field in fields[2:]:
             if field not in self.known_columns or self.known_columns[field] in columns:
                 raise LineRefusal(22)
             columns.append(self.known_columns[field])
@@ -1464,29 +1499,36 @@ class Bench:
             return False
         return True
 
-    def fields(self, columns: List[Column], values: bytes) -> Tuple[int, List[bytes]]:
-        """The number and the value fields, or 21."""
+    def fields(self, columns: List[Column], values: bytes) -> Tuple[bytes, int, List[bytes]]:
+        """The sender's field, the number and the value fields, or 21.
+
+        Document 02, order 5: "each line of values [begins] with the sender's name [...] and that
+        sender's number".
+        """
         if len(values) > LONGEST_VALUES or b"\n" in values:
             raise LineRefusal(21)
-        first, *others = values.split(b" ")
-        if b"" in others or len(others) != len(columns):
+        fields = values.split(b" ")
+        if b"" in fields or len(fields) != 2 + len(columns):
             raise LineRefusal(21)
-        number = number_of_line(first)
+        number = number_of_line(fields[1])
         if number is None:
             raise LineRefusal(21)
-        return number, others
+        return fields[0], number, fields[2:]
 
-    def readings(self, state: State, columns: List[Column], fields: List[bytes]) -> Readings:
-        """The readings of a line, or 23."""
+    def check_sender(self, state: State, sender: bytes) -> None:
+        """Document 02, order 5: "Up to eight senders are known from their first taken line. A ninth is
+        refused by 42, and an ill-formed sender by 43, [...] with 43 first." """
+        if not is_sender(sender):
+            raise LineRefusal(43)
+        if sender not in state.senders and len(state.senders) == MOST_SENDERS:
+            raise LineRefusal(42)
+
+    def readings(self, columns: List[Column], fields: List[bytes]) -> Readings:
+        """The readings of a line, or 23 for a value that is ill formed or of another kind."""
         readings: Readings = {}
         for column, field in zip(columns, fields):
             if field != b"-":
                 readings[column] = self.reading(column, field)
-        present = presence_after(state.now.present, readings)
-        for number, event in readings:
-            # "An entity absent after the line takes only `-` for events."
-            if event is not None and not present[number]:
-                raise LineRefusal(23)
         return readings
 
     def reading(self, column: Column, field: bytes) -> Reading:
@@ -1500,12 +1542,35 @@ class Bench:
             raise LineRefusal(23)
         return value
 
-    def check_number(self, state: State, number: int) -> None:
-        """ "number neither last nor last plus 1, or 0, or too great" """
-        if number == 0 or number > GREATEST_NUMBER:
+    def is_resent(self, state: State, sender: bytes, number: int, readings: Readings) -> bool:
+        """ "the last with the same readings (compared per cell and per presence, bit by bit [...]): then it
+        is resent", both the last of that sender.  A sender that is not known has sent nothing yet."""
+        if sender not in state.senders:
+            return False
+        kept = state.senders[sender]
+        return number == kept.number and readings == kept.readings
+
+    def check_absent(self, state: State, readings: Readings) -> None:
+        """ "An entity absent after the line takes only `-` for events", or 23.
+
+        Document 02, order 5: "Being resent is tested before the check on absent entities, so the
+        absent-entity part of refusal 23 then covers every other line."
+        """
+        present = presence_after(state.now.present, readings)
+        for number, event in readings:
+            if event is not None and not present[number]:
+                raise LineRefusal(23)
+
+    def check_number(self, state: State, sender: bytes, number: int) -> None:
+        """24: "number neither last nor last plus 1, or 0, or too great"; 25: "last number, other readings".
+
+        The last number is the sender's.  The line is not resent, so its last number comes with other readings.
+        """
+        last = self.kept(state, sender).number
+        if number == 0 or number > GREATEST_NUMBER or number not in (last, last + 1):
             raise LineRefusal(24)
-        if number not in (state.number, state.number + 1):
-            raise LineRefusal(24)
+        if number == last:
+            raise LineRefusal(25)
 
 
 # --------------------------------------------------------------------------
@@ -1543,7 +1608,7 @@ def run(bench_txt: bytes, readings_txt: bytes) -> bytes:
 
 
 # --------------------------------------------------------------------------
-# The day sheet (document 02, order 3; every quotation of this section is that order's)
+# The day sheet (document 02, order 3; a quotation of this section is that order's unless another is named)
 # --------------------------------------------------------------------------
 
 SHEET_COLUMNS = 80
@@ -1580,16 +1645,20 @@ def chosen_cells(bench: Bench, cells: bytes) -> Optional[List[Chosen]]:
 # -- the lines of a day
 
 
-def states_of_printed_lines(bench: Bench, state: State, names: bytes, lines: List[bytes]) -> Iterator[State]:
-    """The state after each printed line: "the taken lines of a day, [...] run on from the lent state".
+def printed_lines_of_day(
+    bench: Bench, state: State, names: bytes, lines: List[bytes]
+) -> Iterator[Tuple[int, State]]:
+    """The number of each printed line and the state after it: "the taken lines of a day, [...] run on from
+    the lent state".
 
-    "A resent line isn't printed": it leaves the last number.  Readings: "a refused record is
-    passed over, as the runner does".
+    "A resent line isn't printed": it leaves all that is kept of senders, and every other taken line
+    moves the number of its own.  Readings: "a refused record is passed over, as the runner does".
     """
     for values in lines:
         code, _, following = bench.line(state, names, values)
-        if code == 0 and following.number != state.number:
-            yield following
+        if code == 0 and following.senders != state.senders:
+            sender = values.split(b" ")[0]
+            yield following.senders[sender].number, following
         state = following
 
 
@@ -1669,15 +1738,16 @@ def closing_rows(column: int, values: List[Cell]) -> List[bytes]:
 # -- the sheet
 
 
-def sheet_rows(chosen: List[Chosen], states: List[State]) -> List[bytes]:
+def sheet_rows(chosen: List[Chosen], lines: List[Tuple[int, State]]) -> List[bytes]:
     """The rows of the printed lines, then, "column by column, for each real column", its closing rows.
 
     The cells are taken "as they read after the line".  Readings: " "Real cell" is by the member's kind."
+    Order 5: "the day sheet shows the number alone".
     """
-    table = [[state.now.read(number, member.name.text) for number, member in chosen] for state in states]
+    table = [[state.now.read(entity, member.name.text) for entity, member in chosen] for _, state in lines]
     rows = []
-    for state, values in zip(states, table):
-        rows += rows_of_line(state.number, values)
+    for (number, _), values in zip(lines, table):
+        rows += rows_of_line(number, values)
     for column, (_, member) in enumerate(chosen):
         if member.kind == REAL:
             rows += closing_rows(column, [values[column] for values in table])
@@ -1698,8 +1768,8 @@ def sheet(bench_text: bytes, state: Optional[State], readings: bytes, cells: byt
     if not bench.takes_names(names):
         return 22, b""
     lent = bench.fresh() if state is None else state
-    states = list(states_of_printed_lines(bench, lent, names, lines))
-    return 0, b"".join(sheet_rows(chosen, states))
+    printed = list(printed_lines_of_day(bench, lent, names, lines))
+    return 0, b"".join(sheet_rows(chosen, printed))
 
 
 def printed_sheet(bench_txt: bytes, readings_txt: bytes, cells: bytes) -> bytes:

@@ -2,7 +2,7 @@
 sheets.json, the same for the day sheet, and classes.txt, the class of every byte.
 
 Every stored result comes from bench_oracle; next to each written case stands the
-result worked out by hand from document 01 with orders 1 to 4 of document 02, and the two
+result worked out by hand from document 01 with orders 1 to 5 of document 02, and the two
 must agree.  In a refused bench text the mark @ (no byte of any such text otherwise)
 shows the expected place.
 
@@ -20,7 +20,7 @@ from pathlib import Path
 
 from bench_oracle import Bench, byte_class, check, printed_classes, printed_sheet, run, sheet, state_after, stated_size
 
-SEED = 20240601
+SEED = 20240645
 OUTPUT = Path(__file__).resolve().parent / "cases.json"
 SHEETS_OUTPUT = OUTPUT.with_name("sheets.json")
 CLASSES_OUTPUT = OUTPUT.with_name("classes.txt")
@@ -390,6 +390,11 @@ PLAIN = (
     "rules when event e from s value changed trigger action k ( s.e ) on s end end"
 )
 
+FIRE = (
+    "interface I { event e : whole action k ( whole ) } entity s : I { } "
+    "rules when event e from s value changed trigger action k ( s.e ) on s end end"
+)
+
 NAMED_N = (
     "interface I { event n : bool action k ( bool ) } entity n : I { } "
     "rules when event n from n value changed trigger action k ( n.n ) on n end end"
@@ -397,67 +402,83 @@ NAMED_N = (
 
 
 def make_headers():
-    ran_text("run-refused-bench", "", "n\n1\n", "refused 13 0\n")
+    ran_text("run-refused-bench", "", "by n\na 1\n", "refused 13 0\n")
     for name, header in (
-        ("action", "n s.e s.k"),
-        ("attribute", "n s.a"),
-        ("column-twice", "n s s.e s"),
-        ("trailing-space", "n s.e "),
+        ("action", "by n s.e s.k"),
+        ("attribute", "by n s.a"),
+        ("column-twice", "by n s s.e s"),
+        ("trailing-space", "by n s.e "),
+        # document 02, order 5: "The line of names begins `by n`"
+        ("without-by", "n s.e"),
+        ("without-n", "by s.e"),
+        ("n-before-by", "n by s.e"),
+        ("by-alone", "by"),
     ):
-        ran_text("run-header-" + name, PLAIN, header + "\n1 1\n", "refused 22\n")
+        ran_text("run-header-" + name, PLAIN, header + "\na 1 1\n", "refused 22\n")
     ran_text("run-empty-readings", PLAIN, "", "refused 22\n")
-    ran_text("run-header-only", PLAIN, "n s s.e", "n s.k\n")
+    ran_text("run-header-only", PLAIN, "by n s s.e", "by n s.k\n")
+    # no column: a line is a sender and its number
+    ran("run-header-by-n-alone", PLAIN, [
+        ("by n", "by n s.k"),
+        ("a 1", "a 1 -"),
+        ("a 1 -", "refused 21"),
+        ("b 1", "b 1 -"),
+        ("a 1", "a 1 -"),
+        ("a 2", "a 2 -"),
+        ("b", "refused 21"),
+        ("2", "refused 21"),
+    ])
     ran("run-entity-n-no-line-feed", NAMED_N, [
-        ("n n.n n", "n n.k"),
-        ("1 true -", "1 true"),
-        ("2 false true", "2 false"),
-        ("3 - false", "3 -"),
-        ("4 true true", "4 true"),
+        ("by n n.n n", "by n n.k"),
+        ("a 1 true -", "a 1 true"),
+        ("a 2 false true", "a 2 false"),
+        ("a 3 - false", "a 3 -"),
+        ("a 4 true true", "a 4 true"),
     ], last_feed=False)
-    ran_text("run-empty-lines", PLAIN, "n s.e\n\n1 5\n\n", "n s.k\nrefused 21\n1 5\nrefused 21\n")
+    ran_text("run-empty-lines", PLAIN, "by n s.e\n\na 1 5\n\n", "by n s.k\nrefused 21\na 1 5\nrefused 21\n")
 
 
 def make_refused_lines():
     ran("run-numbers-alone", "rules end", [
-        ("n", "n"),
-        ("0", "refused 24"),
-        ("01", "refused 21"),
-        ("1", "1"),
-        ("1", "1"),
-        ("0", "refused 24"),
-        ("00", "refused 21"),
-        ("3", "refused 24"),
-        ("2", "2"),
+        ("by n", "by n"),
+        ("a 0", "refused 24"),
+        ("a 01", "refused 21"),
+        ("a 1", "a 1"),
+        ("a 1", "a 1"),
+        ("a 0", "refused 24"),
+        ("a 00", "refused 21"),
+        ("a 3", "refused 24"),
+        ("a 2", "a 2"),
     ])
     ran("run-refused-21", PLAIN, [
-        ("n s.e", "n s.k"),
-        ("1", "refused 21"),
-        ("1 5 6", "refused 21"),
-        ("1  5", "refused 21"),
-        (" 1 5", "refused 21"),
-        ("1 5 ", "refused 21"),
-        ("1\t5", "refused 21"),
-        ("+1 5", "refused 21"),
-        ("1\t 5", "refused 21"),
-        ("01 5", "refused 21"),
-        ("10000000000 5", "refused 21"),
-        ("n 5", "refused 21"),
-        ("1 5", "1 5"),
+        ("by n s.e", "by n s.k"),
+        ("a 1", "refused 21"),
+        ("a 1 5 6", "refused 21"),
+        ("a 1  5", "refused 21"),
+        ("a  1 5", "refused 21"),
+        ("a 1 5 ", "refused 21"),
+        ("a 1\t5", "refused 21"),
+        ("a +1 5", "refused 21"),
+        ("a 1\t 5", "refused 21"),
+        ("a 01 5", "refused 21"),
+        ("a 10000000000 5", "refused 21"),
+        ("a n 5", "refused 21"),
+        ("a 1 5", "a 1 5"),
     ])
     ran("run-refused-23-whole", PLAIN, [
-        ("n s.e", "n s.k"),
-        ("1 05", "refused 23"),
-        ("1 -0", "refused 23"),
-        ("1 00", "refused 23"),
-        ("1 2147483648", "refused 23"),
-        ("1 -2147483649", "refused 23"),
-        ("1 +5", "refused 23"),
-        ("1 5r", "refused 23"),
-        ("1 --5", "refused 23"),
-        ("1 true", "refused 23"),
-        ("1 -2147483648", "1 -2147483648"),
-        ("2 2147483647", "2 2147483647"),
-        ("3 0", "3 0"),
+        ("by n s.e", "by n s.k"),
+        ("a 1 05", "refused 23"),
+        ("a 1 -0", "refused 23"),
+        ("a 1 00", "refused 23"),
+        ("a 1 2147483648", "refused 23"),
+        ("a 1 -2147483649", "refused 23"),
+        ("a 1 +5", "refused 23"),
+        ("a 1 5r", "refused 23"),
+        ("a 1 --5", "refused 23"),
+        ("a 1 true", "refused 23"),
+        ("a 1 -2147483648", "a 1 -2147483648"),
+        ("a 2 2147483647", "a 2 2147483647"),
+        ("a 3 0", "a 3 0"),
     ])
     ran(
         "run-refused-23-real-bool",
@@ -465,95 +486,95 @@ def make_refused_lines():
         "rules when event r from s value changed or event b from s value changed "
         "trigger action k ( s.r ) on s , action m ( s.b ) on s end end",
         [
-            ("n s.r s.b", "n s.k s.m"),
-            ("1 3FF0000000000000 true", "refused 23"),
-            ("1 3ff000000000000 true", "refused 23"),
-            ("1 3ff00000000000000 true", "refused 23"),
-            ("1 7ff0000000000000 true", "refused 23"),
-            ("1 fff8000000000001 true", "refused 23"),
-            ("1 1 true", "refused 23"),
-            ("1 - True", "refused 23"),
-            ("1 - 0", "refused 23"),
-            ("1 7fefffffffffffff ?", "1 7fefffffffffffff -"),
-            ("2 - false", "2 7fefffffffffffff false"),
-            ("3 800000000000000f -", "3 800000000000000f false"),
-            ("4 ? -", "4 - false"),
+            ("by n s.r s.b", "by n s.k s.m"),
+            ("a 1 3FF0000000000000 true", "refused 23"),
+            ("a 1 3ff000000000000 true", "refused 23"),
+            ("a 1 3ff00000000000000 true", "refused 23"),
+            ("a 1 7ff0000000000000 true", "refused 23"),
+            ("a 1 fff8000000000001 true", "refused 23"),
+            ("a 1 1 true", "refused 23"),
+            ("a 1 - True", "refused 23"),
+            ("a 1 - 0", "refused 23"),
+            ("a 1 7fefffffffffffff ?", "a 1 7fefffffffffffff -"),
+            ("a 2 - false", "a 2 7fefffffffffffff false"),
+            ("a 3 800000000000000f -", "a 3 800000000000000f false"),
+            ("a 4 ? -", "a 4 - false"),
         ],
     )
     ran("run-refused-23-presence", PLAIN, [
-        ("n s.e s", "n s.k"),
-        ("1 5 ?", "refused 23"),
-        ("1 5 1", "refused 23"),
-        ("1 5 false", "refused 23"),
-        ("1 ? false", "refused 23"),
-        ("1 - false", "1 -"),
-        ("2 5 -", "refused 23"),
-        ("2 ? -", "refused 23"),
-        ("2 5 false", "refused 23"),
-        ("2 - false", "2 -"),
-        ("3 ? true", "3 -"),
-        ("4 5 true", "4 5"),
-        ("5 7 -", "5 7"),
+        ("by n s.e s", "by n s.k"),
+        ("a 1 5 ?", "refused 23"),
+        ("a 1 5 1", "refused 23"),
+        ("a 1 5 false", "refused 23"),
+        ("a 1 ? false", "refused 23"),
+        ("a 1 - false", "a 1 -"),
+        ("a 2 5 -", "refused 23"),
+        ("a 2 ? -", "refused 23"),
+        ("a 2 5 false", "refused 23"),
+        ("a 2 - false", "a 2 -"),
+        ("a 3 ? true", "a 3 -"),
+        ("a 4 5 true", "a 4 5"),
+        ("a 5 7 -", "a 5 7"),
     ])
     ran("run-refused-24", PLAIN, [
-        ("n s.e", "n s.k"),
-        ("2 5", "refused 24"),
-        ("4294967295 5", "refused 24"),
-        ("1 5", "1 5"),
-        ("0 5", "refused 24"),
-        ("3 5", "refused 24"),
-        ("2 6", "2 6"),
-        ("1 5", "refused 24"),
-        ("4294967296 6", "refused 24"),
-        ("4294967298 6", "refused 24"),
-        ("9999999999 6", "refused 24"),
-        ("2 6", "2 6"),
-        ("3 6", "3 -"),
+        ("by n s.e", "by n s.k"),
+        ("a 2 5", "refused 24"),
+        ("a 4294967295 5", "refused 24"),
+        ("a 1 5", "a 1 5"),
+        ("a 0 5", "refused 24"),
+        ("a 3 5", "refused 24"),
+        ("a 2 6", "a 2 6"),
+        ("a 1 5", "refused 24"),
+        ("a 4294967296 6", "refused 24"),
+        ("a 4294967298 6", "refused 24"),
+        ("a 9999999999 6", "refused 24"),
+        ("a 2 6", "a 2 6"),
+        ("a 3 6", "a 3 -"),
     ])
     ran("run-refused-25", PEDAL, [
-        ("n p p.down s.pos", "n k.keep"),
-        ("1 - true 10", "1 10"),
-        ("1 true true 10", "refused 25"),
-        ("1 - true 11", "refused 25"),
-        ("1 - - 10", "refused 25"),
-        ("1 - true ?", "refused 25"),
-        ("1 - true 10", "1 10"),
-        ("2 - - ?", "2 -"),
-        ("2 - - -", "refused 25"),
-        ("2 - - ?", "2 -"),
-        ("3 - - -", "3 -"),
-        ("3 - - ?", "refused 25"),
-        ("3 - - -", "3 -"),
+        ("by n p p.down s.pos", "by n k.keep"),
+        ("a 1 - true 10", "a 1 10"),
+        ("a 1 true true 10", "refused 25"),
+        ("a 1 - true 11", "refused 25"),
+        ("a 1 - - 10", "refused 25"),
+        ("a 1 - true ?", "refused 25"),
+        ("a 1 - true 10", "a 1 10"),
+        ("a 2 - - ?", "a 2 -"),
+        ("a 2 - - -", "refused 25"),
+        ("a 2 - - ?", "a 2 -"),
+        ("a 3 - - -", "a 3 -"),
+        ("a 3 - - ?", "refused 25"),
+        ("a 3 - - -", "a 3 -"),
     ])
     ran("run-refusal-order", PLAIN, [
-        ("n s.e", "n s.k"),
-        ("9 bad 5", "refused 21"),
-        ("01 bad", "refused 21"),
-        ("9 bad", "refused 23"),
-        ("0 bad", "refused 23"),
-        ("4294967296 bad", "refused 23"),
-        ("9 5", "refused 24"),
-        ("1 5", "1 5"),
-        ("1 bad", "refused 23"),
-        ("1 6", "refused 25"),
-        ("1 6 7", "refused 21"),
-        ("1 5", "1 5"),
-        ("2 6", "2 6"),
+        ("by n s.e", "by n s.k"),
+        ("a 9 bad 5", "refused 21"),
+        ("a 01 bad", "refused 21"),
+        ("a 9 bad", "refused 23"),
+        ("a 0 bad", "refused 23"),
+        ("a 4294967296 bad", "refused 23"),
+        ("a 9 5", "refused 24"),
+        ("a 1 5", "a 1 5"),
+        ("a 1 bad", "refused 23"),
+        ("a 1 6", "refused 25"),
+        ("a 1 6 7", "refused 21"),
+        ("a 1 5", "a 1 5"),
+        ("a 2 6", "a 2 6"),
     ])
     ran("run-absent-with-last-number", PLAIN, [
-        ("n s s.e", "n s.k"),
-        ("1 - 5", "1 5"),
-        ("2 false -", "2 -"),
-        ("2 - 5", "refused 23"),
-        ("2 - -", "refused 25"),
-        ("2 true 5", "refused 25"),
-        ("2 false -", "2 -"),
-        ("3 true 5", "3 5"),
-        ("3 - 5", "refused 25"),
-        ("3 false -", "refused 25"),
-        ("3 false 5", "refused 23"),
-        ("3 true 5", "3 5"),
-        ("4 true 5", "4 -"),
+        ("by n s s.e", "by n s.k"),
+        ("a 1 - 5", "a 1 5"),
+        ("a 2 false -", "a 2 -"),
+        ("a 2 - 5", "refused 23"),
+        ("a 2 - -", "refused 25"),
+        ("a 2 true 5", "refused 25"),
+        ("a 2 false -", "a 2 -"),
+        ("a 3 true 5", "a 3 5"),
+        ("a 3 - 5", "refused 25"),
+        ("a 3 false -", "refused 25"),
+        ("a 3 false 5", "refused 23"),
+        ("a 3 true 5", "a 3 5"),
+        ("a 4 true 5", "a 4 -"),
     ])
 
 
@@ -572,15 +593,15 @@ def make_presence():
         "entity g : G { } entity s : S { id = 7 } entity z : O { } "
         "rules when event t from g value changed trigger action o ( s.id ) on z , action p ( s.v ) on z end end",
         [
-            ("n g.t s s.v", "n z.o z.p"),
-            ("1 1 - 5", "1 7 5"),
-            ("2 2 false -", "2 - -"),
-            ("3 3 true -", "3 7 -"),
-            ("4 4 - 6", "4 7 6"),
-            ("5 5 false 6", "refused 23"),
-            ("5 5 true -", "5 7 6"),
-            ("6 6 false -", "6 - -"),
-            ("7 7 true 8", "7 7 8"),
+            ("by n g.t s s.v", "by n z.o z.p"),
+            ("a 1 1 - 5", "a 1 7 5"),
+            ("a 2 2 false -", "a 2 - -"),
+            ("a 3 3 true -", "a 3 7 -"),
+            ("a 4 4 - 6", "a 4 7 6"),
+            ("a 5 5 false 6", "refused 23"),
+            ("a 5 5 true -", "a 5 7 6"),
+            ("a 6 6 false -", "a 6 - -"),
+            ("a 7 7 true 8", "a 7 7 8"),
         ],
     )
     ran(
@@ -589,16 +610,16 @@ def make_presence():
         "rules when event v from s value changed trigger action o ( 1 ) on z end "
         "when event v from s value = 5 trigger action p ( 2 ) on z end end",
         [
-            ("n s s.v", "n z.o z.p"),
-            ("1 - 5", "1 1 2"),
-            ("2 false -", "2 - -"),
-            ("3 false -", "3 - -"),
-            ("4 true 5", "4 1 2"),
-            ("5 - 5", "5 - -"),
-            ("6 false -", "6 - -"),
-            ("7 true -", "7 - -"),
-            ("8 - 5", "8 1 2"),
-            ("9 - ?", "9 1 -"),
+            ("by n s s.v", "by n z.o z.p"),
+            ("a 1 - 5", "a 1 1 2"),
+            ("a 2 false -", "a 2 - -"),
+            ("a 3 false -", "a 3 - -"),
+            ("a 4 true 5", "a 4 1 2"),
+            ("a 5 - 5", "a 5 - -"),
+            ("a 6 false -", "a 6 - -"),
+            ("a 7 true -", "a 7 - -"),
+            ("a 8 - 5", "a 8 1 2"),
+            ("a 9 - ?", "a 9 1 -"),
         ],
     )
     ran(
@@ -606,14 +627,14 @@ def make_presence():
         "interface B { event p : bool action r ( whole ) } entity x : B { } entity y : B { } entity z : B { } "
         "rules when event p from v : B value = true trigger action r ( 1 ) on w : B end end",
         [
-            ("n x y z x.p z.p", "n x.r y.r z.r"),
-            ("1 - - - true -", "1 1 1 1"),
-            ("2 - false - false -", "2 - - -"),
-            ("3 - - - true -", "3 1 - 1"),
-            ("4 false true - - false", "4 - - -"),
-            ("5 - - - - true", "5 - 1 1"),
-            ("6 true - false - -", "6 - - -"),
-            ("7 - - - true -", "7 1 1 -"),
+            ("by n x y z x.p z.p", "by n x.r y.r z.r"),
+            ("a 1 - - - true -", "a 1 1 1 1"),
+            ("a 2 - false - false -", "a 2 - - -"),
+            ("a 3 - - - true -", "a 3 1 - 1"),
+            ("a 4 false true - - false", "a 4 - - -"),
+            ("a 5 - - - - true", "a 5 - 1 1"),
+            ("a 6 true - false - -", "a 6 - - -"),
+            ("a 7 - - - true -", "a 7 1 1 -"),
         ],
     )
     ran(
@@ -621,12 +642,12 @@ def make_presence():
         OUT + GO + "interface B { action q ( whole ) } entity g : G { } entity z : O { } entity b : B { } entity c : B { } "
         "rules when event t from g value changed trigger action o ( g.t ) on z , action q ( 1 ) on y : B end end",
         [
-            ("n g.t b c z", "n z.o z.p b.q c.q"),
-            ("1 1 - - -", "1 1 - 1 1"),
-            ("2 2 false - -", "2 2 - - 1"),
-            ("3 3 - false -", "3 - - - -"),
-            ("4 4 true - -", "4 4 - 1 -"),
-            ("5 5 - - false", "5 - - 1 -"),
+            ("by n g.t b c z", "by n z.o z.p b.q c.q"),
+            ("a 1 1 - - -", "a 1 1 - 1 1"),
+            ("a 2 2 false - -", "a 2 2 - - 1"),
+            ("a 3 3 - false -", "a 3 - - - -"),
+            ("a 4 4 true - -", "a 4 4 - 1 -"),
+            ("a 5 5 - - false", "a 5 - - 1 -"),
         ],
     )
 
@@ -641,12 +662,12 @@ def make_writes():
         "trigger action o ( x.n * 100 + y.n + 0 / ( 220 - x.n * 100 - y.n ) ) on z , "
         "action p ( x.n * 100 + y.n ) on z , action w ( x.n ) on y : B end end",
         [
-            ("n a.t c.t c", "n b.w d.w z.o z.p z.q"),
-            ("1 1 1 -", "1 2 2 210 220 -"),
-            ("2 2 - -", "2 1 1 120 120 -"),
-            ("3 - 2 -", "3 2 2 210 220 -"),
-            ("4 3 - false", "4 1 1 120 120 -"),
-            ("5 - - true", "5 - - - - -"),
+            ("by n a.t c.t c", "by n b.w d.w z.o z.p z.q"),
+            ("a 1 1 1 -", "a 1 2 2 210 220 -"),
+            ("a 2 2 - -", "a 2 1 1 120 120 -"),
+            ("a 3 - 2 -", "a 3 2 2 210 220 -"),
+            ("a 4 3 - false", "a 4 1 1 120 120 -"),
+            ("a 5 - - true", "a 5 - - - - -"),
         ],
     )
     ran(
@@ -655,11 +676,11 @@ def make_writes():
         "rules when event e from s value changed trigger action keep ( 1 ) on s , action keep ( 2 ) on s end "
         "when event e from s value = 5 trigger action keep ( 3 ) on s , action keep ( 1 / 0 ) on s end end",
         [
-            ("n s.e", "n s.keep"),
-            ("1 4", "1 2"),
-            ("2 5", "2 3"),
-            ("3 5", "3 -"),
-            ("4 4", "4 2"),
+            ("by n s.e", "by n s.keep"),
+            ("a 1 4", "a 1 2"),
+            ("a 2 5", "a 2 3"),
+            ("a 3 5", "a 3 -"),
+            ("a 4 4", "a 4 2"),
         ],
     )
 
@@ -674,16 +695,16 @@ def make_clauses():
         "run-changed-and-unset",
         PLAIN.replace("action k ( s.e )", "action k ( 1 )"),
         [
-            ("n s.e", "n s.k"),
-            ("1 -", "1 -"),
-            ("2 5", "2 1"),
-            ("3 5", "3 -"),
-            ("4 ?", "4 1"),
-            ("5 ?", "5 -"),
-            ("6 -", "6 -"),
-            ("7 5", "7 1"),
-            ("8 -", "8 -"),
-            ("9 6", "9 1"),
+            ("by n s.e", "by n s.k"),
+            ("a 1 -", "a 1 -"),
+            ("a 2 5", "a 2 1"),
+            ("a 3 5", "a 3 -"),
+            ("a 4 ?", "a 4 1"),
+            ("a 5 ?", "a 5 -"),
+            ("a 6 -", "a 6 -"),
+            ("a 7 5", "a 7 1"),
+            ("a 8 -", "a 8 -"),
+            ("a 9 6", "a 9 1"),
         ],
     )
     ran(
@@ -692,17 +713,17 @@ def make_clauses():
         "rules when event r from s value changed trigger action o ( 1 ) on z end "
         "when event r from s value = 0r trigger action p ( 2 ) on z end end",
         [
-            ("n s.r", "n z.o z.p"),
-            ("1 0000000000000000", "1 1 2"),
-            ("1 8000000000000000", "refused 25"),
-            ("1 0000000000000000", "1 1 2"),
-            ("2 8000000000000000", "2 - -"),
-            ("3 0000000000000000", "3 - -"),
-            ("4 0000000000000001", "4 1 -"),
-            ("5 8000000000000000", "5 1 2"),
-            ("6 ?", "6 1 -"),
-            ("7 ?", "7 - -"),
-            ("8 8000000000000000", "8 1 2"),
+            ("by n s.r", "by n z.o z.p"),
+            ("a 1 0000000000000000", "a 1 1 2"),
+            ("a 1 8000000000000000", "refused 25"),
+            ("a 1 0000000000000000", "a 1 1 2"),
+            ("a 2 8000000000000000", "a 2 - -"),
+            ("a 3 0000000000000000", "a 3 - -"),
+            ("a 4 0000000000000001", "a 4 1 -"),
+            ("a 5 8000000000000000", "a 5 1 2"),
+            ("a 6 ?", "a 6 1 -"),
+            ("a 7 ?", "a 7 - -"),
+            ("a 8 8000000000000000", "a 8 1 2"),
         ],
     )
     ran(
@@ -710,17 +731,17 @@ def make_clauses():
         "interface S { event e : whole event f : whole action k ( whole ) } entity s : S { } "
         "rules when event e from s value = s.f trigger action k ( s.e ) on s end end",
         [
-            ("n s.e s.f", "n s.k"),
-            ("1 1 2", "1 -"),
-            ("2 2 -", "2 2"),
-            ("3 3 3", "3 -"),
-            ("4 - -", "4 -"),
-            ("5 3 4", "5 -"),
-            ("6 4 -", "6 4"),
-            ("7 ? -", "7 -"),
-            ("8 4 -", "8 4"),
-            ("9 - ?", "9 -"),
-            ("10 - 4", "10 4"),
+            ("by n s.e s.f", "by n s.k"),
+            ("a 1 1 2", "a 1 -"),
+            ("a 2 2 -", "a 2 2"),
+            ("a 3 3 3", "a 3 -"),
+            ("a 4 - -", "a 4 -"),
+            ("a 5 3 4", "a 5 -"),
+            ("a 6 4 -", "a 6 4"),
+            ("a 7 ? -", "a 7 -"),
+            ("a 8 4 -", "a 8 4"),
+            ("a 9 - ?", "a 9 -"),
+            ("a 10 - 4", "a 10 4"),
         ],
     )
     ran(
@@ -729,16 +750,16 @@ def make_clauses():
         "entity g : G { } entity s : S { id = 7 } "
         "rules when event v from s with id = g.t value changed trigger action k ( s.v ) on s end end",
         [
-            ("n g.t s.v s", "n s.k"),
-            ("1 7 1 -", "1 1"),
-            ("2 8 2 -", "2 -"),
-            ("3 7 3 -", "3 3"),
-            ("4 - 4 -", "4 4"),
-            ("5 - - false", "5 -"),
-            ("6 - 5 true", "6 5"),
-            ("7 - 6 -", "7 6"),
-            ("8 ? 7 -", "8 -"),
-            ("9 7 8 -", "9 8"),
+            ("by n g.t s.v s", "by n s.k"),
+            ("a 1 7 1 -", "a 1 1"),
+            ("a 2 8 2 -", "a 2 -"),
+            ("a 3 7 3 -", "a 3 3"),
+            ("a 4 - 4 -", "a 4 4"),
+            ("a 5 - - false", "a 5 -"),
+            ("a 6 - 5 true", "a 6 5"),
+            ("a 7 - 6 -", "a 7 6"),
+            ("a 8 ? 7 -", "a 8 -"),
+            ("a 9 7 8 -", "a 9 8"),
         ],
     )
     ran(
@@ -748,17 +769,17 @@ def make_clauses():
         "rules when event t from g value changed trigger action k ( g.t ) on s with id = g.t , "
         "action k ( x.id ) on x : S with id = g.t + 0 end end",
         [
-            ("n g.t s", "n s.k r.k"),
-            ("1 7 -", "1 7 -"),
-            ("2 8 -", "2 - 8"),
-            ("3 9 -", "3 - -"),
-            ("4 ? -", "4 - -"),
-            ("5 7 -", "5 7 -"),
-            ("6 8 false", "6 - 8"),
-            ("7 7 -", "7 - -"),
-            ("8 - true", "8 - -"),
-            ("9 ? -", "9 - -"),
-            ("10 7 -", "10 7 -"),
+            ("by n g.t s", "by n s.k r.k"),
+            ("a 1 7 -", "a 1 7 -"),
+            ("a 2 8 -", "a 2 - 8"),
+            ("a 3 9 -", "a 3 - -"),
+            ("a 4 ? -", "a 4 - -"),
+            ("a 5 7 -", "a 5 7 -"),
+            ("a 6 8 false", "a 6 - 8"),
+            ("a 7 7 -", "a 7 - -"),
+            ("a 8 - true", "a 8 - -"),
+            ("a 9 ? -", "a 9 - -"),
+            ("a 10 7 -", "a 10 7 -"),
         ],
     )
     ran(
@@ -769,16 +790,16 @@ def make_clauses():
         "when ( event a from s value = true or event b from s value = true ) and event c from s value = true "
         "trigger action p ( 1 ) on z end end",
         [
-            ("n s.a s.b s.c", "n z.o z.p"),
-            ("1 true false false", "1 1 -"),
-            ("2 false true true", "2 1 1"),
-            ("3 false false true", "3 - -"),
-            ("4 false true false", "4 - -"),
-            ("5 true true true", "5 1 1"),
-            ("6 false false false", "6 - -"),
-            ("7 false false true", "7 - -"),
-            ("8 false true true", "8 - -"),
-            ("9 true - -", "9 1 -"),
+            ("by n s.a s.b s.c", "by n z.o z.p"),
+            ("a 1 true false false", "a 1 1 -"),
+            ("a 2 false true true", "a 2 1 1"),
+            ("a 3 false false true", "a 3 - -"),
+            ("a 4 false true false", "a 4 - -"),
+            ("a 5 true true true", "a 5 1 1"),
+            ("a 6 false false false", "a 6 - -"),
+            ("a 7 false false true", "a 7 - -"),
+            ("a 8 false true true", "a 8 - -"),
+            ("a 9 true - -", "a 9 1 -"),
         ],
     )
 
@@ -798,18 +819,18 @@ def make_filters():
         "when event seen from q with bay = 2 value = true trigger action one ( 1 ) on q end "
         "when event seen from l : Lamp with bay = 2 value changed trigger action any ( l.bay ) on l end end",
         [
-            ("n p q p.seen q.seen", "n p.one p.any q.one q.any"),
-            ("1 false false - -", "1 - - - -"),
-            ("2 true true true true", "2 1 2 - -"),
-            ("3 - - true true", "3 - - - -"),
-            ("4 false - - false", "4 - - - -"),
-            ("5 true - true true", "5 1 2 - -"),
-            ("6 - - - -", "6 - - - -"),
-            ("7 false - - -", "7 - - - -"),
+            ("by n p q p.seen q.seen", "by n p.one p.any q.one q.any"),
+            ("a 1 false false - -", "a 1 - - - -"),
+            ("a 2 true true true true", "a 2 1 2 - -"),
+            ("a 3 - - true true", "a 3 - - - -"),
+            ("a 4 false - - false", "a 4 - - - -"),
+            ("a 5 true - true true", "a 5 1 2 - -"),
+            ("a 6 - - - -", "a 6 - - - -"),
+            ("a 7 false - - -", "a 7 - - - -"),
             # joins without a reading: its event was unset as it left, so nothing changes yet
-            ("8 true - - -", "8 - - - -"),
-            ("9 - - true -", "9 1 2 - -"),
-            ("10 - - false -", "10 - 2 - -"),
+            ("a 8 true - - -", "a 8 - - - -"),
+            ("a 9 - - true -", "a 9 1 2 - -"),
+            ("a 10 - - false -", "a 10 - 2 - -"),
         ],
     )
     # 14 / g.t is 7 only for 2 (4 for 3); it is unset for 0 and for unset
@@ -820,22 +841,22 @@ def make_filters():
         "rules when event v from s with id = 14 / g.t value changed trigger action c ( s.v ) on s end "
         "when event v from s with id = 14 / g.t value = 5 trigger action e ( g.t ) on s end end",
         [
-            ("n g.t s.v", "n s.c s.e"),
-            ("1 2 0", "1 0 -"),
+            ("by n g.t s.v", "by n s.c s.e"),
+            ("a 1 2 0", "a 1 0 -"),
             # 7 before, 4 now
-            ("2 3 5", "2 - -"),
-            ("3 - 0", "3 - -"),
+            ("a 2 3 5", "a 2 - -"),
+            ("a 3 - 0", "a 3 - -"),
             # 4 before, 7 now
-            ("4 2 5", "4 5 2"),
-            ("5 - 0", "5 0 -"),
+            ("a 4 2 5", "a 4 5 2"),
+            ("a 5 - 0", "a 5 0 -"),
             # 7 before, unset now
-            ("6 0 5", "6 - -"),
-            ("7 - 0", "7 - -"),
+            ("a 6 0 5", "a 6 - -"),
+            ("a 7 - 0", "a 7 - -"),
             # unset before, 7 now
-            ("8 2 5", "8 5 2"),
-            ("9 - 0", "9 0 -"),
-            ("10 ? 5", "10 - -"),
-            ("11 2 6", "11 6 -"),
+            ("a 8 2 5", "a 8 5 2"),
+            ("a 9 - 0", "a 9 0 -"),
+            ("a 10 ? 5", "a 10 - -"),
+            ("a 11 2 6", "a 11 6 -"),
         ],
     )
     # the filter is no part of what the two cycles are compared by
@@ -846,23 +867,23 @@ def make_filters():
         "rules when event v from s with id = s.f value changed trigger action c ( s.v ) on s end "
         "when event v from s with id = s.f value = s.w trigger action e ( s.w ) on s end end",
         [
-            ("n s.f s.v s.w", "n s.c s.e"),
-            ("1 0 5 5", "1 - -"),
+            ("by n s.f s.v s.w", "by n s.c s.e"),
+            ("a 1 0 5 5", "a 1 - -"),
             # the filter starts to hold, but v was 5 and equal to w already
-            ("2 1 5 5", "2 - -"),
+            ("a 2 1 5 5", "a 2 - -"),
             # v and w go together: equal before by the w of then
-            ("3 - 6 6", "3 6 -"),
-            ("4 - - 7", "4 - -"),
+            ("a 3 - 6 6", "a 3 6 -"),
+            ("a 4 - - 7", "a 4 - -"),
             # v takes the w of before, which is no longer w
-            ("5 - 7 8", "5 7 -"),
+            ("a 5 - 7 8", "a 5 7 -"),
             # w comes to v: not equal before by the w of then
-            ("6 - - 7", "6 - 7"),
-            ("7 0 8 8", "7 - -"),
+            ("a 6 - - 7", "a 6 - 7"),
+            ("a 7 0 8 8", "a 7 - -"),
             # equal before, though the filter did not hold there
-            ("8 1 9 9", "8 9 -"),
-            ("9 0 ? ?", "9 - -"),
+            ("a 8 1 9 9", "a 8 9 -"),
+            ("a 9 0 ? ?", "a 9 - -"),
             # two unset values were not equal
-            ("10 1 4 4", "10 4 4"),
+            ("a 10 1 4 4", "a 10 4 4"),
         ],
     )
     # an action fired in one line is what a filter reads in the next line, and only there
@@ -874,16 +895,16 @@ def make_filters():
         "rules when event t from h value changed trigger action pick ( h.t ) on h end "
         "when event seen from l : Lamp with bay = h.pick value changed trigger action lit ( h.pick ) on l end end",
         [
-            ("n h.t p.seen q.seen", "n h.pick p.lit q.lit"),
-            ("1 2 true true", "1 2 - -"),
-            ("2 3 false false", "2 3 2 -"),
-            ("3 - true true", "3 - - 3"),
-            ("4 - false false", "4 - - -"),
-            ("5 2 true true", "5 2 - -"),
-            ("5 2 true true", "5 2 - -"),
-            ("6 - true false", "6 - - -"),
-            ("7 3 false true", "7 3 - -"),
-            ("8 - true false", "8 - - 3"),
+            ("by n h.t p.seen q.seen", "by n h.pick p.lit q.lit"),
+            ("a 1 2 true true", "a 1 2 - -"),
+            ("a 2 3 false false", "a 2 3 2 -"),
+            ("a 3 - true true", "a 3 - - 3"),
+            ("a 4 - false false", "a 4 - - -"),
+            ("a 5 2 true true", "a 5 2 - -"),
+            ("a 5 2 true true", "a 5 2 - -"),
+            ("a 6 - true false", "a 6 - - -"),
+            ("a 7 3 false true", "a 7 3 - -"),
+            ("a 8 - true false", "a 8 - - 3"),
         ],
     )
     # nothing fires at a lamp that leaves; of an absent one the filter's sum reads unset
@@ -896,14 +917,14 @@ def make_filters():
         "when event seen from l : Lamp with bay = 2 value changed trigger action p ( 1 ) on z end "
         "when event seen from b with bay = a.bay + 3 value changed trigger action q ( 1 ) on z end end",
         [
-            ("n a a.seen b.seen", "n z.o z.p z.q"),
-            ("1 - true true", "1 1 1 1"),
-            ("2 false - false", "2 - - -"),
-            ("3 - - true", "3 - - -"),
-            ("4 true - false", "4 - - 1"),
-            ("5 - true -", "5 1 1 -"),
-            ("6 false - -", "6 - - -"),
-            ("7 true false true", "7 1 1 1"),
+            ("by n a a.seen b.seen", "by n z.o z.p z.q"),
+            ("a 1 - true true", "a 1 1 1 1"),
+            ("a 2 false - false", "a 2 - - -"),
+            ("a 3 - - true", "a 3 - - -"),
+            ("a 4 true - false", "a 4 - - 1"),
+            ("a 5 - true -", "a 5 1 1 -"),
+            ("a 6 false - -", "a 6 - - -"),
+            ("a 7 true false true", "a 7 1 1 1"),
         ],
     )
     # the filter's sum reads another variable, whose lamp may be the one that joins
@@ -913,14 +934,14 @@ def make_filters():
         "entity p : Lamp { bay = 1 next = 2 } entity q : Lamp { bay = 2 next = 1 } "
         "rules when event seen from x : Lamp with next = y.bay value = true trigger action lit ( x.bay ) on y : Lamp end end",
         [
-            ("n p q p.seen q.seen", "n p.lit q.lit"),
-            ("1 - false true -", "1 - -"),
-            ("2 - true - true", "2 2 -"),
-            ("3 - - false false", "3 - -"),
-            ("4 - - true true", "4 2 1"),
-            ("5 false - - false", "5 - -"),
-            ("6 true - - true", "6 2 -"),
-            ("7 - - true -", "7 - 1"),
+            ("by n p q p.seen q.seen", "by n p.lit q.lit"),
+            ("a 1 - false true -", "a 1 - -"),
+            ("a 2 - true - true", "a 2 2 -"),
+            ("a 3 - - false false", "a 3 - -"),
+            ("a 4 - - true true", "a 4 2 1"),
+            ("a 5 false - - false", "a 5 - -"),
+            ("a 6 true - - true", "a 6 2 -"),
+            ("a 7 - - true -", "a 7 - 1"),
         ],
     )
 
@@ -937,16 +958,16 @@ def make_actions():
         "rules when event e from s value changed trigger action k ( s.e ) on s end "
         "when event k from s value changed trigger action o ( s.k ) on z , action p ( 1 ) on z end end",
         [
-            ("n s.e", "n s.k z.o z.p"),
-            ("1 5", "1 5 - -"),
-            ("2 -", "2 - 5 1"),
-            ("3 -", "3 - - 1"),
-            ("4 -", "4 - - -"),
-            ("5 6", "5 6 - -"),
-            ("6 6", "6 - 6 1"),
-            ("7 7", "7 7 - 1"),
-            ("8 8", "8 8 7 1"),
-            ("9 9", "9 9 8 1"),
+            ("by n s.e", "by n s.k z.o z.p"),
+            ("a 1 5", "a 1 5 - -"),
+            ("a 2 -", "a 2 - 5 1"),
+            ("a 3 -", "a 3 - - 1"),
+            ("a 4 -", "a 4 - - -"),
+            ("a 5 6", "a 5 6 - -"),
+            ("a 6 6", "a 6 - 6 1"),
+            ("a 7 7", "a 7 7 - 1"),
+            ("a 8 8", "a 8 8 7 1"),
+            ("a 9 9", "a 9 9 8 1"),
         ],
     )
     ran(
@@ -955,18 +976,18 @@ def make_actions():
         "rules when event e from s value = true trigger action k ( 1 ) on s end "
         "when event k from s value changed trigger action k ( s.k * 2 ) on s end end",
         [
-            ("n s s.e", "n s.k"),
-            ("1 - true", "1 1"),
-            ("2 - -", "2 2"),
-            ("2 - -", "2 2"),
-            ("2 - true", "refused 25"),
-            ("3 - -", "3 4"),
-            ("4 - -", "4 8"),
-            ("5 false -", "5 -"),
-            ("5 false -", "5 -"),
-            ("6 true -", "6 -"),
-            ("7 - true", "7 1"),
-            ("8 true true", "8 2"),
+            ("by n s s.e", "by n s.k"),
+            ("a 1 - true", "a 1 1"),
+            ("a 2 - -", "a 2 2"),
+            ("a 2 - -", "a 2 2"),
+            ("a 2 - true", "refused 25"),
+            ("a 3 - -", "a 3 4"),
+            ("a 4 - -", "a 4 8"),
+            ("a 5 false -", "a 5 -"),
+            ("a 5 false -", "a 5 -"),
+            ("a 6 true -", "a 6 -"),
+            ("a 7 - true", "a 7 1"),
+            ("a 8 true true", "a 8 2"),
         ],
     )
 
@@ -992,11 +1013,11 @@ def sums_table(results):
     nothing = " ".join("-" for _ in results)
     row = " ".join(results)
     return [
-        ("n c.t", "n " + names),
-        ("1 true", "1 " + row),
-        ("2 false", "2 " + nothing),
-        ("3 true", "3 " + row),
-        ("3 true", "3 " + row),
+        ("by n c.t", "by n " + names),
+        ("a 1 true", "a 1 " + row),
+        ("a 2 false", "a 2 " + nothing),
+        ("a 3 true", "a 3 " + row),
+        ("a 3 true", "a 3 " + row),
     ]
 
 
@@ -1042,20 +1063,21 @@ def make_sums():
         "action a ( s.x + s.y ) on s , action b ( s.x - s.y ) on s , action c ( s.x * s.y ) on s , "
         "action d ( s.x / s.y ) on s , action f ( - s.x ) on s end end",
         [
-            ("n s.x s.y", "n s.a s.b s.c s.d s.f"),
+            ("by n s.x s.y", "by n s.a s.b s.c s.d s.f"),
             # greatest finite twice: the sum and the product overflow
-            ("1 7fefffffffffffff 7fefffffffffffff", "1 - 0000000000000000 - 3ff0000000000000 ffefffffffffffff"),
+            ("a 1 7fefffffffffffff 7fefffffffffffff", "a 1 - 0000000000000000 - 3ff0000000000000 ffefffffffffffff"),
             # least positive and 2: half of the least rounds to even, to zero
-            ("2 0000000000000001 4000000000000000",
-             "2 4000000000000000 c000000000000000 0000000000000002 0000000000000000 8000000000000001"),
+            ("a 2 0000000000000001 4000000000000000",
+             "a 2 4000000000000000 c000000000000000 0000000000000002 0000000000000000 8000000000000001"),
             # 0.1 and 0.2
-            ("3 3fb999999999999a 3fc999999999999a",
-             "3 3fd3333333333334 bfb999999999999a 3f947ae147ae147c 3fe0000000000000 bfb999999999999a"),
+            ("a 3 3fb999999999999a 3fc999999999999a",
+             "a 3 3fd3333333333334 bfb999999999999a 3f947ae147ae147c 3fe0000000000000 bfb999999999999a"),
             # minus zero and zero
-            ("4 8000000000000000 0000000000000000",
-             "4 0000000000000000 8000000000000000 8000000000000000 - 0000000000000000"),
+            ("a 4 8000000000000000 0000000000000000",
+             "a 4 0000000000000000 8000000000000000 8000000000000000 - 0000000000000000"),
             # greatest finite by the least: the quotient overflows
-            ("5 7fefffffffffffff 0000000000000001", "5 7fefffffffffffff 7fefffffffffffff 3ccfffffffffffff - ffefffffffffffff"),
+            ("a 5 7fefffffffffffff 0000000000000001",
+             "a 5 7fefffffffffffff 7fefffffffffffff 3ccfffffffffffff - ffefffffffffffff"),
         ],
     )
 
@@ -1074,45 +1096,45 @@ QUOTIENT = (
 def make_quotients():
     # q is rounded toward minus infinity, so what is left over, r, has the sign of the divisor or is 0
     ran("run-quotient-of-all-signs", QUOTIENT, [
-        ("n s.x s.y", "n s.q s.r"),
+        ("by n s.x s.y", "by n s.q s.r"),
         # 3.5 and -3.5, from both signs of each
-        ("1 7 2", "1 3 1"),
-        ("2 -7 2", "2 -4 1"),
-        ("3 7 -2", "3 -4 -1"),
-        ("4 -7 -2", "4 3 -1"),
+        ("a 1 7 2", "a 1 3 1"),
+        ("a 2 -7 2", "a 2 -4 1"),
+        ("a 3 7 -2", "a 3 -4 -1"),
+        ("a 4 -7 -2", "a 4 3 -1"),
         # exact: no step down
-        ("5 6 -3", "5 -2 0"),
-        ("6 -6 3", "6 -2 0"),
-        ("7 -6 -3", "7 2 0"),
-        ("8 0 -5", "8 0 0"),
+        ("a 5 6 -3", "a 5 -2 0"),
+        ("a 6 -6 3", "a 6 -2 0"),
+        ("a 7 -6 -3", "a 7 2 0"),
+        ("a 8 0 -5", "a 8 0 0"),
         # nearer to zero than to -1, and yet -1
-        ("9 -1 3", "9 -1 2"),
-        ("10 1 -3", "10 -1 -2"),
+        ("a 9 -1 3", "a 9 -1 2"),
+        ("a 10 1 -3", "a 10 -1 -2"),
         # between 0 and 1
-        ("11 -1 -3", "11 0 -1"),
+        ("a 11 -1 -3", "a 11 0 -1"),
         # no quotient
-        ("12 -5 0", "12 - -"),
+        ("a 12 -5 0", "a 12 - -"),
     ])
     # no number of a bench text is -2147483648, but a reading can be; r is unset where the
     # product of quotient and divisor leaves the 32 bits, the quotient itself in line 1 (and by the zero divisor of line 12)
     ran("run-quotient-at-the-ends", QUOTIENT, [
-        ("n s.x s.y", "n s.q s.r"),
-        ("1 -2147483648 -1", "1 - -"),
-        ("2 -2147483648 1", "2 -2147483648 0"),
-        ("3 -2147483647 -1", "3 2147483647 0"),
+        ("by n s.x s.y", "by n s.q s.r"),
+        ("a 1 -2147483648 -1", "a 1 - -"),
+        ("a 2 -2147483648 1", "a 2 -2147483648 0"),
+        ("a 3 -2147483647 -1", "a 3 2147483647 0"),
         # -1073741823.5; the product is -2147483648, just within
-        ("4 -2147483647 2", "4 -1073741824 1"),
+        ("a 4 -2147483647 2", "a 4 -1073741824 1"),
         # -1073741823.5 again; the product is 2147483648
-        ("5 2147483647 -2", "5 -1073741824 -"),
+        ("a 5 2147483647 -2", "a 5 -1073741824 -"),
         # a little below -1; the product is -4294967294
-        ("6 -2147483648 2147483647", "6 -2 -"),
+        ("a 6 -2147483648 2147483647", "a 6 -2 -"),
         # a little above -1; the product is 2147483648
-        ("7 2147483647 -2147483648", "7 -1 -"),
-        ("8 -2147483648 -2147483648", "8 1 0"),
-        ("9 -1 2147483647", "9 -1 2147483646"),
-        ("10 -1 -2147483648", "10 0 -1"),
-        ("11 0 -2147483648", "11 0 0"),
-        ("12 -2147483648 0", "12 - -"),
+        ("a 7 2147483647 -2147483648", "a 7 -1 -"),
+        ("a 8 -2147483648 -2147483648", "a 8 1 0"),
+        ("a 9 -1 2147483647", "a 9 -1 2147483646"),
+        ("a 10 -1 -2147483648", "a 10 0 -1"),
+        ("a 11 0 -2147483648", "a 11 0 0"),
+        ("a 12 -2147483648 0", "a 12 - -"),
     ])
     # half goes down by one every second line and back goes up so, across zero too; two
     # further to the right the half is always one more
@@ -1123,15 +1145,15 @@ def make_quotients():
         "rules when event pos from s value changed trigger action half ( s.pos / 2 ) on s , "
         "action back ( s.pos / s.by ) on s , action step ( ( s.pos + 2 ) / 2 - s.pos / 2 ) on s end end",
         [
-            ("n s.pos", "n s.half s.back s.step"),
-            ("1 3", "1 1 -2 1"),
-            ("2 2", "2 1 -1 1"),
-            ("3 1", "3 0 -1 1"),
-            ("4 0", "4 0 0 1"),
-            ("5 -1", "5 -1 0 1"),
-            ("6 -2", "6 -1 1 1"),
-            ("7 -3", "7 -2 1 1"),
-            ("8 -4", "8 -2 2 1"),
+            ("by n s.pos", "by n s.half s.back s.step"),
+            ("a 1 3", "a 1 1 -2 1"),
+            ("a 2 2", "a 2 1 -1 1"),
+            ("a 3 1", "a 3 0 -1 1"),
+            ("a 4 0", "a 4 0 0 1"),
+            ("a 5 -1", "a 5 -1 0 1"),
+            ("a 6 -2", "a 6 -1 1 1"),
+            ("a 7 -3", "a 7 -2 1 1"),
+            ("a 8 -4", "a 8 -2 2 1"),
         ],
     )
     # halved again and again, a negative value comes to rest at -1 and a positive one at 0;
@@ -1142,20 +1164,20 @@ def make_quotients():
         "rules when event e from s value changed trigger action k ( s.e ) on s end "
         "when event k from s value changed trigger action k ( s.k / 2 ) on s end end",
         [
-            ("n s.e", "n s.k"),
-            ("1 -5", "1 -5"),
-            ("2 -", "2 -3"),
-            ("3 -", "3 -2"),
-            ("4 -", "4 -1"),
-            ("5 -", "5 -1"),
-            ("6 -", "6 -"),
+            ("by n s.e", "by n s.k"),
+            ("a 1 -5", "a 1 -5"),
+            ("a 2 -", "a 2 -3"),
+            ("a 3 -", "a 3 -2"),
+            ("a 4 -", "a 4 -1"),
+            ("a 5 -", "a 5 -1"),
+            ("a 6 -", "a 6 -"),
             # k was -1 and is unset, which has no half
-            ("7 -", "7 -"),
-            ("8 5", "8 5"),
-            ("9 -", "9 2"),
-            ("10 -", "10 1"),
-            ("11 -", "11 0"),
-            ("12 -", "12 0"),
+            ("a 7 -", "a 7 -"),
+            ("a 8 5", "a 8 5"),
+            ("a 9 -", "a 9 2"),
+            ("a 10 -", "a 10 1"),
+            ("a 11 -", "a 11 0"),
+            ("a 12 -", "a 12 0"),
         ],
     )
     # e by `value = sum`, f by a clause's filter, g by a call's filter with a negative divisor
@@ -1167,24 +1189,24 @@ def make_quotients():
         "when event v from s with id = s.u / 2 value changed trigger action f ( s.v ) on s end "
         "when event u from s value changed trigger action g ( s.u ) on s with id = s.u / -2 end end",
         [
-            ("n s.u s.v", "n s.e s.f s.g"),
+            ("by n s.u s.v", "by n s.e s.f s.g"),
             # -7 / 2 is not -3, but is the id
-            ("1 -7 -3", "1 - -3 -"),
-            ("2 - -4", "2 -4 -4 -"),
+            ("a 1 -7 -3", "a 1 - -3 -"),
+            ("a 2 - -4", "a 2 -4 -4 -"),
             # -8 / 2 is -4 as well, so v was equal one cycle before
-            ("3 -8 -", "3 - - -"),
+            ("a 3 -8 -", "a 3 - - -"),
             # v goes with -9 / 2, which is -5 and no longer the id
-            ("4 -9 -5", "4 - - -"),
+            ("a 4 -9 -5", "a 4 - - -"),
             # 7 / -2 is the id
-            ("5 7 4", "5 - - 7"),
+            ("a 5 7 4", "a 5 - - 7"),
             # 9 / -2 is -5; v comes to be 9 / 2
-            ("6 9 -", "6 4 - -"),
+            ("a 6 9 -", "a 6 4 - -"),
             # 8 / -2 is the id; v was equal to 9 / 2 before
-            ("7 8 -", "7 - - 8"),
-            ("8 ? -", "8 - - -"),
+            ("a 7 8 -", "a 7 - - 8"),
+            ("a 8 ? -", "a 8 - - -"),
             # -1 / 2 is not 0
-            ("9 -1 0", "9 - - -"),
-            ("10 - -1", "10 -1 - -"),
+            ("a 9 -1 0", "a 9 - - -"),
+            ("a 10 - -1", "a 10 -1 - -"),
         ],
     )
     # each quotient is rounded before the next operator takes it, from left to right
@@ -1229,6 +1251,358 @@ def make_quotients():
 
 
 # --------------------------------------------------------------------------
+# Readings: senders (document 02, order 5)
+# --------------------------------------------------------------------------
+
+
+def make_two_senders():
+    # s.k takes s.e where it changes, whoever sends it
+    ran("run-senders-interleaved", PLAIN, [
+        ("by n s.e", "by n s.k"),
+        ("a 1 5", "a 1 5"),
+        # the same number and readings of another sender are no line sent again
+        ("b 1 5", "b 1 -"),
+        ("b 2 6", "b 2 6"),
+        ("b 3 7", "b 3 7"),
+        ("a 2 7", "a 2 -"),
+        ("b 4 -", "b 4 -"),
+        ("a 3 8", "a 3 8"),
+        # c is the third, and begins at 1
+        ("c 1 9", "c 1 9"),
+        ("b 5 8", "b 5 8"),
+        ("c 2 -", "c 2 -"),
+        ("a 4 ?", "a 4 -"),
+    ])
+    # each is given its own row, not that of the cells now; e stays as the last taken line has left it
+    ran("run-senders-late-resend", PLAIN, [
+        ("by n s.e", "by n s.k"),
+        ("a 1 5", "a 1 5"),
+        ("b 1 6", "b 1 6"),
+        ("a 1 5", "a 1 5"),
+        ("b 1 6", "b 1 6"),
+        # once more
+        ("a 1 5", "a 1 5"),
+        # e is 6 still
+        ("a 2 6", "a 2 -"),
+        ("b 1 6", "b 1 6"),
+        ("b 2 5", "b 2 5"),
+        # nothing was fired then, though k is 5 now
+        ("a 2 6", "a 2 -"),
+        ("b 2 5", "b 2 5"),
+        ("a 3 6", "a 3 6"),
+        ("a 3 6", "a 3 6"),
+    ])
+    # - -0 is 0; the kept line is compared bit by bit, and what was fired is kept as it was
+    ran(
+        "run-senders-resend-of-all-kinds",
+        "interface A { event w : whole action k ( whole ) action f ( bool ) } "
+        "interface R { event r : real action g ( real ) } entity x : A { } entity y : R { } "
+        "rules when event w from x value changed trigger action k ( x.w ) on x , action f ( true ) on x end "
+        "when event r from y value changed trigger action g ( - y.r ) on y end end",
+        [
+            ("by n x.w y.r", "by n x.k x.f y.g"),
+            ("a 1 5 8000000000000000", "a 1 5 true 0000000000000000"),
+            ("b 1 - 3ff0000000000000", "b 1 - - bff0000000000000"),
+            ("c 1 -3 -", "c 1 -3 true -"),
+            ("a 1 5 0000000000000000", "refused 25"),
+            ("a 1 5 8000000000000000", "a 1 5 true 0000000000000000"),
+            ("b 1 - 3ff0000000000000", "b 1 - - bff0000000000000"),
+            # r changes, but there is no value to write
+            ("d 1 - ?", "d 1 - - -"),
+            ("c 1 -3 ?", "refused 25"),
+            ("c 1 -3 -", "c 1 -3 true -"),
+            ("d 1 - -", "refused 25"),
+            ("d 1 - ?", "d 1 - - -"),
+        ],
+    )
+    # a resent line starts no cycle and writes no cell: k, which z.o follows, is not put back
+    ran(
+        "run-senders-resend-starts-no-cycle",
+        "interface S { event e : whole action k ( whole ) } interface O { action o ( whole ) } "
+        "entity s : S { } entity z : O { } "
+        "rules when event e from s value changed trigger action k ( s.e ) on s end "
+        "when event k from s value changed trigger action o ( 1 ) on z end end",
+        [
+            ("by n s.e", "by n s.k z.o"),
+            ("a 1 5", "a 1 5 -"),
+            # k is seen
+            ("b 1 -", "b 1 - 1"),
+            ("a 1 5", "a 1 5 -"),
+            # k was seen one cycle before and is unset now
+            ("b 2 -", "b 2 - 1"),
+            ("b 2 -", "b 2 - 1"),
+            ("a 2 -", "a 2 - -"),
+            ("b 3 7", "b 3 7 -"),
+            ("a 2 -", "a 2 - -"),
+            ("b 3 7", "b 3 7 -"),
+            ("a 3 -", "a 3 - 1"),
+            ("b 3 7", "b 3 7 -"),
+            ("b 4 7", "b 4 - 1"),
+        ],
+    )
+    # refused lines are kept for nobody
+    ran("run-senders-refused-between", PLAIN, [
+        ("by n s.e", "by n s.k"),
+        ("a 1 5", "a 1 5"),
+        ("a 2 x", "refused 23"),
+        ("a 1 5", "a 1 5"),
+        ("b 3 6", "refused 24"),
+        ("a 1 6", "refused 25"),
+        ("a 1 5", "a 1 5"),
+        ("b 1 6", "b 1 6"),
+        ("a 3 6", "refused 24"),
+        ("b 1 5", "refused 25"),
+        ("a 1 5", "a 1 5"),
+        ("b 1 6", "b 1 6"),
+        ("a 2 6", "a 2 -"),
+    ])
+
+
+def make_senders_and_absence():
+    # "Being resent is tested before the check on absent entities": a's line reads s, which b has made leave
+    ran("run-senders-resend-after-leaving", PLAIN, [
+        ("by n s s.e", "by n s.k"),
+        ("a 1 - 5", "a 1 5"),
+        ("b 1 false -", "b 1 -"),
+        ("a 1 - 5", "a 1 5"),
+        # the same readings under the next number
+        ("a 2 - 5", "refused 23"),
+        # and from another sender, and under a number too great
+        ("c 1 - 5", "refused 23"),
+        ("a 4294967296 - 5", "refused 23"),
+        ("a 1 - 5", "a 1 5"),
+        ("b 1 false -", "b 1 -"),
+        ("a 2 - -", "a 2 -"),
+        # e was unset as s left, so it changes
+        ("b 2 true 5", "b 2 5"),
+        ("a 3 - 6", "a 3 6"),
+        ("b 2 true 5", "b 2 5"),
+    ])
+    # a's line says itself that s is there; sent again it leaves s away, under the next number it does not
+    ran("run-senders-resend-of-presence", PLAIN, [
+        ("by n s s.e", "by n s.k"),
+        ("a 1 true 5", "a 1 5"),
+        ("b 1 false -", "b 1 -"),
+        ("a 1 true 5", "a 1 5"),
+        ("b 2 - 6", "refused 23"),
+        ("a 1 - 5", "refused 23"),
+        ("a 2 true 5", "a 2 5"),
+        # s stays there
+        ("b 1 false -", "b 1 -"),
+        ("b 2 - 6", "b 2 6"),
+        ("a 2 true 5", "a 2 5"),
+        ("a 3 false -", "a 3 -"),
+        ("b 2 - 6", "b 2 6"),
+        ("b 2 true 6", "refused 25"),
+    ])
+
+
+def make_numbers_of_senders():
+    ran("run-senders-first-number", PLAIN, [
+        ("by n s.e", "by n s.k"),
+        ("a 2 5", "refused 24"),
+        # 24 before 25: 0 is the last number of a sender that is not known
+        ("a 0 5", "refused 24"),
+        # nor is it resent, with no readings as before the first line
+        ("a 0 -", "refused 24"),
+        ("a 1 5", "a 1 5"),
+        ("b 2 5", "refused 24"),
+        ("b 0 -", "refused 24"),
+        ("a 0 5", "refused 24"),
+        ("a 2 6", "a 2 6"),
+        # a's last number
+        ("b 2 6", "refused 24"),
+        ("b 3 6", "refused 24"),
+        ("b 1 6", "b 1 -"),
+        ("b 1 6", "b 1 -"),
+    ])
+    ran("run-senders-own-numbers", PLAIN, [
+        ("by n s.e", "by n s.k"),
+        ("a 1 5", "a 1 5"),
+        ("a 2 6", "a 2 6"),
+        ("a 3 -", "a 3 -"),
+        ("b 1 7", "b 1 7"),
+        # the readings of a's last line, then that line's number too
+        ("b 1 -", "refused 25"),
+        ("b 3 -", "refused 24"),
+        # the readings of b's last line, then that line's number too
+        ("a 3 7", "refused 25"),
+        ("a 1 7", "refused 24"),
+        ("a 4 7", "a 4 -"),
+        # a's next number, a's last one, b's own next
+        ("b 5 8", "refused 24"),
+        ("b 4 8", "refused 24"),
+        ("b 2 8", "b 2 8"),
+    ])
+
+
+def make_names_of_senders():
+    # "form as in bench files": a letter, then letters, digits or `_`, 24 bytes at most
+    ran("run-senders-ill-formed", PLAIN, [
+        ("by n s.e", "by n s.k"),
+        ("1a 1 5", "refused 43"),
+        ("_a 1 5", "refused 43"),
+        ("s.e 1 5", "refused 43"),
+        ("- 1 5", "refused 43"),
+        ("a-b 1 5", "refused 43"),
+        # a tab parts no fields
+        ("a\t 1 5", "refused 43"),
+        ("abcdefghijklmnopqrstuvwxy 1 5", "refused 43"),
+        ("abcdefghijklmnopqrstuvwx 1 5", "abcdefghijklmnopqrstuvwx 1 5"),
+        # all 24 bytes count
+        ("abcdefghijklmnopqrstuvwX 1 6", "abcdefghijklmnopqrstuvwX 1 6"),
+        ("abcdefghijklmnopqrstuvwx 1 5", "abcdefghijklmnopqrstuvwx 1 5"),
+        ("Z_9 1 7", "Z_9 1 7"),
+        ("Z_9 2 -", "Z_9 2 -"),
+    ])
+    # "reserved words allowed"; s is an entity, `by` and `n` begin the names
+    ran("run-senders-words-of-all-sorts", PLAIN, [
+        ("by n s.e", "by n s.k"),
+        ("when 1 5", "when 1 5"),
+        ("true 1 6", "true 1 6"),
+        ("s 1 7", "s 1 7"),
+        ("by 1 8", "by 1 8"),
+        ("n 1 9", "n 1 9"),
+        # a row, and no line that is refused
+        ("refused 1 10", "refused 1 10"),
+        ("by n 8", "refused 21"),
+        ("n 1 9", "n 1 9"),
+        ("by 1 8", "by 1 8"),
+        ("s 1 7", "s 1 7"),
+        ("when 1 5", "when 1 5"),
+        ("true 2 6", "true 2 6"),
+    ])
+    # one beginning with another, capitals, a sender told apart by its end alone
+    ran("run-senders-alike", PLAIN, [
+        ("by n s.e", "by n s.k"),
+        ("ab 1 1", "ab 1 1"),
+        ("a 1 2", "a 1 2"),
+        ("abc 1 3", "abc 1 3"),
+        ("aB 1 4", "aB 1 4"),
+        ("a_ 1 5", "a_ 1 5"),
+        ("a1 1 6", "a1 1 6"),
+        ("ab 1 1", "ab 1 1"),
+        ("a 1 2", "a 1 2"),
+        ("abc 1 3", "abc 1 3"),
+        ("aB 1 4", "aB 1 4"),
+        ("a_ 1 5", "a_ 1 5"),
+        ("a1 1 6", "a1 1 6"),
+    ])
+    # the columns begin after `by n`, so both may be entities too
+    ran(
+        "run-entities-by-and-n",
+        "interface I { event n : bool event by : bool action k ( bool ) } entity by : I { } entity n : I { } "
+        "rules when event n from by value changed trigger action k ( by.n ) on n end "
+        "when event by from n value changed trigger action k ( n.by ) on by end end",
+        [
+            ("by n n by by.n n.by", "by n by.k n.k"),
+            ("by 1 - - true -", "by 1 - true"),
+            ("n 1 - - - false", "n 1 false -"),
+            ("by 1 - - true -", "by 1 - true"),
+            ("n 2 false - - -", "n 2 - -"),
+            ("by 2 - - - true", "refused 23"),
+            # at the absent n nothing is written
+            ("by 2 - - false -", "by 2 - -"),
+            ("n 2 false - - -", "n 2 - -"),
+            ("n 3 - false - -", "n 3 - -"),
+            # of both the events were unset as they left
+            ("by 3 true true - true", "by 3 true -"),
+            ("n 4 - - true -", "n 4 - true"),
+            ("by 3 true true - true", "by 3 true -"),
+        ],
+    )
+    ran("run-senders-missing-fields", PLAIN, [
+        ("by n s.e", "by n s.k"),
+        # no sender, no number, no value
+        ("1 5", "refused 21"),
+        ("a 5", "refused 21"),
+        ("a 1", "refused 21"),
+        # an empty one
+        (" 1 5", "refused 21"),
+        ("a  5", "refused 21"),
+        ("a 1 ", "refused 21"),
+        # one too many at either end
+        (" a 1 5", "refused 21"),
+        ("a 1 5 ", "refused 21"),
+        # sender and number have changed places; no sender again, and the right number of fields
+        ("1 a 5", "refused 21"),
+        ("1 1 5", "refused 43"),
+        ("a 1 5", "a 1 5"),
+    ])
+
+
+def make_order_of_refusals():
+    ran("run-senders-refusal-order", PLAIN, [
+        ("by n s s.e", "by n s.k"),
+        ("a 1 - 5", "a 1 5"),
+        ("b 1 false -", "b 1 -"),
+        # 21 before 43; 43 before 23, ill formed and of an absent entity, and before 24
+        ("a- 01 - 5", "refused 21"),
+        ("a- 4294967296 - x", "refused 43"),
+        ("a- 0 - 5", "refused 43"),
+        # 23 before the test for resent: 05 would be 5
+        ("a 1 - 05", "refused 23"),
+        ("a 1 - 5", "a 1 5"),
+        # 23 by the absent entity before 24, for a number too early and for 0, and before 25
+        ("a 3 - 5", "refused 23"),
+        ("a 0 - 5", "refused 23"),
+        ("a 1 - 6", "refused 23"),
+        ("a 3 - -", "refused 24"),
+        ("a 1 - -", "refused 25"),
+    ])
+
+
+def first_lines(senders):
+    """The first line of each, reading 1, 2, .., and its row."""
+    return [("%s 1 %d" % (sender, value), "%s 1 %d" % (sender, value)) for value, sender in enumerate(senders, 1)]
+
+
+def make_nine_senders():
+    # the eighth is taken and the ninth not; a known one goes on
+    ran("run-nine-senders", FIRE, [
+        ("by n s.e", "by n s.k"),
+        *first_lines("abcdefgh"),
+        ("i 1 9", "refused 42"),
+        ("a 2 9", "a 2 9"),
+    ])
+    # refused, the ninth is not known either, nor does it take another's place
+    ran("run-nine-senders-ninth-stays-unknown", FIRE, [
+        ("by n s.e", "by n s.k"),
+        *first_lines("abcdefgh"),
+        ("A 1 9", "refused 42"),
+        ("A 1 9", "refused 42"),
+    ])
+    # known from the first line that is taken, so y and z leave room for eight
+    ran("run-nine-senders-refused-first", FIRE, [
+        ("by n s.e", "by n s.k"),
+        ("z 2 9", "refused 24"),
+        ("y 1 x", "refused 23"),
+        *first_lines("abcdefgh"),
+    ])
+    # the first and the last of eight send again
+    ran("run-nine-senders-resend", FIRE, [
+        ("by n s.e", "by n s.k"),
+        *first_lines("abcdefgh"),
+        ("a 1 1", "a 1 1"),
+        ("h 1 8", "h 1 8"),
+    ])
+    # 43 before 42, and 21 before both
+    ran("run-nine-senders-43-before-42", FIRE, [
+        ("by n s.e", "by n s.k"),
+        *first_lines("abcdefgh"),
+        ("9 1 9", "refused 43"),
+        ("i 01 9", "refused 21"),
+    ])
+    # 42 before 23 and before 24; the ninth's name begins one that is known
+    ran("run-nine-senders-42-before-23", FIRE, [
+        ("by n s.e", "by n s.k"),
+        *first_lines(["aa", "b", "c", "d", "e", "f", "g", "h"]),
+        ("a 1 x", "refused 42"),
+        ("a 0 -", "refused 42"),
+    ])
+
+
+# --------------------------------------------------------------------------
 # Readings drawn at random
 # --------------------------------------------------------------------------
 
@@ -1251,22 +1625,27 @@ def random_field(draw, column):
     return draw.choice(["-", "0", "1", "1", "2", "2", "-3", "?"])
 
 
+BOXES = ["west", "east", "x_1"]
+
+
 def random_readings(draw, columns):
-    """Twelve lines: mostly the next number, now and then the line before once more."""
-    lines = ["n " + " ".join(columns)]
-    number = 0
+    """Twelve lines of three senders: mostly the next number of one, now and then its last line once more or its last
+    number with other readings."""
+    lines = ["by n " + " ".join(columns)]
+    last = {}  # the number and the fields of each sender's last taken line
     for _ in range(12):
         fresh = " ".join(random_field(draw, column) for column in columns)
+        sender = draw.choice(BOXES)
+        number, fields = last.get(sender, (0, ""))
         turn = draw.random()
-        if number > 0 and turn < 0.1:
-            lines.append(lines[-1])
-        elif number > 0 and turn < 0.2:
-            lines.append("%d %s" % (number, fresh))
+        if number > 0 and turn < 0.3:
+            lines.append("%s %d %s" % (sender, number, fields))
+        elif number > 0 and turn < 0.4:
+            lines.append("%s %d %s" % (sender, number, fresh))
         else:
-            number += 1
-            lines.append("%d %s" % (number, fresh))
-            if run(MAZE.encode(), "\n".join(lines).encode()).split(b"\n")[-2].startswith(b"refused"):
-                number -= 1
+            lines.append("%s %d %s" % (sender, number + 1, fresh))
+            if not run(MAZE.encode(), "\n".join(lines).encode()).split(b"\n")[-2].startswith(b"refused"):
+                last[sender] = (number + 1, fresh)
     return "\n".join(lines) + "\n"
 
 
@@ -1275,10 +1654,20 @@ def make_random():
     columns = ["a", "a.on_", "a.v", "b", "b.on_", "b.v", "h.w"]
     draw.shuffle(columns)
     case = add("run-random", MAZE, random_readings(draw, columns))
-    # worked out by hand, the rows that document 02, order 2 moves: in line 4 b.set becomes b.v,
-    # so sum takes - h.w / b.id, which is -1 / 2; in line 5 each set takes that sum less its v, 2 and 0
-    assert "\n4 1 1 ? false 2 - -\n5 2 1 ? false 0 - -\n" in case["readings"], case
-    assert "\n4 -30 false -31 - -1\n5 -3 - -1 - -\n" in case["printed"], case
+    # worked out by hand.  Document 02, order 2: a.flag is true as line 2 of x_1 sees it, so sum takes - h.w / b.id, which
+    # is -1 / 2; in east's line each set takes that sum less its v, -3 and 1.  Order 5: then the lines of west, which was
+    # the first, and of x_1 are sent again
+    assert "\nx_1 2 ? - true - ? -3 1\neast 1 false - ? true 1 -3 2\nwest 1 " in case["readings"], case
+    assert case["printed"].split("\n")[2:10] == [
+        "west 1 - - - - -28",
+        "x_1 1 -30 true -28 - 22",
+        "x_1 2 25 - - - -1",
+        "east 1 2 - -2 - 11",
+        "west 1 - - - - -28",
+        "x_1 2 25 - - - -1",
+        "x_1 2 25 - - - -1",
+        "west 1 - - - - -28",
+    ], case
 
 
 # --------------------------------------------------------------------------
@@ -1302,7 +1691,7 @@ def add_sheet(name, bench, before, readings, cells):
         assert sheet(text, None, day, chosen) == (number, printed), name
         assert printed_sheet(text, day, chosen) == (refusal if number else printed), name
     else:
-        assert lent.number != 0, name
+        assert lent.senders, name
     SHEETS.append({
         "name": name, "bench": bench, "before": before, "readings": readings, "cells": cells,
         "number": number, "sheet": printed.decode("ascii"),
@@ -1334,23 +1723,23 @@ ONE_REAL = "interface I { event x : real } entity s : I { } rules end"
 
 TWO_REALS = "interface I { event x : real event y : real } entity s : I { } rules end"
 
-FIRE = (
-    "interface I { event e : whole action k ( whole ) } entity s : I { } "
-    "rules when event e from s value changed trigger action k ( s.e ) on s end end"
-)
-
-
 def make_sheets_of_lines():
     # -2147483648 is kept by `-` in line 3, and `?` makes e unset in line 5
-    sheeted("sheet-one-whole-cell", ONE_WHOLE, "n s.e\n1 5\n2 -2147483648\n3 -\n4 2147483647\n5 ?\n6 0\n", "s.e", [
-        #....:....1....:....2....
-        "         1             5",
-        "         2   -2147483648",
-        "         3   -2147483648",
-        "         4    2147483647",
-        "         5             -",
-        "         6             0",
-    ])
+    sheeted(
+        "sheet-one-whole-cell",
+        ONE_WHOLE,
+        "by n s.e\na 1 5\na 2 -2147483648\na 3 -\na 4 2147483647\na 5 ?\na 6 0\n",
+        "s.e",
+        [
+            #....:....1....:....2....
+            "         1             5",
+            "         2   -2147483648",
+            "         3   -2147483648",
+            "         4    2147483647",
+            "         5             -",
+            "         6             0",
+        ],
+    )
     # pi, and f is its half; b stays in line 2, so nothing is fired; in line 3 r is unset, so f is not written,
     # and the line has no set real; no last line feed
     sheeted(
@@ -1358,7 +1747,7 @@ def make_sheets_of_lines():
         "interface M { attribute a : whole event b : bool event r : real action f ( real ) action g ( bool ) } "
         "entity m : M { a = -40 } rules when event b from m value changed "
         "trigger action f ( m.r / 2r ) on m , action g ( m.b ) on m end end",
-        "n m.b m.r\n1 true 400921fb54442d18\n2 - c00400000000000b\n3 false ?",
+        "by n m.b m.r\na 1 true 400921fb54442d18\na 2 - c00400000000000b\na 3 false ?",
         "m.f m.a m.g m.r m.b",
         [
             #....:....1....:....2....:....3....:....4....:....5....:....6....:....7....:....8
@@ -1387,7 +1776,7 @@ def make_sheets_of_lines():
     sheeted(
         "sheet-second-row-of-set-reals",
         "interface I { event x : real event w : whole } entity s : I { } rules end",
-        "n s.x s.w\n1 - 3\n2 3fb999999999999a -\n3 ? 4\n4 bfe0000000000001 ?\n5 - 9\n6 ? -\n",
+        "by n s.x s.w\na 1 - 3\na 2 3fb999999999999a -\na 3 ? 4\na 4 bfe0000000000001 ?\na 5 - 9\na 6 ? -\n",
         "s.x s.w",
         [
             #....:....1....:....2....:....3....:...
@@ -1410,7 +1799,7 @@ def make_sheets_of_lines():
         ],
     )
     # resent: line 2 once, line 3 twice; k is shown at its line alone
-    sheeted("sheet-resent-in-the-middle", FIRE, "n s.e\n1 5\n2 -\n2 -\n3 6\n3 6\n3 6\n4 6\n", "s.k s.e", [
+    sheeted("sheet-resent-in-the-middle", FIRE, "by n s.e\na 1 5\na 2 -\na 2 -\na 3 6\na 3 6\na 3 6\na 4 6\n", "s.k s.e", [
         #....:....1....:....2....:....3....:...
         "         1             5             5",
         "         2             -             5",
@@ -1422,7 +1811,7 @@ def make_sheets_of_lines():
     sheeted(
         "sheet-refused-lines-passed-over",
         FIRE,
-        "n s.e\n2 4\n1 5\n\n1 6\n2 x\n3 6\n2\n2 6\n0 6\n3 -\n9 9\n\n",
+        "by n s.e\na 2 4\na 1 5\n\na 1 6\na 2 x\na 3 6\na 2\na 2 6\na 0 6\na 3 -\na 9 9\n\n",
         "s.e s.k",
         [
             #....:....1....:....2....:....3....:...
@@ -1438,7 +1827,7 @@ def make_sheets_of_lines():
         "interface D { attribute a : whole attribute r : real event e : whole action k ( whole ) } "
         "entity d : D { a = 7 r = -2147483647r } "
         "rules when event e from d value changed trigger action k ( d.e ) on d end end",
-        "n d d.e\n1 - 5\n2 false -\n3 - -\n4 true -\n5 - 6\n",
+        "by n d d.e\na 1 - 5\na 2 false -\na 3 - -\na 4 true -\na 5 - 6\n",
         "d.a d.e d.r d.k",
         [
             #....:....1....:....2....:....3....:....4....:....5....:....6....:.
@@ -1466,8 +1855,8 @@ def make_sheets_of_closing_rows():
     sheeted(
         "sheet-lowest-highest-last",
         ONE_REAL,
-        "n s.x\n1 bff0000000000001\n2 4000000000000002\n3 400000000000000a\n"
-        "4 c000000000000003\n5 c000000000000002\n6 3ff0000000000004\n",
+        "by n s.x\na 1 bff0000000000001\na 2 4000000000000002\na 3 400000000000000a\n"
+        "a 4 c000000000000003\na 5 c000000000000002\na 6 3ff0000000000004\n",
         "s.x",
         [
             #....:....1....:....2....
@@ -1498,8 +1887,8 @@ def make_sheets_of_closing_rows():
     sheeted(
         "sheet-two-real-columns",
         TWO_REALS,
-        "n s.x s.y\n1 4010000000000004 -\n2 ? c010000000000007\n"
-        "3 4030000000000003 4020000000000002\n4 4020000000000005 -\n",
+        "by n s.x s.y\na 1 4010000000000004 -\na 2 ? c010000000000007\n"
+        "a 3 4030000000000003 4020000000000002\na 4 4020000000000005 -\n",
         "s.y s.x",
         [
             #....:....1....:....2....:....3....:...
@@ -1531,7 +1920,7 @@ def make_sheets_of_closing_rows():
     sheeted(
         "sheet-real-never-set",
         "interface I { event w : whole event x : real event y : real } entity s : I { } rules end",
-        "n s.w s.y\n1 8 -\n2 - 7fefffffffffffff\n",
+        "by n s.w s.y\na 1 8 -\na 2 - 7fefffffffffffff\n",
         "s.w s.x s.y",
         [
             #....:....1....:....2....:....3....:....4....:....5..
@@ -1553,7 +1942,7 @@ def make_sheets_of_closing_rows():
     sheeted(
         "sheet-two-zeros",
         TWO_REALS,
-        "n s.x s.y\n1 0000000000000000 8000000000000000\n2 8000000000000000 0000000000000000\n",
+        "by n s.x s.y\na 1 0000000000000000 8000000000000000\na 2 8000000000000000 0000000000000000\n",
         "s.x s.y",
         [
             #....:....1....:....2....:....3....:...
@@ -1581,7 +1970,7 @@ def make_sheets_of_closing_rows():
     sheeted(
         "sheet-five-reals-of-two-cells",
         "interface I { attribute a : real event x : real } entity s : I { a = -2147483647r } rules end",
-        "n s.x\n1 3fd5555555555556",
+        "by n s.x\na 1 3fd5555555555556",
         "s.x s.a s.x s.a s.x",
         [
             #....:....1....:....2....:....3....:....4....:....5....:....6....:....7....:....8
@@ -1618,7 +2007,7 @@ def make_sheets_of_lent_states():
         "interface I { event e : whole action k ( whole ) } interface A { attribute a : bool } "
         "entity s : I { } entity t : A { a = true } entity u : A { a = false } "
         "rules when event e from s value changed trigger action k ( s.e ) on s end end",
-        "n t s.e\n9 - 7\n10 true 8\n11 - -\n",
+        "by n t s.e\na 9 - 7\na 10 true 8\na 11 - -\n",
         "s.e s.k t.a u.a",
         [
             #....:....1....:....2....:....3....:....4....:....5....:....6....:.
@@ -1626,13 +2015,13 @@ def make_sheets_of_lent_states():
             "        10             8             8          true         false",
             "        11             8             -          true         false",
         ],
-        before="n s.e t\n1 5 -\n2 - -\n3 - -\n4 - -\n5 - -\n6 - -\n7 - -\n8 7 false\n",
+        before="by n s.e t\na 1 5 -\na 2 - -\na 3 - -\na 4 - -\na 5 - -\na 6 - -\na 7 - -\na 8 7 false\n",
     )
     # line 2 is resent, with a column more; -3 is no value of the day
     sheeted(
         "sheet-resent-as-first-line",
         ONE_REAL,
-        "n s s.x\n2 - c008000000000002\n3 - 4000000000000003\n4 - 3ff0000000000004\n",
+        "by n s s.x\na 2 - c008000000000002\na 3 - 4000000000000003\na 4 - 3ff0000000000004\n",
         "s.x",
         [
             #....:....1....:....2....
@@ -1647,13 +2036,13 @@ def make_sheets_of_lent_states():
             "                3ff00000",
             "                00000004",
         ],
-        before="n s.x\n1 c000000000000001\n2 c008000000000002\n",
+        before="by n s.x\na 1 c000000000000001\na 2 c008000000000002\n",
     )
     # line 1 is resent and 3 is refused by 24: a and x are set, but in no printed line
     sheeted(
         "sheet-no-line-and-two-reals",
         "interface I { attribute a : real event w : whole event x : real } entity s : I { a = 3r } rules end",
-        "n s.w s.x\n1 4 3ff0000000000000\n3 - -\n",
+        "by n s.w s.x\na 1 4 3ff0000000000000\na 3 - -\n",
         "s.a s.w s.x",
         [
             #....:....1....:....2....:....3....:....4....:....5..
@@ -1664,9 +2053,78 @@ def make_sheets_of_lent_states():
             "                                                   -",
             "                                                   -",
         ],
-        before="n s.x s.w\n1 3ff0000000000000 4\n",
+        before="by n s.x s.w\na 1 3ff0000000000000 4\n",
     )
-    sheeted("sheet-no-line-and-no-real", ONE_WHOLE, "n s.e", "s.e", [], before="n s.e\n1 5\n")
+    sheeted("sheet-no-line-and-no-real", ONE_WHOLE, "by n s.e", "s.e", [], before="by n s.e\na 1 5\n")
+
+
+# document 02, order 5: "the day sheet shows the number alone"
+
+
+def make_sheets_of_senders():
+    # resent, and not printed: line 1 of a and line 1 of b after lines of the other, line 2 of a
+    sheeted(
+        "sheet-two-senders",
+        FIRE,
+        "by n s.e\na 1 5\nb 1 6\na 1 5\na 2 -\nb 1 6\nb 2 7\na 2 -\nb 3 -\n",
+        "s.k s.e",
+        [
+            #....:....1....:....2....:....3....:...
+            "         1             5             5",
+            "         1             6             6",
+            "         2             -             6",
+            "         2             7             7",
+            "         3             -             7",
+        ],
+    )
+    # both go on from numbers of their own, and c is new; before that both send their last lines again, whose
+    # -2 and -3 are no values of the day; then line 3 of b comes again, after line 3 of a
+    sheeted(
+        "sheet-two-senders-in-lent-state",
+        ONE_REAL,
+        "by n s.x\na 1 c000000000000002\nb 2 c008000000000003\nb 3 4000000000000004\na 2 3ff0000000000005\n"
+        "b 3 4000000000000004\nc 1 -\n",
+        "s.x",
+        [
+            #....:....1....:....2....
+            "         3      40000000",
+            "                00000004",
+            "         2      3ff00000",
+            "                00000005",
+            "         1      3ff00000",
+            "                00000005",
+            "                3ff00000",
+            "                00000005",
+            "                40000000",
+            "                00000004",
+            "                3ff00000",
+            "                00000005",
+        ],
+        before="by n s.x\nb 1 c010000000000001\na 1 c000000000000002\nb 2 c008000000000003\n",
+    )
+    # passed over: 43 and 24 before line 1 of a, 23 and 24 after s has left; line 1 of a is resent, and does not bring s back
+    sheeted(
+        "sheet-senders-refused-or-absent",
+        FIRE,
+        "by n s s.e\n1 1 - 4\na 2 - 4\na 1 - 5\nb 1 false -\na 1 - 5\na 2 - 5\nb 3 - -\na 2 - -\nb 2 true 6\n",
+        "s.e s.k",
+        [
+            #....:....1....:....2....:....3....:...
+            "         1             5             5",
+            "         1             -             -",
+            "         2             -             -",
+            "         2             6             6",
+        ],
+    )
+    # eight are known in the lent state, so 42 passes the ninth over
+    sheeted(
+        "sheet-ninth-sender",
+        ONE_WHOLE,
+        "by n s.e\ni 1 9\n",
+        "s.e",
+        [],
+        before="by n s.e\na 1 1\nb 1 2\nc 1 3\nd 1 4\ne 1 5\nf 1 6\ng 1 7\nh 1 8\n",
+    )
 
 
 CHOICE = (
@@ -1676,9 +2134,9 @@ CHOICE = (
 
 
 def make_refused_sheets():
-    sheet_refused("sheet-readings-empty", 22, FIRE, "", "s.k", before="n s.e\n1 5\n")
+    sheet_refused("sheet-readings-empty", 22, FIRE, "", "s.k", before="by n s.e\na 1 5\n")
     # an action is no column of readings
-    sheet_refused("sheet-names-wrong", 22, FIRE, "n s.k\n1 5\n", "s.k s.e")
+    sheet_refused("sheet-names-wrong", 22, FIRE, "by n s.k\na 1 5\n", "s.k s.e")
     for name, cells in (
         ("empty-text", ""),
         ("six", "st.pos sta.dir st.pos sta.dir st.pos sta.dir"),
@@ -1690,9 +2148,9 @@ def make_refused_sheets():
         ("three-parts", "st.pos.pos"),
         ("empty-member", "st."),
     ):
-        sheet_refused("sheet-cells-" + name, 41, CHOICE, "n st.pos\n1 5\n", cells)
+        sheet_refused("sheet-cells-" + name, 41, CHOICE, "by n st.pos\na 1 5\n", cells)
     # the names are wrong as well: 41 is "before any line is read"
-    sheet_refused("sheet-cells-unknown-member-before-22", 41, CHOICE, "st.pos n\n1 5\n", "st.pos sta.pos")
+    sheet_refused("sheet-cells-unknown-member-before-22", 41, CHOICE, "by st.pos n\na 1 5\n", "st.pos sta.pos")
 
 
 # --------------------------------------------------------------------------
@@ -1702,20 +2160,23 @@ def make_refused_sheets():
 
 def one_action(parameter, kind="whole"):
     """What the parameter writes, as printed."""
-    return run(sums(kind, [parameter]).encode(), b"n c.t\n1 true\n").split()[-1]
+    return run(sums(kind, [parameter]).encode(), b"by n c.t\na 1 true\n").split()[-1]
 
 
 def check_trials():
-    """Every trial case of document 01, P or not, as document 02 amends them, except the one that it drops."""
+    """Every trial case of document 01, P or not, as document 02 amends them, except the one that it drops.
+
+    Document 02, order 5: "the cases of document 01 gain a sender `a` throughout".
+    """
     table = [
-        ("n p.down s.pos", "n k.keep"),
-        ("1 false 100", "1 -"),
-        ("2 true 140", "2 140"),
-        ("2 true 140", "2 140"),
-        ("3 - 150", "3 -"),
-        ("4 false 150", "4 -"),
-        ("5 true 190", "5 190"),
-        ("4 - -", "refused 24"),
+        ("by n p.down s.pos", "by n k.keep"),
+        ("a 1 false 100", "a 1 -"),
+        ("a 2 true 140", "a 2 140"),
+        ("a 2 true 140", "a 2 140"),
+        ("a 3 - 150", "a 3 -"),
+        ("a 4 false 150", "a 4 -"),
+        ("a 5 true 190", "a 5 190"),
+        ("a 4 - -", "refused 24"),
     ]
     ran("run-pedal-table", PEDAL, table)
     assert check(b"rules end") == (0, 0)
@@ -1730,19 +2191,19 @@ def check_trials():
     assert one_action("(-2147483647 - 1) / -1") == b"-"
     assert one_action("1r / 3r", "real") == b"3fd5555555555555"
     keep = PEDAL.replace("action keep ( s.pos ) on k", "action keep ( 1 ) on k , action keep ( 2 ) on k")
-    assert run(keep.encode(), b"n p.down\n1 true\n") == b"n k.keep\n1 2\n"
+    assert run(keep.encode(), b"by n p.down\na 1 true\n") == b"by n k.keep\na 1 2\n"
     # document 02, order 1: "The case [...] that any such test is false in cycle 1 is dropped"; its bench fires there
-    for clause, row_of_two in (("value changed", b"1 2\n"), ("value = 1", b"1 -\n")):
+    for clause, row_of_two in (("value changed", b"a 1 2\n"), ("value = 1", b"a 1 -\n")):
         text = PLAIN.replace("from s value changed", "from s with a = 1 " + clause)
         assert check(text.encode()) == (0, 0)
-        assert run(text.encode(), b"n s.e\n1 1\n") == b"n s.k\n1 1\n"
-        assert run(text.encode(), b"n s.e\n1 2\n2 1\n") == b"n s.k\n" + row_of_two + b"2 1\n"
+        assert run(text.encode(), b"by n s.e\na 1 1\n") == b"by n s.k\na 1 1\n"
+        assert run(text.encode(), b"by n s.e\na 1 2\na 2 1\n") == b"by n s.k\n" + row_of_two + b"a 2 1\n"
     bench = Bench(b"rules end")
     fresh = bench.fresh()
-    code, row, following = bench.line(fresh, b"n", b"1")
-    assert (code, row, following.number) == (0, b"1", 1)
-    assert bench.line(fresh, b"n", b"0") == (24, None, fresh)
-    assert bench.line(fresh, b"n", b"01") == (21, None, fresh)
+    code, row, following = bench.line(fresh, b"by n", b"a 1")
+    assert (code, row, following.senders[b"a"].number) == (0, b"a 1", 1)
+    assert bench.line(fresh, b"by n", b"a 0") == (24, None, fresh)
+    assert bench.line(fresh, b"by n", b"a 01") == (21, None, fresh)
     assert check((interfaces(LETTERS[:16]) + "rules end").encode()) == (0, 0)
     seventeen = interfaces(LETTERS[:17]) + "rules end"
     assert check(seventeen.encode()) == (14, seventeen.rindex("interface"))
@@ -1767,9 +2228,9 @@ def check_quotients():
     ends = [-2147483648, -2147483647, -2147483646, -3, -2, -1, 0, 1, 2, 3, 2147483646, 2147483647]
     bench = Bench(QUOTIENT.encode())
     for left, right in [*product(small, small), *product(ends, ends)]:
-        code, row, _ = bench.line(bench.fresh(), b"n s.x s.y", b"1 %d %d" % (left, right))
+        code, row, _ = bench.line(bench.fresh(), b"by n s.x s.y", b"a 1 %d %d" % (left, right))
         assert code == 0, (left, right, code)
-        written = row.split()[1]
+        written = row.split()[2]
         if right == 0 or (left, right) == (-2147483648, -1):
             assert written == b"-", (left, right, written)
         else:
@@ -1827,71 +2288,185 @@ def check_sizes():
     assert check(b"rules \xc8 end") == (12, 6)
     bench = Bench(PLAIN.encode())
     fresh = bench.fresh()
-    assert bench.line(fresh, b"n s.e", b"1 " + b"9" * 8190) == (23, None, fresh)
-    assert bench.line(fresh, b"n s.e", b"1 " + b"9" * 8191) == (21, None, fresh)
-    assert bench.line(fresh, b"n s.e ", b"") == (22, None, fresh)
-    assert bench.line(fresh, b"n s.e\n", b"1 5") == (22, None, fresh)
-    assert bench.line(fresh, b"n s.e", b"1 5\n") == (21, None, fresh)
-    late = dataclasses.replace(bench.line(fresh, b"n s.e", b"1 5")[2], number=4294967294)
-    code, row, last = bench.line(late, b"n s.e", b"4294967295 6")
-    assert (code, row) == (0, b"4294967295 6")
-    assert bench.line(last, b"n s.e", b"4294967295 6") == (0, row, last)
-    assert bench.line(last, b"n s.e", b"4294967296 6") == (24, None, last)
+    # "at most 8,192 bytes", sender and number included
+    assert bench.line(fresh, b"by n s.e", b"a 1 " + b"9" * 8188) == (23, None, fresh)
+    assert bench.line(fresh, b"by n s.e", b"a 1 " + b"9" * 8189) == (21, None, fresh)
+    assert bench.line(fresh, b"by n s.e", b"a" * 8188 + b" 1 5") == (43, None, fresh)
+    assert bench.line(fresh, b"by n s.e", b"a" * 8189 + b" 1 5") == (21, None, fresh)
+    assert bench.line(fresh, b"by n s.e ", b"") == (22, None, fresh)
+    assert bench.line(fresh, b"by n s.e\n", b"a 1 5") == (22, None, fresh)
+    assert bench.line(fresh, b"by n s.e", b"a 1 5\n") == (21, None, fresh)
+    assert bench.line(fresh, b"by n s.e", b"a\n 1 5") == (21, None, fresh)
+    state = bench.line(fresh, b"by n s.e", b"b 1 4")[2]
+    late = with_last_number(bench.line(state, b"by n s.e", b"a 1 5")[2], b"a", 4294967294)
+    code, row, last = bench.line(late, b"by n s.e", b"a 4294967295 6")
+    assert (code, row) == (0, b"a 4294967295 6")
+    assert bench.line(last, b"by n s.e", b"a 4294967295 6") == (0, row, last)
+    assert bench.line(last, b"by n s.e", b"a 4294967296 6") == (24, None, last)
+    assert bench.line(last, b"by n s.e", b"b 4294967295 6") == (24, None, last)
+    assert bench.line(last, b"by n s.e", b"b 2 7")[:2] == (0, b"b 2 7")
+
+
+def with_last_number(state, sender, number):
+    """The state in which this known sender has come to this number."""
+    kept = dataclasses.replace(state.senders[sender], number=number)
+    return dataclasses.replace(state, senders={**state.senders, sender: kept})
 
 
 def check_missing_columns():
     """A missing column is `-`, and the order of columns is no matter."""
     bench = Bench(PEDAL.encode())
-    _, row, state = bench.line(bench.fresh(), b"n p.down s.pos", b"1 true 4")
-    assert row == b"1 4"
-    assert bench.line(state, b"n s.pos p p.down", b"1 4 - true") == (0, row, state)
-    assert bench.line(state, b"n p.down", b"1 true") == (25, None, state)
-    code, row, state = bench.line(state, b"n s.pos p", b"2 5 -")
-    assert (code, row) == (0, b"2 -")
-    assert bench.line(state, b"n s.pos", b"2 5") == (0, row, state)
-    assert bench.line(state, b"n s.pos p", b"2 5 true") == (25, None, state)
-    assert bench.line(state, b"n k.keep", b"2 5") == (22, None, state)
+    _, row, state = bench.line(bench.fresh(), b"by n p.down s.pos", b"a 1 true 4")
+    assert row == b"a 1 4"
+    assert bench.line(state, b"by n s.pos p p.down", b"a 1 4 - true") == (0, row, state)
+    assert bench.line(state, b"by n p.down", b"a 1 true") == (25, None, state)
+    code, row, state = bench.line(state, b"by n s.pos p", b"a 2 5 -")
+    assert (code, row) == (0, b"a 2 -")
+    assert bench.line(state, b"by n s.pos", b"a 2 5") == (0, row, state)
+    assert bench.line(state, b"by n s.pos p", b"a 2 5 true") == (25, None, state)
+    assert bench.line(state, b"by n k.keep", b"a 2 5") == (22, None, state)
+    # the other sender's line comes with other columns, and so does the late resend
+    code, other, state = bench.line(state, b"by n p", b"b 1 false")
+    assert (code, other) == (0, b"b 1 -")
+    assert bench.line(state, b"by n p s.pos", b"a 2 - 5") == (0, row, state)
+    assert bench.line(state, b"by n s.pos p p.down s", b"b 1 - false - -") == (0, other, state)
+    assert bench.line(state, b"by n", b"b 1") == (25, None, state)
+
+
+def check_kept_rows():
+    """The row that a state keeps for a sender: number 0 and nothing fired for one that is not known."""
+    bench = Bench(FIRE.encode())
+    lines = b"".join(b"%c 1 %d\n" % (sender, sender) for sender in b"abcdefgh")
+    for state, row in (
+        (bench.fresh(), b"b 0 -"),
+        (state_after(FIRE.encode(), b"by n s.e\na 1 5\n"), b"b 0 -"),
+        (state_after(FIRE.encode(), b"by n s.e\nb 1 5\na 1 5\nb 2 5\na 2 6\n"), b"b 2 -"),
+        (state_after(FIRE.encode(), b"by n s.e\n" + lines), b"b 1 98"),
+        (state_after(FIRE.encode(), b"by n s.e\n" + lines.replace(b"b", b"i")), b"b 0 -"),
+    ):
+        assert bench.row(state, b"b") == row, row
+    assert list(state.senders) == [b"a", b"i", b"c", b"d", b"e", b"f", b"g", b"h"]
+
+
+def check_forms_of_senders():
+    """Every byte alone, first, inside and last in a sender: 43, 21 where it parts fields, or a sender."""
+    bench = Bench(b"rules end")
+    fresh = bench.fresh()
+    for byte in range(256):
+        one = bytes([byte])
+        letter, goes_on = byte_class(byte) == 0, byte_class(byte) in (0, 1, 2)
+        parts = 21 if one in b" \n" else 43
+        for before, behind in product((b"", b"a"), (b"", b"b")):
+            line = before + one + behind + b" 1"
+            code, row, _ = bench.line(fresh, b"by n", line)
+            assert (code, row) == ((0, line) if letter or before and goes_on else (parts, None)), line
+
+
+NO_LINE = (0, "- -", b"")  # number, fields and row of a sender that is not known
+
+
+def drawn_line(draw, last):
+    """A line of one of ten senders, near its last number; half of the time with the fields of somebody's last line."""
+    sender = draw.choice("abcdefghij")
+    number = last.get(sender, NO_LINE)[0] + draw.choice([-1, 0, 0, 0, 1, 1, 1, 1, 1, 2])
+    if last and draw.random() < 0.5:
+        fields = draw.choice([*last.values(), last.get(sender, NO_LINE)])[1]
+    else:
+        fields = draw.choice(["-", "-", "-", "true", "false"]) + " " + draw.choice(["-", "?", "5", "6", "7"])
+    return sender, max(number, 0), fields
+
+
+def answer(last, away, sender, number, fields):
+    """What a line of a known or new sender is answered, by the last lines of all; away if s is absent after it."""
+    latest = last.get(sender, NO_LINE)
+    if sender not in last and len(last) == 8:
+        return 42
+    if sender in last and latest[:2] == (number, fields):
+        return "resent"
+    if away and not fields.endswith(" -"):
+        return 23
+    if number == 0 or number not in (latest[0], latest[0] + 1):
+        return 24
+    return 25 if number == latest[0] else 0
+
+
+def check_lists_of_lines():
+    """Lists of lines drawn at random, held to what document 02, order 5 says, here told by lines and rows alone.
+
+    All lines of a list have one line of names and every value one form, so the same readings are the same fields.
+    """
+    draw = random.Random(SEED)
+    bench = Bench(FIRE.encode())
+    found = set()
+    for _ in range(200):
+        state, last, absent, gone_on = bench.fresh(), {}, False, []
+        for _ in range(60):
+            sender, number, fields = drawn_line(draw, last)
+            away = fields.startswith("false") or absent and fields.startswith("-")
+            wanted = answer(last, away, sender, number, fields)
+            line = "%s %d %s" % (sender, number, fields)
+            code, row, following = bench.line(state, b"by n s s.e", line.encode())
+            if wanted == "resent":
+                assert (code, row, following) == (0, last[sender][2], state), line
+            elif wanted != 0:
+                assert (code, row, following) == (wanted, None, state), line
+            else:
+                assert code == 0 and row.decode().startswith("%s %d " % (sender, number)), line
+                last[sender], absent = (number, fields, row), away
+                gone_on.append((fields, row.split(b" ")[2:]))
+            found.add(wanted)
+            state = following
+        # the lines that are neither refused nor resent, all from one sender, fire the same
+        lines = ["by n s s.e"] + ["z %d %s" % (place, fields) for place, (fields, _) in enumerate(gone_on, 1)]
+        printed = run(FIRE.encode(), "\n".join(lines).encode()).split(b"\n")[1:-1]
+        assert [row.split(b" ")[2:] for row in printed] == [fired for _, fired in gone_on], lines
+    assert found == {0, 23, 24, 25, 42, "resent"}, found
 
 
 def check_sheet_cells():
     """Texts of cells: what is known, and what 41 refuses, without and with names that 22 would refuse."""
     bench = CHOICE.encode()
     for cells in (b"st.pos", b"sta.dir", b"st.pos sta.dir st.pos sta.dir st.pos"):
-        assert sheet(bench, None, b"n", cells) == (0, b""), cells
+        assert sheet(bench, None, b"by n", cells) == (0, b""), cells
         assert sheet(bench, None, b"", cells) == (22, b""), cells
     for cells in (
-        b" ", b".", b"n", b"-", b".pos", b"st.po", b"st.post", b"St.pos", b"st.Pos", b"sta.pos", b"st..pos", b"st.pos.",
+        b" ", b".", b"n", b"by n", b"-", b".pos", b"st.po", b"st.post", b"St.pos", b"st.Pos", b"sta.pos", b"st..pos",
+        b"st.pos.",
         b"I.pos", b"st:pos", b"st.pos\n", b"st.pos\tsta.dir", b"st.pos\nsta.dir", b"st.pos,sta.dir", b"st.pos\0",
         b"\xff", b"st.pos st.pos st.pos st.pos st.pos st.pos st.pos", b"st.pos sta.dir st.pos sta.dir st.po",
     ):
-        for readings in (b"n st.pos\n1 5\n", b"", b"\n", b"n\xff"):
+        for readings in (b"by n st.pos\na 1 5\n", b"", b"\n", b"by n\xff"):
             assert sheet(bench, None, readings, cells) == (41, b""), (cells, readings)
-    assert sheet(b"rules end", None, b"n", b"") == (41, b"")
+    assert sheet(b"rules end", None, b"by n", b"") == (41, b"")
 
 
 def check_sheet_readings():
     """The text of a day: its line of names, its last line feed, its lengths."""
     bench = ONE_WHOLE.encode()
     row = text_of_rows(["         1             5"]).encode()
-    assert sheet(bench, None, b"n s.e\n1 5", b"s.e") == (0, row)
-    assert sheet(bench, None, b"n s.e\n1 5\n", b"s.e") == (0, row)
-    assert sheet(bench, None, b"n s.e\n\n\n1 5\n\n\n", b"s.e") == (0, row)
-    for names in (b"", b"\n", b"\nn s.e", b"n s.e ", b"n  s.e", b"n s.e s.e", b"s.e", b"n s.e\r", b"n s.f"):
-        assert sheet(bench, None, names + b"\n1 5\n", b"s.e") == (22, b""), names
+    assert sheet(bench, None, b"by n s.e\na 1 5", b"s.e") == (0, row)
+    assert sheet(bench, None, b"by n s.e\na 1 5\n", b"s.e") == (0, row)
+    assert sheet(bench, None, b"by n s.e\n\n\na 1 5\n\n\n", b"s.e") == (0, row)
+    for names in (
+        b"", b"\n", b"\nby n s.e", b"by n s.e ", b"by n  s.e", b"by  n s.e", b" by n s.e", b"by n s.e s.e", b"s.e",
+        b"by n s.e\r", b"by n s.f", b"n s.e", b"by s.e", b"by", b"n", b"n by s.e", b"By n s.e", b"by\tn s.e", b"byn s.e",
+        b"by by n s.e",
+    ):
+        assert sheet(bench, None, names + b"\na 1 5\n", b"s.e") == (22, b""), names
     # 8,192 bytes are no reason for 21, but 23 passes the line over as well; too long a line of names is 22
-    for length in (8190, 8191):
-        assert sheet(bench, None, b"n s.e\n1 " + b"9" * length + b"\n1 5\n", b"s.e") == (0, row)
-    assert sheet(bench, None, b"n s.e".ljust(32769, b"e") + b"\n1 5\n", b"s.e") == (22, b"")
+    for length in (8188, 8189):
+        assert sheet(bench, None, b"by n s.e\na 1 " + b"9" * length + b"\na 1 5\n", b"s.e") == (0, row)
+    assert sheet(bench, None, b"by n s.e".ljust(32769, b"e") + b"\na 1 5\n", b"s.e") == (22, b"")
     assert state_after(bench, b"") == Bench(bench).fresh()
-    assert state_after(bench, b"s.e n\n1 5\n") == Bench(bench).fresh()
+    assert state_after(bench, b"by s.e n\na 1 5\n") == Bench(bench).fresh()
 
 
 def check_sheet_numbers():
     """A number of ten digits fills columns 1 to 10; no text of readings comes so far from the fresh state."""
     bench = ONE_WHOLE.encode()
-    late = dataclasses.replace(state_after(bench, b"n s.e\n1 5\n"), number=4294967293)
-    day = b"n s.e\n4294967294 -2147483648\n4294967295 -\n4294967296 6\n"
-    rows = ["4294967294   -2147483648", "4294967295   -2147483648"]
+    late = with_last_number(state_after(bench, b"by n s.e\na 1 5\n"), b"a", 4294967293)
+    day = b"by n s.e\na 4294967294 -2147483648\nb 1 -\na 4294967295 -\na 4294967296 6\n"
+    rows = ["4294967294   -2147483648", "         1   -2147483648", "4294967295   -2147483648"]
     assert sheet(bench, late, day, b"s.e") == (0, text_of_rows(rows).encode())
 
 
@@ -1906,22 +2481,23 @@ def check_sheet_zeros():
         ((zero, one, minus_zero, minus_one), (minus_one, one, minus_one)),
         ((minus_zero, zero, minus_zero), (minus_zero, minus_zero, minus_zero)),
     ):
-        lines = "".join("%d %s\n" % (number, value) for number, value in enumerate(values, 1))
-        number, printed = sheet(ONE_REAL.encode(), None, ("n s.x\n" + lines).encode(), b"s.x")
+        lines = "".join("a %d %s\n" % (number, value) for number, value in enumerate(values, 1))
+        number, printed = sheet(ONE_REAL.encode(), None, ("by n s.x\n" + lines).encode(), b"s.x")
         words = printed.decode().split()[3 * len(values) :]
         assert (number, words) == (0, [half for value in closing for half in (value[:8], value[8:])]), values
 
 
 def check_stated_size():
     """The stated size, and a sheet that needs all of it."""
-    assert [stated_size(readings) for readings in (b"", b"n", b"n\n", b"\n\n", b"n\n1\n2")] == [2430, 2430, 2592, 2754, 2754]
+    texts = (b"", b"by n", b"by n\n", b"\n\n", b"by n\na 1\na 2")
+    assert [stated_size(readings) for readings in texts] == [2430, 2430, 2592, 2754, 2754]
     longest = [case["name"] for case in SHEETS if len(case["sheet"]) == stated_size(case["readings"].encode())]
     assert longest == ["sheet-five-reals-of-two-cells"], longest
 
 
 def check_folder_of_sheets():
     """What the list of sheets must hold."""
-    assert 20 <= len(SHEETS) <= 30, len(SHEETS)
+    assert 20 <= len(SHEETS) <= 35, len(SHEETS)
     assert {case["number"] for case in SHEETS} == {0, 22, 41}
     assert any(case["readings"].endswith("\n") for case in SHEETS) and not all(case["readings"].endswith("\n") for case in SHEETS)
     for case in SHEETS:
@@ -1929,16 +2505,29 @@ def check_folder_of_sheets():
         assert rows.pop() == "" and all(len(row) == 80 for row in rows), case["name"]
 
 
+REFUSED_ROWS = ["refused %d" % code for code in (21, 22, 23, 24, 25, 42, 43)]
+
+
+def senders_taken(case):
+    """How many senders' lines are taken in a case."""
+    rows = (case["printed"] or "").split("\n")[1:-1]
+    return len({row.split(" ")[0] for row in rows if row not in REFUSED_ROWS})
+
+
 def check_folder_of_cases():
-    """What the list must hold."""
-    assert 70 <= len(CASES) <= 120, len(CASES)
+    """What the list must hold; cases of eight senders are short ones of a small bench."""
+    assert max(senders_taken(case) for case in CASES) == 8
+    for case in CASES:
+        if senders_taken(case) == 8:
+            assert case["bench"] == FIRE and case["readings"].count("\n") <= 11, case["name"]
+    assert 70 <= len(CASES) <= 150, len(CASES)
     codes = [case["check"][0] for case in CASES if case["readings"] is None]
     assert codes.count(0) >= 3
     for code in range(12, 19):
         assert codes.count(code) >= 3, code
     printed = "".join(case["printed"] or "" for case in CASES)
-    for code in range(21, 26):
-        assert "refused %d\n" % code in printed, code
+    for row in REFUSED_ROWS:
+        assert row + "\n" in printed, row
 
 
 def make_all():
@@ -1960,12 +2549,21 @@ def make_all():
     make_actions()
     make_sums()
     make_quotients()
+    make_two_senders()
+    make_senders_and_absence()
+    make_numbers_of_senders()
+    make_names_of_senders()
+    make_order_of_refusals()
+    make_nine_senders()
     make_random()
     check_quotients()
     check_classes()
     check_places_of_bytes()
     check_sizes()
     check_missing_columns()
+    check_kept_rows()
+    check_forms_of_senders()
+    check_lists_of_lines()
     check_folder_of_cases()
 
 
@@ -1973,6 +2571,7 @@ def make_all_sheets():
     make_sheets_of_lines()
     make_sheets_of_closing_rows()
     make_sheets_of_lent_states()
+    make_sheets_of_senders()
     make_refused_sheets()
     check_sheet_cells()
     check_sheet_readings()

@@ -38,7 +38,7 @@ SHEETS = """-- Day sheets. Made by tests/oracle/to_antt.py from tests/oracle/she
 use mathlib.Core.Path.{_≡_, refl}
 use lib.Ieee as Ieee
 use Rattle.text.specs.definitions.Bytes.{ascii}
-use Rattle.cycles.specs.definitions.Line.{refused, accepted}
+use Rattle.senders.specs.definitions.Answer.{refused, accepted}
 use Rattle.sheet_cases.specs.definitions.SheetOf.{sheet-of}
 """
 

@@ -51,7 +51,7 @@ def add_stored():
         if case["readings"] is not None:
             add(name, bench, case["readings"].encode("ascii"), case["printed"].encode("ascii"))
         elif case["check"] == [0, 0]:
-            add(name, bench, b"n\n1\n", None)
+            add(name, bench, b"by n\na 1\n", None)
         else:
             add(name, bench, None, b"refused %d %d\n" % tuple(case["check"]))
 
@@ -71,18 +71,18 @@ def interfaces(count):
 
 
 def add_trials():
-    add("trial-rules-end", b"rules end", lines(b"n", b"1"), lines(b"n", b"1"))
+    add("trial-rules-end", b"rules end", lines(b"by n", b"a 1"), lines(b"by n", b"a 1"))
     add("trial-no-bytes", b"", None, b"refused 13 0\n")
     twice = PLAIN.replace(b"action k ( s.e ) on s", b"action k ( 1 ) on s , action k ( 2 ) on s")
-    add("trial-keep-twice", twice, lines(b"n s.e", b"1 7"), lines(b"n s.k", b"1 2"))
+    add("trial-keep-twice", twice, lines(b"by n s.e", b"a 1 7"), lines(b"by n s.k", b"a 1 2"))
     for name, test in ((b"changed", b"value changed"), (b"equal", b"value = s.e")):
         text = PLAIN.replace(b"from s value changed", b"from s with a = 1 " + test)
-        row = b"2 8" if name == b"changed" else b"2 -"
-        add("trial-with-" + name.decode(), text, lines(b"n s.e", b"1 7", b"2 8"), lines(b"n s.k", b"1 7", row))
-    add("trial-16-interfaces", interfaces(16) + b"rules end", lines(b"n", b"1"), lines(b"n", b"1"))
+        row = b"a 2 8" if name == b"changed" else b"a 2 -"
+        add("trial-with-" + name.decode(), text, lines(b"by n s.e", b"a 1 7", b"a 2 8"), lines(b"by n s.k", b"a 1 7", row))
+    add("trial-16-interfaces", interfaces(16) + b"rules end", lines(b"by n", b"a 1"), lines(b"by n", b"a 1"))
     seventeen = interfaces(17) + b"rules end"
     add("trial-17-interfaces", seventeen, None, b"refused 14 %d\n" % seventeen.rindex(b"interface"))
-    add("trial-24-letters", b"interface " + b"a" * 24 + b" { } rules end", lines(b"n", b"1"), lines(b"n", b"1"))
+    add("trial-24-letters", b"interface " + b"a" * 24 + b" { } rules end", lines(b"by n", b"a 1"), lines(b"by n", b"a 1"))
     add("trial-25-letters", b"interface " + b"a" * 25 + b" { } rules end", None, b"refused 12 10\n")
 
 
@@ -95,26 +95,27 @@ CALL = b"action k ( s.e ) on s"
 
 
 def add_bench_limits():
-    add("text-32768", b"rules end".ljust(32768), lines(b"n", b"1"), lines(b"n", b"1"))
+    add("text-32768", b"rules end".ljust(32768), lines(b"by n", b"a 1"), lines(b"by n", b"a 1"))
     add("text-32769", b"\xff rules end".ljust(32769), None, b"refused 11 32768\n")
     members = b"".join(b"event e%d : whole " % number for number in range(11)) + b"action k ( whole ) "
     twelve = b"interface I { " + members + b"} entity s : I { } rules when event e10 from s value changed trigger action k ( s.e10 ) on s end end"
-    add("members-12", twelve, lines(b"n s.e10", b"1 5"), lines(b"n s.k", b"1 5"))
+    add("members-12", twelve, lines(b"by n s.e10", b"a 1 5"), lines(b"by n s.k", b"a 1 5"))
     head = PLAIN[: PLAIN.index(b"entity")]
     entities = b"".join(b"entity s%d : I { a = %d } " % (number, number) for number in range(32))
     rule = b"rules when event e from s31 value changed trigger action k ( x.a ) on x : I end end"
-    names = b"n " + b" ".join(b"s%d.k" % number for number in range(32))
-    row = b"1 " + b" ".join(b"%d" % number for number in range(32))
-    add("entities-32", head + entities + rule, lines(b"n s31.e", b"1 5"), lines(names, row))
+    names = b"by n " + b" ".join(b"s%d.k" % number for number in range(32))
+    row = b"a 1 " + b" ".join(b"%d" % number for number in range(32))
+    add("entities-32", head + entities + rule, lines(b"by n s31.e", b"a 1 5"), lines(names, row))
     begun = PLAIN[: PLAIN.index(b"when")]
     rules = b"".join(b"when event e from s value = %d trigger action k ( %d ) on s end " % (number, number + 100) for number in range(64))
-    add("rules-64", begun + rules + b"end", lines(b"n s.e", b"1 0", b"2 63", b"3 64"), lines(b"n s.k", b"1 100", b"2 163", b"3 -"))
+    printed = lines(b"by n s.k", b"a 1 100", b"a 2 163", b"a 3 -")
+    add("rules-64", begun + rules + b"end", lines(b"by n s.e", b"a 1 0", b"a 2 63", b"a 3 64"), printed)
     three = b"when event e from x : I value changed and event e from y : I value changed trigger action k ( x.e + y.e ) on z : I end end"
-    add("variables-3", begun + three, lines(b"n s.e", b"1 5"), lines(b"n s.k", b"1 10"))
+    add("variables-3", begun + three, lines(b"by n s.e", b"a 1 5"), lines(b"by n s.k", b"a 1 10"))
     eight = b"when " + b" and ".join([CLAUSE] * 8) + b" trigger " + b" , ".join([CALL] * 8) + b" end end"
-    add("clauses-8-calls-8", begun + eight, lines(b"n s.e", b"1 5"), lines(b"n s.k", b"1 5"))
+    add("clauses-8-calls-8", begun + eight, lines(b"by n s.e", b"a 1 5"), lines(b"by n s.k", b"a 1 5"))
     numbers = PLAIN.replace(b"s.e ) on", b"s.e - 2147483647 + 0000000007 ) on")
-    add("number-2147483647", numbers, lines(b"n s.e", b"1 2147483647"), lines(b"n s.k", b"1 7"))
+    add("number-2147483647", numbers, lines(b"by n s.e", b"a 1 2147483647"), lines(b"by n s.k", b"a 1 7"))
 
 
 # --------------------------------------------------------------------------
@@ -133,16 +134,16 @@ def most_columns():
     bench = b"interface I { " + b"".join(b"event " + event + b" : real " for event in events) + b"} "
     bench += b"".join(b"entity " + entity + b" : I { } " for entity in entities) + b"rules end"
     columns = b"".join(b" " + entity + b"".join(b" " + entity + b"." + event for event in events) for entity in entities)
-    return bench, b"n" + columns
+    return bench, b"by n" + columns
 
 
 def every_column():
     bench, names = most_columns()
     fields = b" true" + b" 3ff0000000000001" * 12
-    first = b"1" + fields * 32
+    first = b"a 1" + fields * 32
     other = first[:-1] + b"0"
-    readings = lines(names, first, first, other, b"2" + fields * 31, b"2" + b" -" * 416)
-    add("columns-416", bench, readings, lines(b"n", b"1", b"1", b"refused 25", b"refused 21", b"2"))
+    readings = lines(names, first, first, other, b"a 2" + fields * 31, b"a 2" + b" -" * 416)
+    add("columns-416", bench, readings, lines(b"by n", b"a 1", b"a 1", b"refused 25", b"refused 21", b"a 2"))
 
 
 def most_actions():
@@ -157,23 +158,35 @@ def most_actions():
         bench += b"when event e from t value changed trigger " + b" , ".join([first + declaration, *others]) + b" end "
     names = b"".join(b" " + entity + b"." + action for entity in entities for action in actions)
     names += b"".join(b" t." + action for action in actions[:11])
-    return bench + b"end", b"n" + names
+    return bench + b"end", b"by n" + names
 
 
 def every_action():
     bench, names = most_actions()
-    readings = lines(b"n t.e", b"1 0123456789abcdef", b"2 -")
-    add("actions-383", bench, readings, lines(names, b"1" + b" 8123456789abcdef" * 383, b"2" + b" -" * 383))
+    readings = lines(b"by n t.e", b"a 1 0123456789abcdef", b"a 2 -")
+    add("actions-383", bench, readings, lines(names, b"a 1" + b" 8123456789abcdef" * 383, b"a 2" + b" -" * 383))
+
+
+def largest_state():
+    """Eight senders with the longest names, and the most actions; lines sent again after lines of others."""
+    bench, names = most_actions()
+    table = Table(b"by n t.e", names)
+    sent = [(long_name(b"a", number) + b" 1", b"0123456789abcde%d" % number) for number in range(8)]
+    for begin, value in sent + sent[::3]:
+        table.line(begin + b" " + value, begin + (b" 8" + value[1:]) * 383)
+    table.line(b"a 1 -", b"refused 42")
+    table.add("senders-8-actions-383", bench)
 
 
 def add_line_limits():
-    longest = b"1 " + b"9" * 8190
-    readings = lines(b"n s.e", longest, longest + b"9", b"1 5") + b"9" * 8193
-    add("record-8193", PLAIN, readings, lines(b"n s.k", b"refused 23", b"refused 21", b"1 5", b"refused 21"))
-    add("record-20000", PLAIN, lines(b"n s.e", b"1 5".ljust(20000), b"1 5"), lines(b"n s.k", b"refused 21", b"1 5"))
-    add("names-40000", PLAIN, lines(b"n s.e".ljust(40000), b"1 5"), b"refused 22\n")
+    longest = b"a 1 " + b"9" * 8188
+    readings = lines(b"by n s.e", longest, longest + b"9", b"a 1 5") + b"9" * 8193
+    add("record-8193", PLAIN, readings, lines(b"by n s.k", b"refused 23", b"refused 21", b"a 1 5", b"refused 21"))
+    add("record-20000", PLAIN, lines(b"by n s.e", b"a 1 5".ljust(20000), b"a 1 5"), lines(b"by n s.k", b"refused 21", b"a 1 5"))
+    add("names-40000", PLAIN, lines(b"by n s.e".ljust(40000), b"a 1 5"), b"refused 22\n")
     every_column()
     every_action()
+    largest_state()
 
 
 # --------------------------------------------------------------------------
@@ -183,21 +196,23 @@ def add_line_limits():
 
 def add_files():
     add("no-folder", None, None, b"refused 13 0\n")
-    add("no-bench", None, lines(b"n", b"1"), b"refused 13 0\n")
+    add("no-bench", None, lines(b"by n", b"a 1"), b"refused 13 0\n")
     add("no-readings", b"rules end", None, b"refused 22\n")
     add("empty-files", b"", b"", b"refused 13 0\n")
-    add("empty-names", b"rules end", lines(b"", b"1"), b"refused 22\n")
-    add("no-last-feed", PLAIN, b"n s.e\n1 5\n2 6", lines(b"n s.k", b"1 5", b"2 6"))
+    add("empty-names", b"rules end", lines(b"", b"a 1"), b"refused 22\n")
+    add("no-last-feed", PLAIN, b"by n s.e\na 1 5\na 2 6", lines(b"by n s.k", b"a 1 5", b"a 2 6"))
     add("return-in-bench", b"rules\r\nend\r\n", None, b"refused 12 5\n")
-    add("return-in-names", PLAIN, b"n s.e\r\n1 5\r\n", b"refused 22\n")
-    add("return-in-values", PLAIN, b"n s.e\n1 5\r\n1\r 5\n1 5\n", lines(b"n s.k", b"refused 23", b"refused 21", b"1 5"))
-    add("any-bytes", PLAIN, b"n s.e\n1 \xff\n\x00 5\n1 \x005\n1 5\n", lines(b"n s.k", b"refused 23", b"refused 21", b"refused 23", b"1 5"))
+    add("return-in-names", PLAIN, b"by n s.e\r\na 1 5\r\n", b"refused 22\n")
+    printed = lines(b"by n s.k", b"refused 23", b"refused 21", b"refused 43", b"a 1 5")
+    add("return-in-values", PLAIN, b"by n s.e\na 1 5\r\na 1\r 5\na\r 1 5\na 1 5\n", printed)
+    printed = lines(b"by n s.k", b"refused 23", b"refused 21", b"refused 23", b"refused 43", b"refused 43", b"a 1 5")
+    add("any-bytes", PLAIN, b"by n s.e\na 1 \xff\na \x00 5\na 1 \x005\n\xff 1 5\na\x00 1 5\na 1 5\n", printed)
     # records on both sides of byte 65536, where a second part of the file is read
-    filled = lines(b"n s.e") + (b"1 " + b"9" * 8000 + b"\n") * 8
-    filled += b"1 " + b"9" * (65536 - len(filled) - 6) + b"\n"
-    assert len(filled) == 65533
-    rows = lines(b"n s.k", *[b"refused 23"] * 9)
-    add("second-part", PLAIN, filled + lines(b"1 50", b"2 60"), rows + lines(b"1 50", b"2 60"))
+    filled = lines(b"by n s.e") + (b"a 1 " + b"9" * 8000 + b"\n") * 8
+    filled += b"a 1 " + b"9" * (65536 - len(filled) - 10) + b"\n"
+    assert len(filled) == 65531
+    rows = lines(b"by n s.k", *[b"refused 23"] * 9)
+    add("second-part", PLAIN, filled + lines(b"a 1 50", b"a 2 60"), rows + lines(b"a 1 50", b"a 2 60"))
 
 
 # --------------------------------------------------------------------------
@@ -211,7 +226,7 @@ class Table:
     """Readings and, line by line, what is to be printed for them."""
 
     def __init__(self, names, row):
-        self.columns = names.count(b" ")
+        self.columns = names.count(b" ") - 1
         self.readings = bytearray(lines(names))
         self.printed = bytearray(lines(row))
 
@@ -229,7 +244,7 @@ class Table:
         while len(self.readings) < size:
             missing = size - len(self.readings)
             length = missing if missing <= 8000 else 7000
-            self.line(b"1 ".ljust(length - 1, b"x"), row)
+            self.line(b"a 1 ".ljust(length - 1, b"x"), row)
         assert len(self.readings) == size
 
     def drop_last_feed(self):
@@ -241,7 +256,7 @@ class Table:
 
 def plain_table():
     """A table for PLAIN: a line with another value than the one before is printed as it stands."""
-    return Table(b"n s.e", b"n s.k")
+    return Table(b"by n s.e", b"by n s.k")
 
 
 # -- lines at the end of a part
@@ -257,12 +272,12 @@ SUMS = (
 def sum_line(number):
     """A line of 24 values, and the row with their sum: each digit that is read counts."""
     values = [(7654321 * number + 1234577 * place) % 80000000 for place in range(24)]
-    return b" ".join(b"%d" % value for value in [number, *values]), b"%d %d" % (number, sum(values))
+    return b" ".join([b"a", *(b"%d" % value for value in [number, *values])]), b"a %d %d" % (number, sum(values))
 
 
 def long_readings():
     """Three parts: a line feed is the last byte of the first, another one is the first byte of the third."""
-    table = Table(b" ".join([b"n", *SUMMED]), b"n z.k")
+    table = Table(b" ".join([b"by n", *SUMMED]), b"by n z.k")
     feeds = [PART - 1, 2 * PART]
     for number in range(1, 1000):
         values, row = sum_line(number)
@@ -279,19 +294,47 @@ def number_cut():
     """The first digit of the number 20 is the last byte of a part; the line before begins with another digit."""
     table = plain_table()
     for number in range(1, 20):
-        table.same(b"%d %d" % (number, 700 + number))
-    table.fill(PART - 1)
-    table.same(b"20 31")
-    table.same(b"21 32")
+        table.same(b"a %d %d" % (number, 700 + number))
+    table.fill(PART - 3)
+    table.same(b"a 20 31")
+    table.same(b"a 21 32")
     assert table.readings[PART - 1 : PART + 5] == b"20 31\n"
     table.add("number-cut", PLAIN)
+
+
+def sender_cut():
+    """The longest name of a sender across the end of a part; the names before are parts of it."""
+    table = plain_table()
+    sender = long_name(b"s", 0)
+    table.same(sender[:12] + b" 1 31")
+    table.same(sender[12:] + b" 1 32")
+    table.same(sender + b" 1 33")
+    table.fill(PART - 12)
+    table.same(sender + b" 1 33")
+    table.same(sender + b" 2 34")
+    assert table.readings[PART:].startswith(sender[12:])
+    table.add("sender-cut", PLAIN)
+
+
+def eight_senders():
+    """Two parts of lines of eight senders in turn, each sent again after lines of all; a ninth is refused."""
+    table = plain_table()
+    senders = [long_name(b"s", number) for number in range(8)]
+    number = 0
+    while len(table.readings) < PART + 1000:
+        number += 1
+        sent = [sender + b" %d %d" % (number, 10 * number + place) for place, sender in enumerate(senders)]
+        for values in sent + sent:
+            table.same(values)
+        table.line(b"s %d %d" % (number, number), b"refused 42")
+    table.add("senders-8", PLAIN)
 
 
 def file_of_size(name, size, last_feed):
     """The file's last line ends where the file has this many bytes."""
     table = plain_table()
-    table.fill(size - len(b"1 57\n" if last_feed else b"1 57"))
-    table.same(b"1 57")
+    table.fill(size - len(b"a 1 57\n" if last_feed else b"a 1 57"))
+    table.same(b"a 1 57")
     if not last_feed:
         table.drop_last_feed()
     assert len(table.readings) == size
@@ -306,32 +349,35 @@ def record_cut(length, before, row):
 
     Between the two stand longer records that end like a good line.
     """
-    record = b"20 ".ljust(length, b"9")
+    record = b"a 20 ".ljust(length, b"9")
     table = plain_table()
     table.line(record, row)
     for beginning in (8192, 32768):
-        table.line(b"x" * beginning + b"1 57", b"refused 21")
+        table.line(b"x" * beginning + b"a 1 57", b"refused 21")
     table.fill(PART - before)
     table.line(record, row)
-    table.same(b"1 57")
+    table.same(b"a 1 57")
     table.add("record-%d-cut" % length, PLAIN)
 
 
 def record_of_a_part():
     """A record that fills its part up to the end; what stands of it in the next part would be a good line."""
     table = plain_table()
-    table.same(b"1 57")
-    record = b"x" * (PART - len(table.readings)) + b"2 58"
+    table.same(b"a 1 57")
+    record = b"x" * (PART - len(table.readings)) + b"a 2 58"
     table.line(record, b"refused 21")
-    table.same(b"2 59")
-    assert table.readings[PART:].startswith(b"2 58\n")
+    table.same(b"a 2 59")
+    assert table.readings[PART:].startswith(b"a 2 58\n")
     table.add("record-%d" % len(record), PLAIN)
 
 
+LONGEST_SENDER = long_name(b"s", 0)
+
+
 def longest_record(number):
-    """A value for each of 416 columns, as long as can be (`false` would leave only `-` for events): with a number of one digit,
-    no accepted record is longer."""
-    fields = [b"%d" % number]
+    """The longest name of a sender, and a value for each of 416 columns, as long as can be (`false` would leave only `-` for events): with a
+    number of one digit, no accepted record is longer."""
+    fields = [LONGEST_SENDER, b"%d" % number]
     for entity in range(32):
         fields += [b"true"] + [b"3ff%05x%08x" % (number, 12 * entity + event) for event in range(12)]
     return b" ".join(fields)
@@ -340,14 +386,14 @@ def longest_record(number):
 def longest_record_cut():
     """Longest records: taken, refused by their number, across the end of a part, and sent again."""
     bench, names = most_columns()
-    table = Table(names, b"n")
-    table.line(longest_record(1), b"1")
+    table = Table(names, b"by n")
+    table.line(longest_record(1), LONGEST_SENDER + b" 1")
     for _ in range(5):
         table.line(longest_record(3), b"refused 24")
     assert len(table.readings) < PART
-    table.line(longest_record(2), b"2")
+    table.line(longest_record(2), LONGEST_SENDER + b" 2")
     assert len(table.readings) > PART
-    table.line(longest_record(2), b"2")
+    table.line(longest_record(2), LONGEST_SENDER + b" 2")
     table.add("record-%d-cut" % len(longest_record(2)), bench)
 
 
@@ -355,11 +401,11 @@ def add_long_names():
     """Too long lines of names that begin or end like good ones; good lines follow."""
     bench, names = most_columns()
     for length in (32768, 32769):
-        long_names = (names + b" ").ljust(length - 1, b"x") + b"n"
-        add("names-%d" % length, bench, lines(long_names, b"n", b"1"), b"refused 22\n")
+        long_names = (names + b" ").ljust(length - 4, b"x") + b"by n"
+        add("names-%d" % length, bench, lines(long_names, b"by n", b"a 1"), b"refused 22\n")
     for parts in (1, 2):
-        long_names = b"n s.e ".ljust(parts * PART, b"x") + b"n s.e"
-        add("names-%d" % len(long_names), PLAIN, lines(long_names, b"n s.e", b"1 57", b"2 58"), b"refused 22\n")
+        long_names = b"by n s.e ".ljust(parts * PART, b"x") + b"by n s.e"
+        add("names-%d" % len(long_names), PLAIN, lines(long_names, b"by n s.e", b"a 1 57", b"a 2 58"), b"refused 22\n")
 
 
 # -- long prints
@@ -367,11 +413,11 @@ def add_long_names():
 
 def print_to(table, number, size):
     """Empty lines until PLAIN has printed almost this many bytes, then a good line that prints the others; returns that line."""
-    length = size - len(table.printed) - len(b"%d \n" % number)
+    length = size - len(table.printed) - len(b"a %d \n" % number)
     while length > 11:
         table.line(b"", b"refused 21")
         length -= len(b"refused 21\n")
-    values = b"%d " % number + (b"1" * length if length <= 10 else b"-1111111111")
+    values = b"a %d " % number + (b"1" * length if length <= 10 else b"-1111111111")
     table.same(values)
     assert len(table.printed) == size
     return values
@@ -388,24 +434,24 @@ def output_of_a_part():
 def output_of_long_rows():
     """Long rows, of which one lies across byte 32768 of the print and another across byte 65536."""
     bench, names = most_actions()
-    table = Table(b"n t.e", names)
+    table = Table(b"by n t.e", names)
     for number in range(1, 9):
-        table.line(b"%d 0123456789abcde%d" % (number, number), b"%d" % number + b" 8123456789abcde%d" % number * 383)
-    table.line(b"7 -", b"refused 24")
+        table.line(b"a %d 0123456789abcde%d" % (number, number), b"a %d" % number + b" 8123456789abcde%d" % number * 383)
+    table.line(b"a 7 -", b"refused 24")
     table.add("output-%d" % len(table.printed), bench)
 
 
 def refusals(last):
     """Lines that are refused after a line with this number, some of each refusal."""
-    values = [b"", b"0%d 2147483647" % last, b"1 2147483648", b"%d -2147483649" % (last + 1)]
-    values += [b"%d 2147483647" % (last + 2), b"4294967296 57", b"%d -2147483648" % last, b"%d ?" % last]
-    return cycle(zip(values, [b"refused %d" % number for number in (21, 21, 23, 23, 24, 24, 25, 25)]))
+    values = [b"", b"a", b"a 0%d 2147483647" % last, b"_ %d 57" % last, b"9 %d 57" % last, b"a 1 2147483648", b"a %d -2147483649" % (last + 1)]
+    values += [b"a %d 2147483647" % (last + 2), b"a 4294967296 57", b"a %d -2147483648" % last, b"a %d ?" % last]
+    return cycle(zip(values, [b"refused %d" % number for number in (21, 21, 21, 43, 43, 23, 23, 24, 24, 25, 25)]))
 
 
 def refused_and_resent():
     """More than 65536 bytes of refusals; a row ends where 65536 bytes are printed; a line is sent again across the end of a part."""
     table = plain_table()
-    table.same(b"1 57")
+    table.same(b"a 1 57")
     refused = refusals(1)
     while len(table.printed) < PART - 50:
         table.line(*next(refused))
@@ -414,21 +460,23 @@ def refused_and_resent():
     while len(table.readings) < PART - 50:
         table.line(*next(refused))
     table.same(accepted)
-    table.fill(PART - 2)
+    table.fill(PART - 4)
     table.same(accepted)
     table.same(accepted)
-    assert table.readings[PART - 2 :].startswith(accepted)
+    assert table.readings[PART - 4 :].startswith(accepted)
     for _ in range(8):
         table.line(*next(refused))
-    table.line(b"3" + accepted[1:], b"3 -")
-    table.same(b"4 58")
-    assert table.printed.count(b"refused 2") * len(b"refused 21\n") > PART
+    table.line(b"a 3" + accepted[3:], b"a 3 -")
+    table.same(b"a 4 58")
+    assert table.printed.count(b"refused ") * len(b"refused 21\n") > PART
     table.add("refused-resent", PLAIN)
 
 
 def add_long_files():
     long_readings()
     number_cut()
+    sender_cut()
+    eight_senders()
     file_of_size("file-65536", PART, False)
     file_of_size("file-65536-feed", PART, True)
     file_of_size("file-65537", PART + 1, False)

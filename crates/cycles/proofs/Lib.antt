@@ -1,3 +1,2 @@
 pub mod laws
-pub mod theorems
 pub mod steps

@@ -2,14 +2,12 @@
 pub mod TableLaws
 pub mod CellNumbers
 pub mod CellFits
-pub mod ImageParts
-pub mod ImageLaws
+pub mod PlaneParts
+pub mod PlaneLaws
 pub mod AmongLaws
 pub mod BindingLaws
-pub mod FollowLaws
 pub mod Agreement
 pub mod Apart
-pub mod AnswerLaws
 pub mod WalkLaws
 pub mod SpotLaws
 pub mod SoundEvaluation
@@ -19,7 +17,7 @@ pub mod SoundLine
 pub mod SoundFresh
 pub mod SoundCycle
 pub mod CellTokenLaws
-pub mod StateTestLaws
+pub mod PlaneTestLaws
 pub mod PutLaws
 pub mod ReadingsLaws
 pub mod RowFields
@@ -29,9 +27,5 @@ pub mod FieldLaws
 pub mod ColumnLaws
 pub mod ColumnReadLaws
 pub mod RecordLaws
-pub mod JudgeLaws
-pub mod TakesLaws
-pub mod SameInputsLaws
 pub mod CanonicalLaws
-pub mod RowReads
 pub mod StoredLaws

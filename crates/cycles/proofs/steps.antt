@@ -7,11 +7,10 @@ pub mod CallWrites
 pub mod ResolvedLaws
 pub mod LiteralValues
 pub mod FreshValues
-pub mod FreshImage
+pub mod FreshPlanes
 pub mod HeaderLaws
 pub mod InputLaws
 pub mod ValuesLaws
-pub mod LineReadLaws
 pub mod AreaLaws
 pub mod SeenLaws
 pub mod CycleMemoryLaws

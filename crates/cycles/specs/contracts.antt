@@ -2,13 +2,12 @@
 pub mod TotalMachine
 pub mod Evaluation
 pub mod CellTokens
-pub mod StateMemory
+pub mod PlaneMemory
 pub mod RowMemory
 pub mod FreshMemory
 pub mod FieldReads
 pub mod HeaderReads
 pub mod LineReads
-pub mod Judging
 pub mod AllRules
 pub mod Guards
 pub mod Failing

@@ -8,9 +8,8 @@ pub mod Cycle
 pub mod Fields
 pub mod Header
 pub mod Record
-pub mod Line
 pub mod Row
 pub mod Readings
-pub mod StateImage
+pub mod Planes
 pub mod ClosedSet
-pub mod SoundState
+pub mod SoundStores

@@ -7,7 +7,7 @@ ghost use Rattle.checking.specs.contracts.Directory.{ENTITY-COUNT-ROW, rule-row
 ghost use Rattle.checking.specs.definitions.CountFaults.{MOST-INTERFACES};
 ghost use Rattle.cycles.specs.contracts.AllRules.{complete, candidate, Ranged, Ranges, Bindings-put, Rules-put};
 ghost use Rattle.cycles.specs.contracts.Guards.{ALL-GUARD-ROWS, Guards-found, Marks-set};
-ghost use Rattle.cycles.specs.definitions.StateImage.{MOST-CELL-BYTES};
+ghost use Rattle.cycles.specs.definitions.Planes.{MOST-CELL-BYTES};
 use crate::calls::rule_at;
 use crate::evaluate::Binding;
 use crate::evaluate::is_present;

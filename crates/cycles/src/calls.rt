@@ -5,7 +5,7 @@ ghost use Rattle.text.specs.definitions.Tokens.{COMMA};
 ghost use Rattle.text.specs.definitions.Readers.{many};
 ghost use Rattle.text.specs.definitions.Grammar.{call-reader, call-after};
 ghost use Rattle.cycles.specs.contracts.Evaluation.{Call-walk, Calls-walk, Rule-puts};
-ghost use Rattle.cycles.specs.definitions.StateImage.{MOST-CELL-BYTES};
+ghost use Rattle.cycles.specs.definitions.Planes.{MOST-CELL-BYTES};
 use crate::conditions::both;
 use crate::conditions::condition;
 use crate::conditions::filter;

@@ -1,25 +1,21 @@
-// A cycle: a line's inputs are applied, all rules are evaluated, and the next state is put.
+// A cycle: a line's inputs are applied, all rules are evaluated, and the next stores are put.
 ghost use mathlib.Core.Path.{_≡_};
 ghost use mathlib.Core.List.{_++_};
 ghost use mathlib.Core.Bool.{cond};
 ghost use Prim.Native.Nat.{_+_, _*_, _≤_, _<_};
 ghost use lib.ListN.{length, drop};
 ghost use Rattle.checking.specs.definitions.CountFaults.{MOST-ENTITIES};
-ghost use Rattle.cycles.specs.definitions.StateImage.{CELL-BYTES, ENTITY-CELLS, ENTITY-CELL-BYTES, MOST-CELL-BYTES, STATE, table};
-ghost use Rattle.cycles.specs.contracts.Judging.{present-by};
-ghost use Rattle.cycles.specs.contracts.CycleMemory.{seen-flag, leaves-by, seen-value, next-value, Value-of, Values-put, Cycled};
+ghost use Rattle.cycles.specs.definitions.Planes.{CELL-BYTES, ENTITY-CELLS, ENTITY-CELL-BYTES, MOST-CELL-BYTES, MOST-STORES-BYTES, table};
+ghost use Rattle.cycles.specs.contracts.CycleMemory.{present-by, seen-flag, leaves-by, seen-value, next-value, Value-of, Values-put, Cycled};
 use crate::bindings::all_rules;
-use crate::image::cell_token;
-use crate::image::is_sort;
-use crate::image::put_state;
-use crate::judge::present_after;
-use crate::layout::BEFORE_NOW_CELLS;
-use crate::layout::BEFORE_PREVIOUS_CELLS;
 use crate::layout::CELL_BYTES;
+use crate::layout::ENTITY_BYTES;
 use crate::layout::ENTITY_CELLS;
 use crate::layout::MOST_CELL_BYTES;
 use crate::layout::NO_READING;
-use crate::layout::NUMBER_BYTES;
+use crate::planes::cell_token;
+use crate::planes::is_sort;
+use crate::planes::put_stores;
 use checking::layout::ENTITY_COUNT_ROW;
 use checking::layout::MOST_ENTITIES;
 use text::classes::ACTION;
@@ -29,6 +25,16 @@ use values::cell;
 use values::put_cell;
 
 // ---- what the rules see
+
+// Is an entity present after the line? By its flags: present, and the presence that was read.
+pub fn present_after(present: u8, flag: u8) -> bool
+    ensures { λ r. ⌜ r ≡ present-by present flag ⌝ }
+{
+    if flag == 0 {
+        return present == 1;
+    }
+    flag == 2
+}
 
 // The flag of an entity after the line.
 fn present_byte(present: u8, flag: u8) -> u8
@@ -150,42 +156,41 @@ fn put_next(classes: &[u8], d: &[u16], n: usize, cells: &[u8], area: &mut [u8])
     }
 }
 
-// The cycle of a line of that number. The area of writes begins as unset cells: bytes of 0.
+// The cycle of a line. The area of writes begins as unset cells: bytes of 0.
 pub fn cycle(
     classes: &[u8],
     values: &[u32],
     d: &[u16],
     refs: &[u16],
     scopes: &[u8],
-    number: u32,
     input_flags: &[u8],
     input_cells: &[u8],
-    state: &mut [u8],
+    stores: &mut [u8],
 )
     requires { ⌜ (MOST-ENTITIES ≤ length (now «input_flags»)) × (MOST-CELL-BYTES ≤ length (now «input_cells»)) ⌝ }
-    requires { ⌜ STATE ≤ length (now state) ⌝ }
+    requires { ⌜ MOST-STORES-BYTES ≤ length (now stores) ⌝ }
     ensures { λ _. ⌜
-        Cycled (now (classes .entry)) (now (values .entry)) (now (d .entry)) (now (refs .entry)) (now (scopes .entry)) number
-        (now («input_flags» .entry)) (now («input_cells» .entry)) (now (state .entry)) (now (state .exit)) ⌝ }
+        Cycled (now (classes .entry)) (now (values .entry)) (now (d .entry)) (now (refs .entry)) (now (scopes .entry))
+        (now («input_flags» .entry)) (now («input_cells» .entry)) (now (stores .entry)) (now (stores .exit)) ⌝ }
 {
     let n = checking::row(d, ENTITY_COUNT_ROW);
     if MOST_ENTITIES < n {
         return;
     }
-    let previous_flags = NUMBER_BYTES + n;
-    let now_cells = NUMBER_BYTES + BEFORE_NOW_CELLS * n;
-    let previous_cells = NUMBER_BYTES + BEFORE_PREVIOUS_CELLS * n;
+    let previous = ENTITY_BYTES * n;
+    let previous_cells = previous + n;
     let mut flags = [0u8; MOST_ENTITIES];
     let mut cells = [0u8; MOST_CELL_BYTES];
     let mut area = [0u8; MOST_CELL_BYTES];
-    see_flags(n, &state[NUMBER_BYTES..], input_flags, &mut flags);
+    let before = &stores[..];
+    see_flags(n, before, input_flags, &mut flags);
     see_cells(
         classes,
         d,
         n,
-        &state[NUMBER_BYTES..],
+        before,
         &flags,
-        &state[now_cells..],
+        &before[n..],
         input_cells,
         &mut cells,
     );
@@ -197,20 +202,10 @@ pub fn cycle(
         d,
         &flags,
         &cells,
-        &state[previous_flags..],
-        &state[previous_cells..],
+        &before[previous..],
+        &before[previous_cells..],
         &mut area,
     );
     put_next(classes, d, n, &cells, &mut area);
-    put_state(
-        d,
-        number,
-        &flags,
-        &area,
-        &flags,
-        &cells,
-        input_flags,
-        input_cells,
-        state,
-    );
+    put_stores(d, &flags, &area, &cells, stores);
 }

@@ -7,7 +7,7 @@ ghost use lib.ListN.{length, getD};
 ghost use Rattle.checking.specs.contracts.Directory.{NO-MEMBER};
 ghost use Rattle.cycles.specs.contracts.Evaluation.{bound, Cell-read, Put};
 ghost use Rattle.cycles.specs.contracts.AllRules.{Entity-added};
-ghost use Rattle.cycles.specs.definitions.StateImage.{MOST-CELL-BYTES};
+ghost use Rattle.cycles.specs.definitions.Planes.{MOST-CELL-BYTES};
 use crate::layout::CELL_BYTES;
 use crate::layout::ENTITY_CELLS;
 use crate::layout::MOST_CELLS;

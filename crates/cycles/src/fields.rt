@@ -3,7 +3,7 @@ ghost use mathlib.Core.Path.{_≡_};
 ghost use Prim.Native.Nat.{_≤_};
 ghost use lib.ListN.{length};
 ghost use Rattle.cycles.specs.definitions.Fields.{fields, has-byte};
-ghost use Rattle.cycles.specs.contracts.FieldReads.{Field-start, first-size};
+ghost use Rattle.cycles.specs.contracts.FieldReads.{Field-start, Field-end, first-size};
 
 // Where the field that ends at `end` starts; fields stand between bytes `mark`.
 pub fn field_start(line: &[u8], end: usize, mark: u8) -> usize
@@ -19,6 +19,20 @@ pub fn field_start(line: &[u8], end: usize, mark: u8) -> usize
         i = j;
     }
     0
+}
+
+// Where the first field ends: at the first byte `mark`, or at the line's end.
+pub fn field_end(line: &[u8], mark: u8) -> usize
+    ensures { λ r. ⌜ Field-end mark (now (line .entry)) r ⌝ }
+{
+    let mut i = 0;
+    while i < line.len() {
+        if line[i] == mark {
+            return i;
+        }
+        i += 1;
+    }
+    i
 }
 
 pub fn has_byte(line: &[u8], b: u8) -> bool

@@ -1,21 +1,18 @@
-// The fresh state of a bench.
+// The fresh stores of a bench.
 ghost use mathlib.Core.Path.{_≡_};
-ghost use mathlib.Core.List.{_∷_, _++_};
+ghost use mathlib.Core.List.{_∷_};
 ghost use Prim.Native.Nat.{_+_, _*_, _≤_};
 ghost use lib.ListN.{length, getD};
 ghost use Rattle.values.specs.definitions.Bytes.{low-first};
 ghost use Rattle.text.specs.definitions.Syntax.{whole-number, real-number, literal-value};
-ghost use Rattle.cycles.specs.definitions.StateImage.{CELL-BYTES, NUMBER-BYTES, BEFORE-NOW-CELLS, STATE};
+ghost use Rattle.cycles.specs.definitions.Planes.{CELL-BYTES, MOST-STORES-BYTES};
 ghost use Rattle.values.specs.contracts.Puts.{Put};
-ghost use Rattle.cycles.specs.contracts.FreshMemory.{Number-at, Literal-at, Assigned-value, Fresh-cell, Fresh-cells-put, flags-of, blanks-of};
+ghost use Rattle.cycles.specs.contracts.FreshMemory.{Number-at, Literal-at, Assigned-value, Fresh-cell, Fresh-cells-put, flags-of, unset-cells};
 ghost use Rattle.cycles.specs.contracts.FreshMemory.{Fresh-put};
-use crate::image::cell_token;
-use crate::image::is_sort;
-use crate::image::put_number;
 use crate::layout::CELL_BYTES;
 use crate::layout::ENTITY_CELLS;
-use crate::layout::NO_READING;
-use crate::layout::NUMBER_BYTES;
+use crate::planes::cell_token;
+use crate::planes::is_sort;
 use checking::layout::ENTITY_COUNT_ROW;
 use checking::layout::ENTITY_ROWS;
 use checking::layout::MOST_ENTITIES;
@@ -138,7 +135,7 @@ fn fresh_value(
     assigned_value(text, classes, offsets, lengths, values, from, token + 1)
 }
 
-// ---- the parts of the image, each put from `at` on; the answer is the offset after it
+// ---- the parts of the stores, each put from `at` on; the answer is the offset after it
 
 fn put_flags(state: &mut [u8], at: usize, n: usize, flag: u8) -> usize
     requires { ⌜ at + n ≤ length (now state) ⌝ }
@@ -162,14 +159,14 @@ fn put_tagged(state: &mut [u8], at: usize, tag: u8, word: u64) -> usize
     at + CELL_BYTES
 }
 
-fn put_blanks(state: &mut [u8], at: usize, count: usize, tag: u8) -> usize
+fn put_unset(state: &mut [u8], at: usize, count: usize) -> usize
     requires { ⌜ at + CELL-BYTES * count ≤ length (now state) ⌝ }
-    ensures { λ r. ⌜ (r ≡ at + CELL-BYTES * count) × Put (blanks-of tag count) (now (state .entry)) at (now (state .exit)) r ⌝ }
+    ensures { λ r. ⌜ (r ≡ at + CELL-BYTES * count) × Put (unset-cells count) (now (state .entry)) at (now (state .exit)) r ⌝ }
 {
     let mut end = at;
     let mut i = 0;
     while i < count {
-        end = put_tagged(state, end, tag, 0);
+        end = put_tagged(state, end, 0, 0);
         i += 1;
     }
     end
@@ -202,40 +199,27 @@ fn put_fresh_cells(
     end
 }
 
-// The last number, and who is present now, was before, and was read to be.
-fn put_fresh_flags(state: &mut [u8], n: usize) -> usize
-    requires { ⌜ NUMBER-BYTES + BEFORE-NOW-CELLS * n ≤ length (now state) ⌝ }
-    ensures { λ r. ⌜
-        (r ≡ NUMBER-BYTES + BEFORE-NOW-CELLS * n)
-        × Put (low-first NUMBER-BYTES 0 ++ flags-of 1 n ++ flags-of 0 n ++ flags-of 0 n) (now (state .entry)) 0 (now (state .exit)) r ⌝ }
-{
-    put_number(state, 0);
-    let a = put_flags(state, NUMBER_BYTES, n, 1);
-    let b = put_flags(state, a, n, 0);
-    put_flags(state, b, n, 0)
-}
-
-// The image of the fresh state.
-pub fn put_fresh(
+// The fresh stores.
+pub fn put_fresh_stores(
     text: &[u8],
     classes: &[u8],
     offsets: &[u16],
     lengths: &[u8],
     values: &[u32],
     d: &[u16],
-    state: &mut [u8],
+    stores: &mut [u8],
 )
-    requires { ⌜ STATE ≤ length (now state) ⌝ }
+    requires { ⌜ MOST-STORES-BYTES ≤ length (now stores) ⌝ }
     ensures { λ _. ⌜
         Fresh-put (now (text .entry)) (now (classes .entry)) (now (offsets .entry)) (now (lengths .entry)) (now (values .entry)) (now (d .entry))
-        (now (state .entry)) (now (state .exit)) ⌝ }
+        (now (stores .entry)) (now (stores .exit)) ⌝ }
 {
     let n = checking::row(d, ENTITY_COUNT_ROW);
     if MOST_ENTITIES < n {
         return;
     }
     let count = ENTITY_CELLS * n;
-    let flags = put_fresh_flags(state, n);
+    let flags = put_flags(stores, 0, n, 1);
     let cells = put_fresh_cells(
         text,
         classes,
@@ -244,9 +228,9 @@ pub fn put_fresh(
         values,
         d,
         count,
-        state,
+        stores,
         flags,
     );
-    let previous = put_blanks(state, cells, count, 0);
-    put_blanks(state, previous, count, NO_READING);
+    let previous = put_flags(stores, cells, n, 0);
+    put_unset(stores, previous, count);
 }

@@ -5,7 +5,7 @@ ghost use lib.ListN.{length};
 ghost use Rattle.checking.specs.definitions.Scope.{entity-named};
 ghost use Rattle.cycles.specs.definitions.Fields.{split};
 ghost use Rattle.cycles.specs.definitions.Header.{column-of-entity, column};
-ghost use Rattle.cycles.specs.contracts.HeaderReads.{Column-read, backwards, is-number-among, Header-read, MOST-COLUMNS};
+ghost use Rattle.cycles.specs.contracts.HeaderReads.{Column-read, backwards, is-number-among, Columns-read, Header-read, MOST-COLUMNS};
 use crate::fields::field_start;
 use crate::layout::ENTITY_COLUMNS;
 use crate::layout::MOST_HEADER_BYTES;
@@ -104,8 +104,8 @@ fn is_read(columns: &[u16], count: usize, column: u16) -> bool
     false
 }
 
-// Reads the columns, the last one first, and answers their number; NO_HEADER for no header.
-pub fn read_header(
+// Reads the columns after `n`, the last one first, and answers their number; NO_HEADER for none.
+fn read_columns(
     text: &[u8],
     classes: &[u8],
     offsets: &[u16],
@@ -116,12 +116,9 @@ pub fn read_header(
 ) -> usize
     requires { ⌜ MOST-COLUMNS ≤ length (now columns) ⌝ }
     ensures { λ r. ⌜
-        Header-read (now (text .entry)) (now (classes .entry)) (now (offsets .entry)) (now (lengths .entry)) (now (d .entry)) (now (names .entry))
+        Columns-read (now (text .entry)) (now (classes .entry)) (now (offsets .entry)) (now (lengths .entry)) (now (d .entry)) (now (names .entry))
         (now (columns .exit)) r ⌝ }
 {
-    if MOST_HEADER_BYTES < names.len() {
-        return NO_HEADER;
-    }
     let mut end = names.len();
     let mut count: usize = 0;
     loop {
@@ -144,4 +141,31 @@ pub fn read_header(
         count += 1;
         end = start - 1;
     }
+}
+
+// Reads a header: the columns after `by n`. Answers their number; NO_HEADER for no header.
+pub fn read_header(
+    text: &[u8],
+    classes: &[u8],
+    offsets: &[u16],
+    lengths: &[u8],
+    d: &[u16],
+    names: &[u8],
+    columns: &mut [u16],
+) -> usize
+    requires { ⌜ MOST-COLUMNS ≤ length (now columns) ⌝ }
+    ensures { λ r. ⌜
+        Header-read (now (text .entry)) (now (classes .entry)) (now (offsets .entry)) (now (lengths .entry)) (now (d .entry)) (now (names .entry))
+        (now (columns .exit)) r ⌝ }
+{
+    if MOST_HEADER_BYTES < names.len() {
+        return NO_HEADER;
+    }
+    if names.len() < 3 {
+        return NO_HEADER;
+    }
+    if !same_bytes(&names[0..3], b"by ") {
+        return NO_HEADER;
+    }
+    read_columns(text, classes, offsets, lengths, d, &names[3..], columns)
 }

@@ -1,4 +1,4 @@
-// The memory of cells and of a state, of columns, ranges and guards.
+// The memory of cells and planes, of columns, ranges and guards.
 use checking::layout::MOST_ENTITIES;
 use checking::layout::MOST_INTERFACES;
 use checking::layout::MOST_MEMBERS;
@@ -20,28 +20,16 @@ pub const MOST_CELL_BYTES: usize = MOST_ENTITIES * ENTITY_CELL_BYTES;
 // The tag of a cell with no reading.
 pub const NO_READING: u8 = 4;
 
-// ---- the state image
+// ---- planes
 
-// The last number's bytes. The flags now, before and read begin after it.
+// A number's bytes.
 pub const NUMBER_BYTES: usize = 4;
 
-// How many bytes for each entity stand between the number and a part: the flags that were read,
-pub const BEFORE_READ_FLAGS: usize = 2;
+// An entity's bytes in a plane: its flag and its cells.
+pub const ENTITY_BYTES: usize = 1 + ENTITY_CELL_BYTES;
 
-// the cells now,
-pub const BEFORE_NOW_CELLS: usize = 3;
-
-// those before,
-pub const BEFORE_PREVIOUS_CELLS: usize = BEFORE_NOW_CELLS + ENTITY_CELL_BYTES;
-
-// and those that were read.
-pub const BEFORE_INPUT_CELLS: usize = BEFORE_PREVIOUS_CELLS + ENTITY_CELL_BYTES;
-
-// All bytes of an entity.
-pub const ENTITY_BYTES: usize = BEFORE_INPUT_CELLS + ENTITY_CELL_BYTES;
-
-// The image for as many entities as a file may have.
-pub const STATE: usize = NUMBER_BYTES + ENTITY_BYTES * MOST_ENTITIES;
+// The two stores of as many entities as a file may have.
+pub const MOST_STORES_BYTES: usize = 2 * ENTITY_BYTES * MOST_ENTITIES;
 
 // ---- lines and rows
 
@@ -53,9 +41,6 @@ pub const MOST_RECORD_BYTES: usize = 8192;
 
 // "The stated size of memory for a row is 32,768 bytes at most"
 pub const MOST_ROW_BYTES: usize = 32768;
-
-// "It never exceeds 4,294,967,295"
-pub const MOST_LINES: u64 = 4294967295;
 
 // An entity's members have columns, and its presence after them.
 pub const PRESENCE_COLUMN: usize = MOST_MEMBERS;

@@ -1,4 +1,4 @@
-// A record: its number, and its values as inputs in lent memory.
+// A record: its sender and number, and its values as inputs in lent memory.
 ghost use mathlib.Core.Path.{_≡_};
 ghost use mathlib.Core.List.{[], _∷_, _++_};
 ghost use mathlib.Core.Option.{none};
@@ -8,10 +8,11 @@ ghost use Rattle.values.specs.declared.Kind.{Kind};
 ghost use Rattle.values.specs.definitions.Bytes.{overwritten};
 ghost use Rattle.checking.specs.contracts.Directory.{kind-class};
 ghost use Rattle.checking.specs.definitions.CountFaults.{MOST-ENTITIES};
-ghost use Rattle.cycles.specs.definitions.Record.{record-of, as-truth};
-ghost use Rattle.cycles.specs.definitions.StateImage.{CELL-BYTES, MOST-CELL-BYTES, table, presence-flag, input-bytes};
+ghost use Rattle.cycles.specs.definitions.Record.{as-truth};
+ghost use Rattle.cycles.specs.definitions.Planes.{CELL-BYTES, MOST-CELL-BYTES, table, presence-flag, input-bytes};
 ghost use Rattle.cycles.specs.contracts.HeaderReads.{NO-COLUMN};
-ghost use Rattle.cycles.specs.contracts.LineReads.{number-if-record, is-well-formed, said, Input-put, Values-read};
+ghost use Rattle.cycles.specs.contracts.LineReads.{Sent-read, is-well-formed, said, Input-put, Values-read};
+use crate::fields::field_end;
 use crate::fields::field_start;
 use crate::fields::first_size;
 use crate::fields::has_byte;
@@ -36,21 +37,39 @@ use values::put_word;
 use values::read_event;
 use values::read_presence;
 
-// The number of a record with so many values; none if it is no such record.
-pub fn record_number(values: &[u8], count: usize) -> Number
-    ensures { λ r. ⌜ r ≡ number-if-record (record-of count (now (values .entry))) ⌝ }
+// How many bytes at a record's front are its sender's, and its number; or no record.
+pub enum Sent {
+    Refused,
+    Got { size: usize, number: u64 },
+}
+
+// The sender and the number of a record with so many values.
+pub fn read_sent(values: &[u8], count: usize) -> Sent
+    ensures { λ r. ⌜ Sent-read count (now (values .entry)) r ⌝ }
 {
     if MOST_RECORD_BYTES < values.len() {
-        return Number::Not;
+        return Sent::Refused;
     }
     if has_byte(values, 10) {
-        return Number::Not;
+        return Sent::Refused;
     }
-    let size = first_size(values, count);
+    let size = field_end(values, 32);
     if size == 0 {
-        return Number::Not;
+        return Sent::Refused;
     }
-    magnitude(&values[0..size], 0)
+    if size == values.len() {
+        return Sent::Refused;
+    }
+    let from = size + 1;
+    let digits = first_size(&values[from..], count);
+    if digits == 0 {
+        return Sent::Refused;
+    }
+    let number = magnitude(&values[from..from + digits], 0);
+    match number {
+        Number::Not => Sent::Refused,
+        Number::Is(n) => Sent::Got { size, number: n },
+    }
 }
 
 // ---- one field

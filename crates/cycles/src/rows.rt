@@ -1,12 +1,12 @@
-// Rows of fired actions, and their header.
+// The fields of fired actions in a row, and the header of rows.
 ghost use Prim.Native.Nat.{_+_, _*_, _≤_};
 ghost use lib.ListN.{length};
 ghost use Rattle.cycles.specs.definitions.Row.{MOST-ROW-BYTES};
-ghost use Rattle.cycles.specs.contracts.RowMemory.{Fired-put, Name-put, Row-put, Header-put};
-ghost use Rattle.cycles.specs.definitions.StateImage.{CELL-BYTES, MOST-CELL-BYTES};
-use crate::image::cell_token;
-use crate::image::is_sort;
+ghost use Rattle.cycles.specs.contracts.RowMemory.{FIELD-BYTES, FIELDS-BYTES, Fired-put, Fields-put, Name-put, Header-put};
+ghost use Rattle.cycles.specs.definitions.Planes.{CELL-BYTES, MOST-CELL-BYTES};
 use crate::layout::ENTITY_CELLS;
+use crate::planes::cell_token;
+use crate::planes::is_sort;
 use checking::layout::ENTITY_COUNT_ROW;
 use checking::layout::ENTITY_ROWS;
 use checking::layout::MOST_ENTITIES;
@@ -15,7 +15,7 @@ use text::classes::ACTION;
 // Puts a space and the value of cell number i, if the cell is an action's, and answers the offset after them.
 fn put_fired(classes: &[u8], d: &[u16], cells: &[u8], i: usize, row: &mut [u8], at: usize) -> usize
     requires { ⌜ i * CELL-BYTES + CELL-BYTES ≤ length (now cells) ⌝ }
-    requires { ⌜ at + 17 ≤ length (now row) ⌝ }
+    requires { ⌜ at + FIELD-BYTES ≤ length (now row) ⌝ }
     ensures { λ r. ⌜ Fired-put (now (classes .entry)) (now (d .entry)) (now (cells .entry)) i (now (row .entry)) at (now (row .exit)) r ⌝ }
 {
     if !is_sort(classes, cell_token(d, i), ACTION) {
@@ -25,24 +25,24 @@ fn put_fired(classes: &[u8], d: &[u16], cells: &[u8], i: usize, row: &mut [u8], 
     values::put_value(row, at + 1, values::cell(cells, i))
 }
 
-// The row of a state with this last number and these cells: writes it to the front and answers its length.
-pub fn put_row(classes: &[u8], d: &[u16], last: u32, cells: &[u8], row: &mut [u8]) -> usize
+// Puts the fields of all action cells, and answers the offset after them.
+pub fn put_fields(classes: &[u8], d: &[u16], cells: &[u8], row: &mut [u8], at: usize) -> usize
     requires { ⌜ MOST-CELL-BYTES ≤ length (now cells) ⌝ }
-    requires { ⌜ MOST-ROW-BYTES ≤ length (now row) ⌝ }
-    ensures { λ r. ⌜ Row-put (now (classes .entry)) (now (d .entry)) (now (cells .entry)) last (now (row .entry)) (now (row .exit)) r ⌝ }
+    requires { ⌜ at + FIELDS-BYTES ≤ length (now row) ⌝ }
+    ensures { λ r. ⌜ Fields-put (now (classes .entry)) (now (d .entry)) (now (cells .entry)) (now (row .entry)) at (now (row .exit)) r ⌝ }
 {
     let n = checking::row(d, ENTITY_COUNT_ROW);
     if MOST_ENTITIES < n {
-        return 0;
+        return at;
     }
     let end = ENTITY_CELLS * n;
-    let mut at = values::put_decimal(row, 0, last as u64);
+    let mut next = at;
     let mut i = 0;
     while i < end {
-        at = put_fired(classes, d, cells, i, row, at);
+        next = put_fired(classes, d, cells, i, row, next);
         i += 1;
     }
-    at
+    next
 }
 
 // Puts a space and the name of cell number i, if the cell is an action's, and answers the offset after them.
@@ -100,8 +100,7 @@ pub fn put_row_header(
         return 0;
     }
     let end = ENTITY_CELLS * n;
-    row[0] = 110;
-    let mut at = 1;
+    let mut at = values::put_bytes(row, 0, b"by n");
     let mut i = 0;
     while i < end {
         at = put_name(text, classes, offsets, lengths, d, i, row, at);

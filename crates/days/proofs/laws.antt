@@ -2,7 +2,6 @@
 pub mod SpotNumbers
 pub mod ChoosingLaws
 pub mod ChosenReads
-pub mod RecordLaws
 pub mod ImageFront
 pub mod DayLaws
 pub mod SizeLaws

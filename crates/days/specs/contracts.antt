@@ -1,4 +1,3 @@
 -- What inner functions promise, and the forms of their memory: nobody has to believe these.
-pub mod Advancing
 pub mod Choosing
 pub mod SheetMemory

@@ -4,7 +4,7 @@ ghost use Prim.Native.Nat.{ℕ, _≤_, _<_};
 ghost use lib.ListN.{length, getD};
 ghost use Rattle.checking.specs.definitions.Scope.{entity-named};
 ghost use Rattle.cycles.specs.definitions.Fields.{split};
-ghost use Rattle.cycles.specs.definitions.StateImage.{STATE};
+ghost use Rattle.senders.specs.definitions.StateImage.{STATE};
 ghost use Rattle.sheets.specs.definitions.Layout.{MOST-CHOSEN};
 ghost use Rattle.days.specs.definitions.Chosen.{spot-of-entity, spot-named};
 ghost use Rattle.days.specs.contracts.Choosing.{NO-SPOT, Spot-read, Chosen-read, Real-read, Spot-value, Reals-read, Cells-read};
@@ -19,10 +19,9 @@ use checking::row;
 use cycles::cell_token;
 use cycles::evaluate::read_cell;
 use cycles::fields::field_start;
-use cycles::layout::BEFORE_NOW_CELLS;
 use cycles::layout::ENTITY_CELLS;
 use cycles::layout::MOST_CELLS;
-use cycles::layout::NUMBER_BYTES;
+use senders::layout::HEAD_BYTES;
 use sheets::layout::MOST_CHOSEN;
 use text::classes::REAL;
 use text::walks::class_at;
@@ -158,11 +157,11 @@ pub fn read_chosen(d: &[u16], state: &[u8], spots: &[u16], count: usize) -> [Val
     if MOST_ENTITIES < n {
         return vs;
     }
-    let cells = NUMBER_BYTES + BEFORE_NOW_CELLS * n;
+    let cells = HEAD_BYTES + n;
     let mut k = 0;
     while k < count {
         let i = count - 1 - k;
-        vs[k] = read_spot(&state[NUMBER_BYTES..], &state[cells..], spots[i] as usize);
+        vs[k] = read_spot(&state[HEAD_BYTES..], &state[cells..], spots[i] as usize);
         k += 1;
     }
     vs

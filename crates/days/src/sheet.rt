@@ -6,7 +6,7 @@ ghost use lib.ListN.{length, getD, take, drop};
 ghost use Rattle.sheets.specs.definitions.Layout.{MOST-CHOSEN};
 ghost use Rattle.sheets.specs.definitions.Sizes.{MOST-LINE-BYTES, MOST-CLOSING-BYTES};
 ghost use Rattle.cycles.specs.definitions.Readings.{lines};
-ghost use Rattle.cycles.specs.definitions.StateImage.{STATE};
+ghost use Rattle.senders.specs.definitions.StateImage.{STATE};
 ghost use Rattle.cycles.specs.contracts.HeaderReads.{NO-COLUMN};
 ghost use Rattle.days.specs.definitions.DaySheet.{line-feeds, sheet-size};
 ghost use Rattle.days.specs.contracts.Choosing.{NO-SPOT};
@@ -14,13 +14,13 @@ ghost use Rattle.days.specs.contracts.SheetMemory.{Line-end, Stepped, Da
 use crate::choosing::choose;
 use crate::choosing::read_chosen;
 use crate::choosing::real_cells;
-use crate::record::advance;
 use cycles::header::read_header;
-use cycles::is_state;
-use cycles::judge::Judgement;
 use cycles::layout::MOST_COLUMNS;
-use cycles::layout::STATE;
-use cycles::number;
+use senders::Judgement;
+use senders::advance;
+use senders::fingerprint::fingerprint;
+use senders::is_state;
+use senders::layout::STATE;
 use sheets::folded_values;
 use sheets::layout::MOST_CHOSEN;
 use sheets::layout::MOST_CLOSING_BYTES;
@@ -79,7 +79,7 @@ fn line_end(readings: &[u8], at: usize) -> usize
     i
 }
 
-// Takes a record: is it a new line? Any other leaves the state.
+// Takes a record: the number of a new line, or 0 for any other, which leaves the state.
 fn step(
     classes: &[u8],
     literals: &[u32],
@@ -90,7 +90,7 @@ fn step(
     width: usize,
     values: &[u8],
     state: &mut [u8],
-) -> bool
+) -> u32
     requires { ⌜ (width ≤ length (now columns)) × ((k : ℕ) → k < width → getD (now columns) k 0 < NO-COLUMN) ⌝ }
     requires { ⌜ STATE ≤ length (now state) ⌝ }
     ensures { λ r. ⌜
@@ -109,9 +109,9 @@ fn step(
         state,
     );
     match judgement {
-        Judgement::Refused(_) => false,
-        Judgement::New => true,
-        Judgement::Resent => false,
+        Judgement::Refused(_) => 0,
+        Judgement::New { place: _, number } => number,
+        Judgement::Resent(_) => 0,
     }
 }
 
@@ -144,7 +144,7 @@ fn put_day(
     let mut at = from;
     while at < readings.len() {
         let stop = line_end(readings, at);
-        let is_new = step(
+        let number = step(
             classes,
             literals,
             d,
@@ -156,11 +156,11 @@ fn put_day(
             state,
         );
         at = stop + 1;
-        if !is_new {
+        if number == 0 {
             continue;
         }
         let values = read_chosen(d, state, spots, count);
-        end = put_line(sheet, end, number(state) as u64, values, count);
+        end = put_line(sheet, end, number as u64, values, count);
         let more = folded_values(folds, values, count);
         folds = more;
     }
@@ -198,7 +198,7 @@ pub fn put_sheet(
         (now (refs .entry)) (now (scopes .entry)) (now (state .entry)) (now (readings .entry)) (now (cells .entry)) (now (sheet .entry))
         (now (sheet .exit)) r ⌝ }
 {
-    if !is_state(classes, d, state) {
+    if !is_state(classes, d, fingerprint(text), state) {
         return Sheeted::Refused(33);
     }
     let mut spots = [0u16; MOST_CHOSEN];

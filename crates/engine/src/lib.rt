@@ -13,8 +13,8 @@ use bench::text_of;
 use checking::layout::MOST_BYTES;
 use cycles::layout::MOST_ROW_BYTES;
 use cycles::layout::NUMBER_BYTES;
-use cycles::layout::STATE;
 use days::sheet::is_short;
+use senders::layout::STATE;
 use serve::Call;
 use serve::serve;
 use text::class_of_byte;
@@ -69,8 +69,8 @@ pub extern "C" fn state_fresh(bench: &[u8], state: &mut [u8]) -> u64
     )
 }
 
-// Takes one line, a header and a record: moves the state on and writes the line's row. A line that is sent again leaves the state and gives
-// its row again. 31, 32, 33, 22, 21, 23, 24, 25, or 0 with the row's length.
+// Takes one line, a header and a record: moves the state on and writes the row of the line's sender. A line that is sent again leaves the state and
+// gives its row again. 31, 32, 33, 22, 21, 43, 42, 23, 24, 25, or 0 with the row's length.
 #[no_mangle]
 pub extern "C" fn bench_line(
     bench: &[u8],
@@ -128,10 +128,10 @@ pub extern "C" fn bench_header(bench: &[u8], row: &mut [u8]) -> u64
     )
 }
 
-// Writes the row of the line that left the state: 31, 32, 33, or 0 with its length.
+// Writes the row that the state keeps for a sender: 31, 32, 33, 43, or 0 with its length.
 #[no_mangle]
-pub extern "C" fn bench_row(bench: &[u8], state: &[u8], row: &mut [u8]) -> u64
-    ensures { λ r. ⌜ Row-contract (now (bench .entry)) (now (state .entry)) (now (row .entry)) (now (row .exit)) r ⌝ }
+pub extern "C" fn bench_row(bench: &[u8], state: &[u8], sender: &[u8], row: &mut [u8]) -> u64
+    ensures { λ r. ⌜ Row-contract (now (bench .entry)) (now (state .entry)) (now (sender .entry)) (now (row .entry)) (now (row .exit)) r ⌝ }
 {
     if bench.len() < BENCH {
         return 31;
@@ -149,7 +149,7 @@ pub extern "C" fn bench_row(bench: &[u8], state: &[u8], row: &mut [u8]) -> u64
         text_of(bench),
         &mut none,
         state,
-        &nothing,
+        sender,
         &nothing,
         row,
     )

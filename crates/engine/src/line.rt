@@ -1,40 +1,22 @@
 // A line on a checked bench whose rules' names are resolved.
 ghost use Prim.Native.Nat.{ℕ, _≤_, _<_};
 ghost use lib.ListN.{length, getD};
-ghost use Rattle.cycles.specs.definitions.StateImage.{STATE};
 ghost use Rattle.cycles.specs.contracts.HeaderReads.{NO-COLUMN};
+ghost use Rattle.senders.specs.definitions.StateImage.{STATE};
 ghost use Rattle.engine.specs.definitions.Calls.{ROW};
-ghost use Rattle.engine.specs.contracts.LineMemory.{Shown, Record-taken, Line-taken};
-use checking::layout::ENTITY_COUNT_ROW;
-use checking::layout::MOST_ENTITIES;
+ghost use Rattle.engine.specs.contracts.LineMemory.{Record-taken, Line-taken};
 use cycles::header::read_header;
-use cycles::is_state;
-use cycles::judge::Judgement;
-use cycles::layout::BEFORE_NOW_CELLS;
 use cycles::layout::MOST_COLUMNS;
-use cycles::layout::NUMBER_BYTES;
-use cycles::number;
-use cycles::put_row;
-use days::record::advance;
+use senders::Judgement;
+use senders::advance;
+use senders::fingerprint::fingerprint;
+use senders::is_state;
+use senders::show_place;
 
 // What a line comes to: a refusal by its code, or the length of its row.
 pub enum Taken {
     Refused(u8),
     Row(usize),
-}
-
-// Writes the row of a state to the front and answers its length.
-pub fn show(classes: &[u8], d: &[u16], state: &[u8], row: &mut [u8]) -> usize
-    requires { ⌜ STATE ≤ length (now state) ⌝ }
-    requires { ⌜ ROW ≤ length (now row) ⌝ }
-    ensures { λ r. ⌜ Shown (now (classes .entry)) (now (d .entry)) (now (state .entry)) (now (row .entry)) (now (row .exit)) r ⌝ }
-{
-    let n = checking::row(d, ENTITY_COUNT_ROW);
-    if MOST_ENTITIES < n {
-        return 0;
-    }
-    let cells = NUMBER_BYTES + BEFORE_NOW_CELLS * n;
-    put_row(classes, d, number(state), &state[cells..], row)
 }
 
 // A record under a header that is read: `columns` has the numbers of its columns. The memory is a state.
@@ -70,8 +52,8 @@ pub fn take_record(
     );
     match judgement {
         Judgement::Refused(code) => Taken::Refused(code),
-        Judgement::Resent => Taken::Row(show(classes, d, state, row)),
-        Judgement::New => Taken::Row(show(classes, d, state, row)),
+        Judgement::New { place, number } => Taken::Row(show_place(classes, d, state, place, row)),
+        Judgement::Resent(place) => Taken::Row(show_place(classes, d, state, place, row)),
     }
 }
 
@@ -97,7 +79,7 @@ pub fn take_line(
         (now (refs .entry)) (now (scopes .entry)) (now (names .entry)) (now (values .entry)) (now (state .entry)) (now (row .entry)) (now (state .exit))
         (now (row .exit)) r ⌝ }
 {
-    if !is_state(classes, d, state) {
+    if !is_state(classes, d, fingerprint(text), state) {
         return Taken::Refused(33);
     }
     let mut columns = [0u16; MOST_COLUMNS];

@@ -12,7 +12,6 @@ ghost use Rattle.engine.specs.contracts.Serving.{SHORT-TEXT, Served, ser
 ghost use Rattle.engine.specs.definitions.Calls.{ROW};
 use crate::bench::put_bench;
 use crate::line::Taken;
-use crate::line::show;
 use crate::line::take_line;
 use checking::check::Checked;
 use checking::check::check;
@@ -21,12 +20,15 @@ use checking::layout::ALL_SCOPE_ROWS;
 use checking::layout::DIRECTORY;
 use checking::layout::MOST_BYTES;
 use checking::resolver::resolve;
-use cycles::is_state;
 use cycles::layout::MOST_ROW_BYTES;
-use cycles::put_fresh;
 use cycles::put_row_header;
 use days::sheet::Sheeted;
 use days::sheet::put_sheet;
+use senders::fingerprint::fingerprint;
+use senders::is_sender;
+use senders::is_state;
+use senders::put_fresh;
+use senders::show;
 
 // The answer of a call that is accepted and writes no row.
 const ACCEPTED: u64 = 0;
@@ -122,7 +124,16 @@ fn on_bench(
             ACCEPTED
         }
         Call::Fresh => {
-            put_fresh(text, classes, offsets, lengths, literals, d, state);
+            put_fresh(
+                text,
+                classes,
+                offsets,
+                lengths,
+                literals,
+                d,
+                fingerprint(text),
+                state,
+            );
             ACCEPTED
         }
         Call::Line => {
@@ -144,10 +155,13 @@ fn on_bench(
         }
         Call::Header => row_answer(put_row_header(text, classes, offsets, lengths, d, out)),
         Call::Row => {
-            if !is_state(classes, d, shown) {
+            if !is_state(classes, d, fingerprint(text), shown) {
                 return 33;
             }
-            row_answer(show(classes, d, shown, out))
+            if !is_sender(names) {
+                return 43;
+            }
+            row_answer(show(classes, d, shown, names, out))
         }
         Call::Sheet => {
             resolve(text, classes, offsets, lengths, d, refs, scopes);

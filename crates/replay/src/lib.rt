@@ -10,17 +10,18 @@ ghost use lib.ListN.{length};
 ghost use Rattle.text.specs.contracts.TokenTable.{columns-of};
 ghost use Rattle.checking.specs.contracts.CheckedBench.{has-room};
 ghost use Rattle.checking.specs.contracts.Resolution.{ALL-SCOPE-ROWS};
-ghost use Rattle.cycles.specs.definitions.StateImage.{STATE};
+ghost use Rattle.senders.specs.definitions.StateImage.{STATE};
 ghost use Rattle.replay.specs.contracts.Awaiting.{bench-memory};
 ghost use Rattle.replay.specs.contracts.Feeding.{ROOM, Lent, Fed, Finished, Starts, is-over, is-closed};
 use checking::check::Checked;
 use checking::check::check;
 use checking::resolver::resolve;
 use cycles::layout::MOST_ROW_BYTES;
-use cycles::put_fresh;
 use gathering::gather;
 use rows::put_bench_refusal;
 use rows::put_line;
+use senders::fingerprint::fingerprint;
+use senders::put_fresh;
 
 // The most bytes of a row with its line feed.
 const ROOM: usize = MOST_ROW_BYTES + 1;
@@ -84,7 +85,16 @@ pub fn start(
         }
         Checked::Accepted(n) => {
             resolve(text, &classes[0..n], offsets, lengths, d, refs, scopes);
-            put_fresh(text, &classes[0..n], offsets, lengths, literals, d, state);
+            put_fresh(
+                text,
+                &classes[0..n],
+                offsets,
+                lengths,
+                literals,
+                d,
+                fingerprint(text),
+                state,
+            );
             Begun {
                 rows: n,
                 stage: Stage::Names,

@@ -4,7 +4,7 @@ ghost use Prim.Native.Nat.{_+_, _≤_};
 ghost use mathlib.Core.List.{[], _∷_, _++_};
 ghost use lib.ListN.{length};
 ghost use Rattle.cycles.specs.contracts.HeaderReads.{MOST-COLUMNS};
-ghost use Rattle.cycles.specs.definitions.StateImage.{STATE};
+ghost use Rattle.senders.specs.definitions.StateImage.{STATE};
 ghost use Rattle.values.specs.contracts.Puts.{Put};
 ghost use Rattle.replay.specs.definitions.Replay.{refusal, bench-refusal};
 ghost use Rattle.replay.specs.contracts.Awaiting.{bench-memory, Stood};

@@ -6,7 +6,7 @@ ghost use Prim.Native.Nat.{_≤_};
 ghost use lib.ListN.{length};
 ghost use Rattle.io.specs.Counts.{Counts};
 ghost use Rattle.cycles.specs.contracts.HeaderReads.{MOST-COLUMNS};
-ghost use Rattle.cycles.specs.definitions.StateImage.{STATE};
+ghost use Rattle.senders.specs.definitions.StateImage.{STATE};
 ghost use Rattle.replay.specs.contracts.Awaiting.{bench-memory, Stood};
 ghost use Rattle.replay.specs.contracts.Feeding.{ROOM, Lent};
 ghost use Rattle.runner.specs.contracts.Passing.{Passed, File-passed};
@@ -15,13 +15,13 @@ use checking::layout::DIRECTORY;
 use checking::layout::MOST_BYTES;
 use cycles::layout::MOST_COLUMNS;
 use cycles::layout::MOST_HEADER_BYTES;
-use cycles::layout::STATE;
 use libc::STDOUT_FILENO;
 use replay::Stage;
 use replay::feed;
 use replay::finish;
 use replay::is_closed;
 use replay::start;
+use senders::layout::STATE;
 
 // One byte more than a line of names may have, and than a bench: so it shows that one is too long.
 const LINE: usize = MOST_HEADER_BYTES + 1;

@@ -42,6 +42,8 @@ mod c {
             bench_length: usize,
             state: *const u8,
             state_length: usize,
+            sender: *const u8,
+            sender_length: usize,
             row: *mut u8,
             row_length: usize,
         ) -> u64;
@@ -92,8 +94,10 @@ pub fn bench_header(bench: &[u8], row: &mut [u8]) -> u64 {
     unsafe { c::bench_header(bench.as_ptr(), bench.len(), row.as_mut_ptr(), row.len()) }
 }
 
-pub fn bench_row(bench: &[u8], state: &[u8], row: &mut [u8]) -> u64 {
-    unsafe { c::bench_row(bench.as_ptr(), bench.len(), state.as_ptr(), state.len(), row.as_mut_ptr(), row.len()) }
+pub fn bench_row(bench: &[u8], state: &[u8], sender: &[u8], row: &mut [u8]) -> u64 {
+    unsafe {
+        c::bench_row(bench.as_ptr(), bench.len(), state.as_ptr(), state.len(), sender.as_ptr(), sender.len(), row.as_mut_ptr(), row.len())
+    }
 }
 
 pub fn bench_sheet(bench: &[u8], state: &[u8], readings: &[u8], cells: &[u8], sheet: &mut [u8]) -> u64 {

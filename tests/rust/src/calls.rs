@@ -5,6 +5,7 @@ use crate::image::{self, sheet_size, BENCH_SIZE, ROW_SIZE, STATE_SIZE};
 use crate::interpreter::grammar::Bench;
 use crate::interpreter::line::{self, Taken};
 use crate::interpreter::machine::{self, State};
+use crate::interpreter::text::name_form;
 use crate::interpreter::{accept, row as rows, sheet as sheets};
 
 /// The number in the low 8 bits, the offset or length above.
@@ -29,7 +30,7 @@ pub fn state_fresh(bench: &[u8], state: &mut [u8]) -> u64 {
     }
     let Some(bench) = checked(bench) else { return answer(32, 0) };
     let fresh = machine::fresh(&bench).expect("the machine never stops on an accepted bench");
-    image::encode_state(&fresh, state);
+    image::encode_state(&bench, &fresh, state);
     answer(0, 0)
 }
 
@@ -44,10 +45,10 @@ pub fn bench_line(bench: &[u8], state: &mut [u8], names: &[u8], values: &[u8], r
     match line::take(&bench, &before, names, values) {
         Err(number) => answer(number, 0),
         // A line sent again leaves the state's memory alone.
-        Ok(Taken::Resent) => write(&rows::row(&bench, &before), row),
-        Ok(Taken::Next(next)) => {
-            image::encode_state(&next, state);
-            write(&rows::row(&bench, &next), row)
+        Ok(Taken::Resent(sender)) => write(&rows::row(&bench, &before.senders[sender]), row),
+        Ok(Taken::Next(next, sender)) => {
+            image::encode_state(&bench, &next, state);
+            write(&rows::row(&bench, &next.senders[sender]), row)
         }
     }
 }
@@ -62,13 +63,14 @@ pub fn bench_header(bench: &[u8], row: &mut [u8]) -> u64 {
     }
 }
 
-pub fn bench_row(bench: &[u8], state: &[u8], row: &mut [u8]) -> u64 {
+pub fn bench_row(bench: &[u8], state: &[u8], sender: &[u8], row: &mut [u8]) -> u64 {
     if bench.len() < BENCH_SIZE || state.len() < STATE_SIZE || row.len() < ROW_SIZE {
         return answer(31, 0);
     }
     match checked_state(bench, state) {
         Err(number) => answer(number, 0),
-        Ok((bench, state)) => write(&rows::row(&bench, &state), row),
+        Ok(_) if !name_form(sender) => answer(43, 0),
+        Ok((bench, state)) => write(&rows::row_of(&bench, &state, sender), row),
     }
 }
 

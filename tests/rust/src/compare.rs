@@ -4,6 +4,7 @@ use crate::generate::case::{Call, Case, Lent, Step};
 use crate::image::{BENCH_SIZE, ROW_SIZE, STATE_SIZE};
 use crate::interpreter::bytes::byte_class;
 use crate::memory::{Memory, Side, Tally, OURS};
+use crate::resent::Rows;
 use crate::show::show_bytes;
 use crate::{archive, interpreter};
 
@@ -35,13 +36,15 @@ pub struct Sides {
     ours: Memory,
     theirs: Memory,
     steps: usize,
-    pub tally: Tally,
+    /// What the engine's lines gave.
+    rows: Rows,
+    tally: Tally,
 }
 
 impl Sides {
     pub fn new(text: &[u8], fill: u64) -> Sides {
         let memory = Memory::new(fill);
-        Sides { text: text.to_vec(), ours: memory.clone(), theirs: memory, steps: 0, tally: Tally::default() }
+        Sides { text: text.to_vec(), ours: memory.clone(), theirs: memory, steps: 0, rows: Rows::default(), tally: Tally::default() }
     }
 
     /// The engine's state memory.
@@ -66,18 +69,23 @@ impl Sides {
         let theirs = THEIRS.answer(&text, &lent_step, &mut self.theirs);
         assert_eq!(interpreter::texts_read(), texts_read, "the engine's calls end in the interpreter: it is compared with itself");
         let fault = if text != self.text || lent_step != *step {
-            Some("text, names, values, readings or cells were written to")
+            Some("text, names, values, sender, readings or cells were written to")
         } else if ours != theirs {
             Some("the answers differ")
         } else {
-            self.fault(&before, step, theirs)
+            self.fault(&before, step, theirs).or_else(|| self.rows.follow(step, theirs, &before, &self.theirs))
         };
         if let Some(what) = fault {
             return Err(Box::new(self.mismatch(step, what, ours, theirs)));
         }
         self.steps += 1;
-        self.tally.count(&self.text, step, theirs, &self.theirs);
+        self.tally.count(&self.text, step, theirs, &before, &self.theirs);
         Ok(theirs)
+    }
+
+    /// What the steps so far were.
+    pub fn tally(self) -> Tally {
+        Tally { resent: self.rows.seen, ..self.tally }
     }
 
     /// What is wrong with the memory after a call, if anything.
@@ -133,7 +141,7 @@ pub fn run(case: &Case) -> Result<Tally, Box<Mismatch>> {
     for step in &case.steps {
         sides.step(step)?;
     }
-    Ok(sides.tally)
+    Ok(sides.tally())
 }
 
 /// The bytes whose classes differ, each with the interpreter's class and the engine's.
@@ -156,7 +164,7 @@ pub fn show_step(step: &Step) -> String {
         Call::Check => "bench_check".to_string(),
         Call::Fresh => "state_fresh".to_string(),
         Call::Header => "bench_header".to_string(),
-        Call::Row => "bench_row".to_string(),
+        Call::Row { sender } => format!("bench_row [{}]", show_bytes(sender)),
         Call::Line { names, values } => format!("bench_line [{}] [{}]", show_bytes(names), show_bytes(values)),
         Call::Sheet { readings, cells, .. } => {
             format!("bench_sheet [{}] [{}] for a sheet of {} bytes", show_bytes(readings), show_bytes(cells), step.lent_sheet())

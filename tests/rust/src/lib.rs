@@ -1,4 +1,4 @@
-//! A second interpreter of the Pantagruel bench engine, written from document 01 and orders 1 to 4 of document 02 alone, and the means
+//! A second interpreter of the Pantagruel bench engine, written from document 01 and orders 1 to 5 of document 02 alone, and the means
 //! to compare it with the engine.
 //!
 //! What needs the engine's archive exists only with it: the interpreter is never compared with itself.
@@ -15,7 +15,9 @@ pub mod memory;
 pub mod options;
 pub mod places;
 pub mod replay;
+pub mod resent;
 pub mod runner;
+pub mod senders;
 pub mod sheets;
 pub mod show;
 #[cfg(feature = "archive")]

@@ -2,9 +2,11 @@
 
 use second::compare::{self, Mismatch};
 use second::generate::{self, case::Case};
+use second::interpreter::line::SENDERS_MOST;
 use second::memory::Tally;
 use second::options::{Options, USAGE};
 use second::places::coverage::place_name;
+use second::resent::Seen;
 use second::two_runs::{self, Verdict};
 use second::{archive, shrink};
 use std::env;
@@ -12,10 +14,12 @@ use std::process::ExitCode;
 
 /// One case in so many tries the promise about two runs.
 const TWO_RUNS_EVERY: u64 = 6;
+/// In one case of so many every sender's last line is sent again after each step.
+const AGAIN_EVERY: u64 = 10;
 /// Only the first failing cases are shown.
 const SHOWN_MOST: u64 = 3;
 /// Every number that the table knows, and acceptance.
-const NUMBERS: [u8; 17] = [0, 11, 12, 13, 14, 15, 16, 17, 18, 21, 22, 23, 24, 25, 31, 32, 33];
+const NUMBERS: [u8; 19] = [0, 11, 12, 13, 14, 15, 16, 17, 18, 21, 22, 23, 24, 25, 31, 32, 33, 42, 43];
 
 /// What all cases showed.
 #[derive(Default)]
@@ -29,7 +33,13 @@ struct Report {
     proper_and_fired: u64,
     proper_fired_differing: u64,
     proper_joining_differing: u64,
+    proper_late_differing: u64,
     pairs: u64,
+    /// Pairs of lines sent again, and those after new lines of others.
+    again: u64,
+    late: u64,
+    /// Trials with eight senders.
+    eight: u64,
     /// Bytes whose classes differ.
     other_classes: u64,
     /// Texts with one byte at one kind of place, and those of them that are checked otherwise.
@@ -77,7 +87,7 @@ impl Report {
 
     fn case(&mut self, seed: u64, number: u64) {
         let ran = if number % TWO_RUNS_EVERY == TWO_RUNS_EVERY - 1 { self.two_runs(seed, number) } else { self.one_run(seed, number) };
-        let passed = self.put_in(seed, number) && ran;
+        let passed = self.put_in(seed, number) && self.spoilt(seed, number) && ran;
         self.passed += u64::from(passed);
         self.failed += u64::from(!passed);
     }
@@ -94,8 +104,23 @@ impl Report {
         }
     }
 
+    /// A state with one part spoilt. It counts for that alone.
+    fn spoilt(&mut self, seed: u64, number: u64) -> bool {
+        let case = generate::spoils::case(seed, number);
+        match compare::run(&case) {
+            Ok(tally) => {
+                self.tally.senders.add(&tally.senders);
+                true
+            }
+            Err(mismatch) => self.show(number, &case, &mismatch),
+        }
+    }
+
     fn one_run(&mut self, seed: u64, number: u64) -> bool {
-        let case = generate::case(seed, number);
+        let mut case = generate::case(seed, number);
+        if number.is_multiple_of(AGAIN_EVERY) {
+            generate::agains::put_in(&mut case);
+        }
         match compare::run(&case) {
             Ok(tally) => {
                 self.tally.add(&tally);
@@ -116,6 +141,10 @@ impl Report {
                 self.proper_and_fired += u64::from(shown.proper && shown.fired);
                 self.proper_fired_differing += u64::from(shown.proper && shown.fired && shown.differing);
                 self.proper_joining_differing += u64::from(shown.proper && shown.fired_joining && shown.differing);
+                self.proper_late_differing += u64::from(shown.proper && shown.fired_late && shown.differing);
+                self.again += shown.again;
+                self.late += shown.late;
+                self.eight += u64::from(shown.senders == SENDERS_MOST);
                 true
             }
             Verdict::Parts(case, mismatch) => self.show(number, &case, &mismatch),
@@ -154,10 +183,21 @@ impl Report {
         println!("answers: {}", counts.join(", "));
         self.tally.places.print();
         self.tally.sheets.print();
+        self.tally.senders.print();
+        let Seen { again, late, asked } = self.tally.resent;
+        println!("{again} lines sent again that were taken in the same run, {late} of them after lines of others; {asked} rows of such asked for");
         println!(
-            "two runs: {} trials ({} void), {} pairs of accepted lines; {} with a nonempty proper closed set, {} of these with a fired action of the set, {} of these with other readings elsewhere, {} of these with an action fired in a line in which an entity of the set comes",
-            self.trials, self.void, self.pairs, self.proper, self.proper_and_fired, self.proper_fired_differing, self.proper_joining_differing
+            "two runs: {} trials ({} void), {} pairs of accepted lines; {} with a nonempty proper closed set, {} of these with a fired action of the set, {} of these with other readings elsewhere, {} of these with an action fired in a line in which an entity of the set comes, {} with one given again after lines of others",
+            self.trials,
+            self.void,
+            self.pairs,
+            self.proper,
+            self.proper_and_fired,
+            self.proper_fired_differing,
+            self.proper_joining_differing,
+            self.proper_late_differing
         );
+        println!("{} pairs sent again, {} of them after lines of others; {} trials with eight senders", self.again, self.late, self.eight);
     }
 
     fn count(&self, number: u8) -> u64 {
@@ -172,7 +212,8 @@ impl Report {
             println!("answer {number} came up less than {least} times");
             complete = false;
         }
-        for lack in self.tally.places.lacking(least).into_iter().chain(self.tally.sheets.lacking(least)) {
+        let Tally { places, sheets, senders, .. } = &self.tally;
+        for lack in [places.lacking(least), sheets.lacking(least), senders.lacking(least)].concat() {
             println!("{lack}");
             complete = false;
         }
@@ -182,6 +223,14 @@ impl Report {
         }
         if self.proper_joining_differing < (cases / 200).max(1) {
             println!("too few of such trials had an action of the set fired in a line in which an entity of the set comes");
+            complete = false;
+        }
+        if self.proper_late_differing < (cases / 200).max(1) {
+            println!("too few of such trials had an action of the set given again after lines of others");
+            complete = false;
+        }
+        if self.tally.resent.late < (cases / 10).max(1) || self.eight < (cases / 200).max(1) {
+            println!("too few lines were sent again after lines of others, or too few trials of two runs had eight senders");
             complete = false;
         }
         complete

@@ -5,6 +5,8 @@ use crate::generate::case::{Call, Case, Lent, Step, LONGER_MOST};
 use crate::generate::prng::Prng;
 use crate::image::{BENCH_SIZE, ROW_SIZE, STATE_SIZE};
 use crate::places::coverage::Coverage as Places;
+use crate::resent;
+use crate::senders::coverage::Coverage as Senders;
 use crate::sheets::coverage::Coverage as Sheets;
 use std::collections::BTreeMap;
 
@@ -40,6 +42,9 @@ impl Memory {
 /// Bench, state, names, values, row.
 type LineCall = fn(&[u8], &mut [u8], &[u8], &[u8], &mut [u8]) -> u64;
 
+/// Bench, state, sender, row.
+type RowCall = fn(&[u8], &[u8], &[u8], &mut [u8]) -> u64;
+
 /// Bench, state, readings, cells, sheet.
 type SheetCall = fn(&[u8], &[u8], &[u8], &[u8], &mut [u8]) -> u64;
 
@@ -49,7 +54,7 @@ pub struct Side {
     pub fresh: fn(&[u8], &mut [u8]) -> u64,
     pub line: LineCall,
     pub header: fn(&[u8], &mut [u8]) -> u64,
-    pub row: fn(&[u8], &[u8], &mut [u8]) -> u64,
+    pub row: RowCall,
     pub sheet: SheetCall,
 }
 
@@ -72,7 +77,7 @@ impl Side {
             Call::Check => Some((self.check)(text, bench)),
             Call::Fresh => Some((self.fresh)(bench, state)),
             Call::Header => Some((self.header)(bench, row)),
-            Call::Row => Some((self.row)(bench, state, row)),
+            Call::Row { sender } => Some((self.row)(bench, state, sender, row)),
             Call::Line { names, values } => Some((self.line)(bench, state, names, values, row)),
             Call::Sheet { readings, cells, .. } => {
                 Some((self.sheet)(bench, state, readings, cells, &mut memory.sheet[..step.lent_sheet()]))
@@ -97,6 +102,8 @@ pub struct Tally {
     /// Accepted lines that gave some fired action.
     pub fired: u64,
     pub sheets: Sheets,
+    pub senders: Senders,
+    pub resent: resent::Seen,
     /// Of the texts that were checked.
     pub places: Places,
 }
@@ -109,19 +116,22 @@ impl Tally {
         self.calls += other.calls;
         self.fired += other.fired;
         self.sheets.add(&other.sheets);
+        self.senders.add(&other.senders);
+        self.resent.add(other.resent);
         self.places.add(&other.places);
     }
 
-    /// Counts one step and its answer, with the bench text and the memory after it.
-    pub fn count(&mut self, text: &[u8], step: &Step, answer: Option<u64>, memory: &Memory) {
-        let Some(answer) = answer else { return };
+    /// Counts one step and its answer, with the bench text and the memory before and after it.
+    pub fn count(&mut self, text: &[u8], step: &Step, answer: Option<u64>, before: &Memory, after: &Memory) {
+        let Some(answer) = answer else { return self.senders.written(step, before, after) };
         if matches!(step.call, Call::Check) {
             self.places.take(text, answer);
         }
         if matches!(step.call, Call::Sheet { .. }) {
-            return self.sheets.take(step, answer, memory);
+            return self.sheets.take(step, answer, after);
         }
-        let row = &memory.row;
+        self.senders.take(step, answer, before);
+        let row = &after.row;
         self.calls += 1;
         *self.answers.entry((answer & 255) as u8).or_default() += 1;
         if matches!(step.call, Call::Line { .. }) && answer & 255 == 0 && fires(&row[..(answer >> 8) as usize]) {
@@ -132,17 +142,21 @@ impl Tally {
 
 /// Whether a row has a fired action.
 fn fires(row: &[u8]) -> bool {
-    row.split(|&byte| byte == b' ').skip(1).any(|field| field != b"-")
+    row.split(|&byte| byte == b' ').skip(2).any(|field| field != b"-")
 }
 
 /// What the interpreter alone answers to a case: no comparison, but it shows what a case is good for.
 pub fn answers(case: &Case) -> Tally {
     let mut memory = Memory::new(case.fill);
     let mut tally = Tally::default();
+    let mut rows = resent::Rows::default();
     for step in &case.steps {
         memory.lend_sheet(step);
+        let before = memory.clone();
         let answer = OURS.answer(&case.text, step, &mut memory);
-        tally.count(&case.text, step, answer, &memory);
+        tally.count(&case.text, step, answer, &before, &memory);
+        assert_eq!(rows.follow(step, answer, &before, &memory), None);
     }
+    tally.resent = rows.seen;
     tally
 }

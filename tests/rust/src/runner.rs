@@ -26,15 +26,15 @@ pub fn run(bench: &[u8], readings: &[u8], out: &mut impl Write) -> io::Result<()
 }
 
 fn run_line(bench: &Bench, state: State, columns: &[Column], values: &[u8], out: &mut impl Write) -> io::Result<State> {
-    let state = match line::take_values(bench, &state, columns, values) {
+    let (state, sender) = match line::take_values(bench, &state, columns, values) {
         Err(number) => {
             writeln!(out, "refused {number}")?;
             return Ok(state);
         }
-        Ok(Taken::Resent) => state,
-        Ok(Taken::Next(next)) => next,
+        Ok(Taken::Resent(sender)) => (state, sender),
+        Ok(Taken::Next(next, sender)) => (next, sender),
     };
-    print(out, &rows::row(bench, &state))?;
+    print(out, &rows::row(bench, &state.senders[sender]))?;
     Ok(state)
 }
 

@@ -2,6 +2,7 @@
 
 use crate::compare::{self, Mismatch};
 use crate::generate::case::{Call, Case, Step, EXACT};
+use crate::image::fingerprint;
 use crate::interpreter::line;
 use crate::thin::{smaller_text, thin};
 use std::time::{Duration, Instant};
@@ -19,9 +20,9 @@ pub fn shrink(case: &Case) -> Option<(Case, Box<Mismatch>)> {
         let mut still = |case: &Case| Instant::now() < deadline && compare::run(case).is_err();
         fewer_steps(&mut best, &mut still);
         plain_sizes(&mut best, &mut still);
-        let steps = best.steps.clone();
-        let fill = best.fill;
-        best.text = smaller_text(&best.text, &mut |text| still(&Case { text: text.to_vec(), fill, steps: steps.clone() }));
+        let longer = best.clone();
+        let text = smaller_text(&best.text, &mut |text| still(&with_text(&longer, text)));
+        best = with_text(&longer, &text);
         fewer_columns(&mut best, &mut still);
         smaller_sheets(&mut best, &mut still);
         found = compare::run(&best).err()?;
@@ -31,24 +32,41 @@ pub fn shrink(case: &Case) -> Option<(Case, Box<Mismatch>)> {
     }
 }
 
+/// The case with another text. States that are written for the old one are written for the new.
+fn with_text(case: &Case, text: &[u8]) -> Case {
+    let mut changed = Case { text: text.to_vec(), ..case.clone() };
+    for step in &mut changed.steps {
+        if let Call::SetState { at: 0, bytes } = &mut step.call {
+            if bytes.starts_with(&fingerprint(&case.text).to_le_bytes()) {
+                bytes[..4].copy_from_slice(&fingerprint(text).to_le_bytes());
+            }
+        }
+    }
+    changed
+}
+
 fn fewer_steps(case: &mut Case, still: &mut dyn FnMut(&Case) -> bool) {
     let (text, fill) = (case.text.clone(), case.fill);
     case.steps = thin(case.steps.clone(), &mut |steps| still(&Case { text: text.clone(), fill, steps: steps.to_vec() }));
-    // A line between others can go only if those after it count one less.
+    // A line between others can go only if those of its sender after it count one less.
     for at in (0..case.steps.len()).rev() {
         let mut fewer = case.clone();
-        fewer.steps.remove(at);
-        fewer.steps[at..].iter_mut().for_each(count_one_less);
+        let Call::Line { values, .. } = fewer.steps.remove(at).call else { continue };
+        fewer.steps[at..].iter_mut().for_each(|step| count_one_less(step, sender(&values)));
         if still(&fewer) {
             *case = fewer;
         }
     }
 }
 
-fn count_one_less(step: &mut Step) {
+fn sender(values: &[u8]) -> &[u8] {
+    values.split(|&byte| byte == b' ').next().unwrap_or(b"")
+}
+
+fn count_one_less(step: &mut Step, sender: &[u8]) {
     match &mut step.call {
-        Call::Line { values, .. } => one_less(values),
-        Call::Sheet { readings, .. } => each_line(readings, 1, one_less),
+        Call::Line { values, .. } => one_less(values, sender),
+        Call::Sheet { readings, .. } => each_line(readings, 1, |values| one_less(values, sender)),
         _ => {}
     }
 }
@@ -64,11 +82,13 @@ fn split(text: &[u8], separator: u8) -> Vec<Vec<u8>> {
     text.split(|&byte| byte == separator).map(<[u8]>::to_vec).collect()
 }
 
-fn one_less(values: &mut Vec<u8>) {
-    let end = values.iter().position(|&byte| byte == b' ').unwrap_or(values.len());
-    let number = std::str::from_utf8(&values[..end]).ok().and_then(|number| number.parse::<u64>().ok());
-    if let Some(number) = number.filter(|&number| number > 0) {
-        values.splice(..end, (number - 1).to_string().into_bytes());
+/// Lessens the number of a line of this sender.
+fn one_less(values: &mut Vec<u8>, by: &[u8]) {
+    let mut fields = split(values, b' ');
+    let number = fields.get(1).and_then(|field| std::str::from_utf8(field).ok()).and_then(|number| number.parse::<u64>().ok());
+    if let Some(number) = number.filter(|&number| number > 0 && sender(values) == by) {
+        fields[1] = (number - 1).to_string().into_bytes();
+        *values = fields.join(&b' ');
     }
 }
 
@@ -88,7 +108,8 @@ fn plain_sizes(case: &mut Case, still: &mut dyn FnMut(&Case) -> bool) {
 /// Drops a column of one line at a time, or of all lines with the same names.
 fn fewer_columns(case: &mut Case, still: &mut dyn FnMut(&Case) -> bool) {
     let widest = case.steps.iter().map(|step| columns(&step.call)).max().unwrap_or(0);
-    for column in (1..widest).rev() {
+    // The first two are `by` and `n`, sender and number.
+    for column in (2..widest).rev() {
         for only in std::iter::once(None).chain((0..case.steps.len()).map(Some)) {
             let mut fewer = case.clone();
             for (at, step) in fewer.steps.iter_mut().enumerate() {
@@ -149,13 +170,13 @@ fn smaller_sheets(case: &mut Case, still: &mut dyn FnMut(&Case) -> bool) {
     }
 }
 
-/// Drops lines of values; those after one that goes count one less, if that keeps the mismatch.
+/// Drops lines of values; those of its sender after one that goes count one less, if that keeps the mismatch.
 fn fewer_lines(lines: Vec<Vec<u8>>, still: &mut dyn FnMut(&[Vec<u8>]) -> bool) -> Vec<Vec<u8>> {
     let mut lines = thin(lines, still);
     for at in (1..lines.len()).rev() {
         let mut fewer = lines.clone();
-        fewer.remove(at);
-        fewer[at..].iter_mut().for_each(one_less);
+        let gone = fewer.remove(at);
+        fewer[at..].iter_mut().for_each(|line| one_less(line, sender(&gone)));
         if still(&fewer) {
             lines = fewer;
         }

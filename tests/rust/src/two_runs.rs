@@ -1,5 +1,5 @@
-//! The promise about two runs: on a closed set of entities, the same readings give the same values and fired actions, whatever is read
-//! elsewhere and whatever calls are refused in between.
+//! The promise about two runs: on a closed set of entities, the same readings by the same senders give the same values and fired actions,
+//! whatever is read elsewhere and whatever calls are refused in between. The fired actions are those that each line gives, or gives again.
 
 use crate::calls::answer;
 use crate::compare::{show_step, Mismatch, Sides};
@@ -7,10 +7,12 @@ use crate::generate::bench::{self, Plan, LOOSE, SMALL};
 use crate::generate::case::{Call, Case, Step, EXACT};
 use crate::generate::lines::{self, Column, Line};
 use crate::generate::prng::Prng;
+use crate::generate::senders;
 use crate::image;
 use crate::interpreter::accept;
 use crate::interpreter::grammar::{Bench, Filter, Rule, Sort, Sum, Test};
-use crate::interpreter::machine::{Reading, State, Store};
+use crate::interpreter::line::SENDERS_MOST;
+use crate::interpreter::machine::{Reading, Readings, State, Store};
 use crate::interpreter::value::{Cell, Value};
 use crate::memory::Tally;
 use crate::show::show_bytes;
@@ -18,6 +20,8 @@ use crate::thin;
 
 /// In so many of a hundred lines an entity of the set comes with its readings, or goes so that it can come later.
 const SWITCH_PERCENT: usize = 30;
+/// So many of a hundred pairs are lines sent again.
+const AGAIN_PERCENT: usize = 25;
 
 /// Names and values of one call.
 type Lent = (Vec<u8>, Vec<u8>);
@@ -41,7 +45,7 @@ pub struct Trial {
 
 /// What a trial showed.
 pub enum Verdict {
-    Holds(Shown),
+    Holds(Box<Shown>),
     /// The two runs part on the set.
     Fails(String),
     /// The engine and the interpreter part in one run.
@@ -62,6 +66,12 @@ pub struct Shown {
     /// Readings outside the set differed.
     pub differing: bool,
     pub pairs: u64,
+    /// Pairs of lines sent again, and those of them that come after new lines of others.
+    pub again: u64,
+    pub late: u64,
+    /// One of the latter gave a fired action of the set again.
+    pub fired_late: bool,
+    pub senders: usize,
 }
 
 // Closed sets.
@@ -173,6 +183,14 @@ pub fn trial(seed: u64, number: u64) -> Trial {
     }
 }
 
+/// A sender, known or not, and its last line in each run.
+#[derive(Clone, Debug)]
+struct Sending {
+    name: Vec<u8>,
+    number: u64,
+    last: [Line; 2],
+}
+
 /// Two runs in the making.
 struct Maker<'p> {
     plan: &'p Plan,
@@ -180,8 +198,7 @@ struct Maker<'p> {
     set_columns: Vec<Column>,
     other_columns: [Vec<Column>; 2],
     present: [Vec<bool>; 2],
-    last: [Line; 2],
-    number: u64,
+    senders: Vec<Sending>,
 }
 
 impl<'p> Maker<'p> {
@@ -194,28 +211,57 @@ impl<'p> Maker<'p> {
         let set_columns = part(true);
         let other_columns = [part(false), part(false)];
         let present = vec![true; set.len()];
-        Maker { plan, set, set_columns, other_columns, present: [present.clone(), present], last: Default::default(), number: 0 }
+        let count = senders::count(prng);
+        let sending = |name| Sending { name, number: 0, last: Default::default() };
+        let senders = senders::some(prng, plan, count).into_iter().map(sending).collect();
+        Maker { plan, set, set_columns, other_columns, present: [present.clone(), present], senders }
     }
 
     fn events(&mut self, prng: &mut Prng) -> Vec<Event> {
         let mut events = Vec::new();
-        for _ in 0..prng.between(3, 12) {
+        for _ in 0..prng.between(3, 12) + self.senders.len() {
             if prng.chance(25) {
                 events.push(self.aside(prng));
             }
-            events.push(if self.number > 0 && prng.chance(12) { self.resent(prng) } else { self.next(prng) });
+            let known = self.known();
+            let again = !known.is_empty() && prng.chance(AGAIN_PERCENT);
+            events.push(if again {
+                let sender = *prng.pick(&known);
+                self.pair(prng, sender)
+            } else {
+                self.next(prng)
+            });
         }
+        // However long ago a sender sent last.
+        let mut known = self.known();
+        prng.shuffle(&mut known);
+        events.extend(known.into_iter().map(|sender| self.pair(prng, sender)));
         events
     }
 
-    fn lent(&self, prng: &mut Prng, run: usize) -> Lent {
-        // Another form of the same readings, so that even the names differ between the runs.
-        let line = lines::same_readings(prng, self.plan, &self.last[run]);
-        (line.names(self.plan), line.values(self.number))
+    fn known(&self) -> Vec<usize> {
+        (0..self.senders.len()).filter(|&sender| self.senders[sender].number > 0).collect()
     }
 
-    fn resent(&self, prng: &mut Prng) -> Event {
-        Event::Pair([self.lent(prng, 0), self.lent(prng, 1)])
+    /// A sender's last line in both runs.
+    fn pair(&self, prng: &mut Prng, sender: usize) -> Event {
+        let Sending { name, number, last } = &self.senders[sender];
+        let mut lent = |run: usize| {
+            // Another form of the same readings, so that even the names differ between the runs.
+            let line = lines::same_readings(prng, self.plan, &last[run]);
+            (line.names(self.plan), line.values(name, *number))
+        };
+        Event::Pair([lent(0), lent(1)])
+    }
+
+    /// Who sends a new line: anybody, as long as not too many are known.
+    fn sender(&self, prng: &mut Prng) -> usize {
+        let known = self.known();
+        let sender = prng.below(self.senders.len());
+        if known.len() == SENDERS_MOST && !known.contains(&sender) {
+            return *prng.pick(&known);
+        }
+        sender
     }
 
     /// An entity of the set for the next line to switch, now and then; then its columns are there.
@@ -235,27 +281,36 @@ impl<'p> Maker<'p> {
         for entity in (0..self.set.len()).filter(|&entity| self.set[entity]) {
             self.present[1][entity] = self.present[0][entity];
         }
+        let sender = self.sender(prng);
         for run in 0..2 {
             let mut line = lines::line(prng, self.plan, &self.other_columns[run], &mut self.present[run]);
             line.columns.extend(shared.columns.iter());
             line.fields.extend(shared.fields.iter().cloned());
-            self.last[run] = line;
+            self.senders[sender].last[run] = line;
         }
-        self.number += 1;
-        Event::Pair([self.lent(prng, 0), self.lent(prng, 1)])
+        self.senders[sender].number += 1;
+        self.pair(prng, sender)
     }
 
-    /// A call that is refused whatever the bench is.
+    /// A call in one run that is refused whatever the bench is.
     fn aside(&self, prng: &mut Prng) -> Event {
-        let names = b"n".to_vec();
-        let lent = match prng.below(5) {
-            0 => (names, b"0".to_vec()),
-            1 => (names, (self.number + 2).to_string().into_bytes()),
-            2 => (names, b"01".to_vec()),
-            3 => (b"n n. ".to_vec(), (self.number + 1).to_string().into_bytes()),
-            _ => (self.last[0].names(self.plan), prng.bytes(9)),
+        let run = prng.below(2);
+        let Sending { name, number, last } = prng.pick(&self.senders);
+        let plain = |sender: &[u8], number: u64| (b"by n".to_vec(), Line::default().values(sender, number));
+        let reads = last[run].fields.iter().any(|field| field != "-");
+        let lent = match prng.below(8) {
+            0 => plain(name, 0),
+            1 => plain(name, number + 2),
+            2 => (b"by n".to_vec(), [name, &b" 01"[..]].concat()),
+            3 => (b"by n n. ".to_vec(), plain(name, number + 1).1),
+            4 => plain(&senders::ill_formed(prng, name), number + 1),
+            // A ninth sender, or a number that does not come next.
+            5 if self.known().len() == SENDERS_MOST => plain(b"zz_ninth", 1),
+            // The last number, but nothing is read.
+            6 if reads => plain(name, *number),
+            _ => (last[run].names(self.plan), prng.bytes(9)),
         };
-        Event::Aside(prng.below(2), lent)
+        Event::Aside(run, lent)
     }
 }
 
@@ -289,9 +344,9 @@ pub fn judge(trial: &Trial) -> Verdict {
     if close_once(&bench, &mut inside.clone()) {
         return Verdict::Void("the set is not closed");
     }
-    let mut judge = Judge { trial, bench: &bench, inside, runs: runs(trial), shown: Shown::default() };
+    let mut judge = Judge { trial, bench: &bench, inside, runs: runs(trial), sent: Vec::new(), shown: Shown::default() };
     match judge.run() {
-        Ok(()) => Verdict::Holds(judge.finish()),
+        Ok(()) => Verdict::Holds(Box::new(judge.finish())),
         Err(verdict) => *verdict,
     }
 }
@@ -306,7 +361,14 @@ struct Judge<'a> {
     bench: &'a Bench<'a>,
     inside: Vec<bool>,
     runs: [Sides; 2],
+    /// Who sent the new lines so far.
+    sent: Vec<Vec<u8>>,
     shown: Shown,
+}
+
+/// Sender and number of a line.
+fn head((_, values): &Lent) -> Vec<&[u8]> {
+    values.split(|&byte| byte == b' ').take(2).collect()
 }
 
 impl Judge<'_> {
@@ -326,6 +388,18 @@ impl Judge<'_> {
                 }
             }
         }
+        self.rows()
+    }
+
+    /// Asks for every sender's row, which must be the same on the set.
+    fn rows(&mut self) -> Result<(), Box<Verdict>> {
+        let states = [self.state(0)?, self.state(1)?];
+        self.shown.senders = states[0].senders.len();
+        for sender in &states[0].senders {
+            let step = Step { call: Call::Row { sender: sender.name.clone() }, lent: EXACT };
+            let answers = [self.step(0, &step)?, self.step(1, &step)?];
+            self.compare(&states, answers, &sender.name)?;
+        }
         Ok(())
     }
 
@@ -340,6 +414,10 @@ impl Judge<'_> {
     }
 
     fn pair(&mut self, pair: &[Lent; 2]) -> Result<(), Box<Verdict>> {
+        if head(&pair[0]) != head(&pair[1]) {
+            return Err(Box::new(Verdict::Void("senders or numbers differ")));
+        }
+        let sender = head(&pair[0])[0].to_vec();
         let before = self.state(0)?;
         let first = self.step(0, &line_step(&pair[0]))?;
         let second = self.step(1, &line_step(&pair[1]))?;
@@ -347,15 +425,31 @@ impl Judge<'_> {
             return Err(Box::new(Verdict::Void("a line is not accepted in both runs")));
         }
         let states = [self.state(0)?, self.state(1)?];
-        if !self.same_readings(&states, true) {
+        let Some(readings) = last_readings(&states, &sender) else {
+            return Err(Box::new(Verdict::Fails(format!("{} is not known after its line", show_bytes(&sender)))));
+        };
+        if !self.same_readings(readings, true) {
             return Err(Box::new(Verdict::Void("the readings of the set differ")));
         }
-        self.shown.differing |= !self.same_readings(&states, false);
-        let fired = self.compare(&states, [first, second])?;
+        self.shown.differing |= !self.same_readings(readings, false);
+        let fired = self.compare(&states, [first, second], &sender)?;
         self.shown.fired |= fired;
         self.shown.fired_joining |= fired && self.joins(&before, &states[0]);
         self.shown.pairs += 1;
+        self.again(&before, &states[0], sender, fired);
         Ok(())
+    }
+
+    /// Counts lines sent again.
+    fn again(&mut self, before: &State, after: &State, sender: Vec<u8>, fired: bool) {
+        let number = |state: &State| state.sender(&sender).map(|place| state.senders[place].number);
+        if number(before) != number(after) {
+            return self.sent.push(sender);
+        }
+        let late = self.sent.last() != Some(&sender);
+        self.shown.again += 1;
+        self.shown.late += u64::from(late);
+        self.shown.fired_late |= late && fired;
     }
 
     /// Whether an entity of the set was absent and came.
@@ -369,17 +463,17 @@ impl Judge<'_> {
         state.ok_or_else(|| Box::new(Verdict::Fails("the engine left no state of the bench".into())))
     }
 
-    /// Whether two states' last readings agree inside the set, or outside it.
-    fn same_readings(&self, states: &[State; 2], inside: bool) -> bool {
+    /// Whether the readings of two lines agree inside the set, or outside it.
+    fn same_readings(&self, readings: [&Readings; 2], inside: bool) -> bool {
         let same = |entity: usize| {
-            let cells = states[0].last.cells[entity].iter().zip(&states[1].last.cells[entity]);
-            states[0].last.presence[entity] == states[1].last.presence[entity] && cells.into_iter().all(|(a, b)| same_reading(*a, *b))
+            let cells = readings[0].cells[entity].iter().zip(&readings[1].cells[entity]);
+            readings[0].presence[entity] == readings[1].presence[entity] && cells.into_iter().all(|(a, b)| same_reading(*a, *b))
         };
         (0..self.inside.len()).filter(|&entity| self.inside[entity] == inside).all(same)
     }
 
-    /// Compares values and fired actions of the set; gives whether any fired.
-    fn compare(&self, states: &[State; 2], answers: [u64; 2]) -> Result<bool, Box<Verdict>> {
+    /// Compares values of the set, and its fired actions in the rows of a sender; gives whether any fired.
+    fn compare(&self, states: &[State; 2], answers: [u64; 2], sender: &[u8]) -> Result<bool, Box<Verdict>> {
         let rows = [0, 1].map(|run| self.row(run, answers[run]));
         let mut column = 0;
         let mut fired = false;
@@ -395,23 +489,30 @@ impl Judge<'_> {
                 same_store(&states[0].now, &states[1].now, entity) && same_store(&states[0].before, &states[1].before, entity);
             if !same_values || fields[0] != fields[1] {
                 let name = show_bytes(self.bench.entities[entity].name.text);
-                return Err(Box::new(Verdict::Fails(format!("entity {name} parts at line {}", states[0].number))));
+                let what = format!("entity {name} parts after {} pairs, in a row of {}", self.shown.pairs, show_bytes(sender));
+                return Err(Box::new(Verdict::Fails(what)));
             }
         }
         Ok(fired)
     }
 
-    /// The fields of the row that the engine wrote, without the number.
+    /// The fields of the row that the engine wrote, without sender and number.
     fn row(&self, run: usize, answer: u64) -> Vec<Vec<u8>> {
         let row = &self.runs[run].row()[..(answer >> 8) as usize];
-        row.split(|&byte| byte == b' ').skip(1).map(<[u8]>::to_vec).collect()
+        row.split(|&byte| byte == b' ').skip(2).map(<[u8]>::to_vec).collect()
     }
 
     fn finish(mut self) -> Shown {
         self.shown.proper = self.inside.contains(&true) && self.inside.contains(&false);
-        self.runs.iter().for_each(|sides| self.shown.tally.add(&sides.tally));
+        self.runs.into_iter().for_each(|sides| self.shown.tally.add(&sides.tally()));
         self.shown
     }
+}
+
+/// What the two states keep of a sender's readings, if both know it.
+fn last_readings<'s>(states: &'s [State; 2], sender: &[u8]) -> Option<[&'s Readings; 2]> {
+    let last = |state: &'s State| state.sender(sender).map(|place| &state.senders[place].last);
+    Some([last(&states[0])?, last(&states[1])?])
 }
 
 fn same_reading(a: Reading, b: Reading) -> bool {

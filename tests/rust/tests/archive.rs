@@ -41,13 +41,28 @@ fn cases_agree() {
     }
 }
 
-/// Catches trials that fail, and trials whose sets hardly ever have an entity come in a line that fires.
+/// A line sent again at any later point gives the very row that it gave when it was taken and leaves every byte of the state.
+#[test]
+fn lines_sent_again_after_every_step_agree() {
+    let mut late = 0;
+    for number in 0..60 {
+        let mut case = generate::without_sheets(3, number);
+        generate::agains::put_in(&mut case);
+        let Ok(tally) = compare::run(&case) else { panic!("case {number}") };
+        late += tally.resent.late;
+    }
+    assert!(late >= 350, "only {late} lines were sent again after lines of others");
+}
+
+/// Catches trials that fail, and trials whose sets hardly ever have an entity come in a line that fires, or an action given again after
+/// lines of others.
 #[test]
 fn trials_hold() {
-    let mut joining = 0;
+    let (mut joining, mut late) = (0, 0);
     for number in 0..60 {
         let Verdict::Holds(shown) = judge(&trial(5, number)) else { panic!("trial {number}") };
         joining += u64::from(shown.fired_joining);
+        late += u64::from(shown.fired_late);
     }
-    assert!(joining >= 13, "only {joining} of 60 trials");
+    assert!(joining >= 13 && late >= 10, "only {joining} and {late} of 60 trials");
 }

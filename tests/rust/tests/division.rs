@@ -83,7 +83,7 @@ fn unset_operands_give_unset() {
 fn unset_quotients_write_nothing() {
     for words in ["7 / 0", "0 / 0", "LEAST / - 1"] {
         let call = format!("on x , action keep ( {} ) on x end", words.replace("LEAST", LEAST));
-        prints(&keeping("whole", "5").replace("on x end", &call), "n x.go|1 true", "n x.keep|1 5");
+        prints(&keeping("whole", "5").replace("on x end", &call), "by n x.go|a 1 true", "by n x.keep|a 1 5");
     }
 }
 
@@ -93,9 +93,9 @@ fn unset_quotients_write_nothing() {
 fn quotients(pairs: &[(i32, i32)]) -> Vec<Option<i64>> {
     let bench = "interface I { event turn : whole event x : whole event y : whole action k ( whole ) } entity e : I { } \
         rules when event turn from e value changed trigger action k ( e.x / e.y ) on e end end";
-    let lines = pairs.iter().enumerate().map(|(turn, (x, y))| format!("\n{0} {0} {x} {y}", turn + 1));
-    let rows = printed(bench, &format!("n e.turn e.x e.y{}", lines.collect::<String>()));
-    let kept = |row: &str| match row.split(' ').nth(1).expect("a field") {
+    let lines = pairs.iter().enumerate().map(|(turn, (x, y))| format!("\na {0} {0} {x} {y}", turn + 1));
+    let rows = printed(bench, &format!("by n e.turn e.x e.y{}", lines.collect::<String>()));
+    let kept = |row: &str| match row.split(' ').nth(2).expect("a field") {
         "-" => None,
         field => Some(field.parse().expect("a whole")),
     };
@@ -159,9 +159,9 @@ fn stage(divisor: &str) -> String {
 
 #[test]
 fn halves_do_not_bend_at_zero() {
-    let travel = "n s.pos|1 -4|2 -3|3 -2|4 -1|5 0|6 1|7 2|8 3|9 4";
-    prints(&stage("2"), travel, "n s.half|1 -2|2 -2|3 -1|4 -1|5 0|6 0|7 1|8 1|9 2");
-    prints(&stage("- 2"), travel, "n s.half|1 2|2 1|3 1|4 0|5 0|6 -1|7 -1|8 -2|9 -2");
+    let travel = "by n s.pos|a 1 -4|a 2 -3|a 3 -2|a 4 -1|a 5 0|a 6 1|a 7 2|a 8 3|a 9 4";
+    prints(&stage("2"), travel, "by n s.half|a 1 -2|a 2 -2|a 3 -1|a 4 -1|a 5 0|a 6 0|a 7 1|a 8 1|a 9 2");
+    prints(&stage("- 2"), travel, "by n s.half|a 1 2|a 2 1|a 3 1|a 4 0|a 5 0|a 6 -1|a 7 -1|a 8 -2|a 9 -2");
 }
 
 #[test]
@@ -170,8 +170,8 @@ fn tests_round_down_in_both_cycles() {
         rules when event goal from s value = s.pos / 2 trigger action hit ( s.pos ) on s end end";
     // In line 2 the halves are equal as they were: -7 and -8 have one half, so have -6 and -5 in line 5. In line 3 the half is still -4. In
     // line 6 the half is 3, in line 8 unset, so that the next lines start anew.
-    let lines = "n s.pos s.goal|1 -7 -4|2 -8 -4|3 -7 -3|4 -6 -3|5 -5 -3|6 7 -|7 -5 -|8 ? -|9 -6 -";
-    prints(bench, lines, "n s.hit|1 -7|2 -|3 -|4 -6|5 -|6 -|7 -5|8 -|9 -6");
+    let lines = "by n s.pos s.goal|a 1 -7 -4|a 2 -8 -4|a 3 -7 -3|a 4 -6 -3|a 5 -5 -3|a 6 7 -|a 7 -5 -|a 8 ? -|a 9 -6 -";
+    prints(bench, lines, "by n s.hit|a 1 -7|a 2 -|a 3 -|a 4 -6|a 5 -|a 6 -|a 7 -5|a 8 -|a 9 -6");
 }
 
 #[test]
@@ -183,11 +183,19 @@ fn filters_round_down() {
              when event pos from s value changed trigger action c ( s.pos ) on s with a = s.pos / {divisor} end end"
         )
     };
-    let head = "n s.k s.c";
+    let head = "by n s.k s.c";
     // -2 is the half of -4 and -3 alone, and of 3 and 4 mirrored.
-    prints(&bench("2"), "n s.pos|1 -5|2 -4|3 -3|4 -2|5 3|6 4|7 5", &format!("{head}|1 - -|2 -4 -4|3 -3 -3|4 - -|5 - -|6 - -|7 - -"));
-    prints(&bench("- 2"), "n s.pos|1 2|2 3|3 4|4 5|5 -4|6 -3", &format!("{head}|1 - -|2 3 3|3 4 4|4 - -|5 - -|6 - -"));
-    prints(&bench("0"), "n s.pos|1 -2|2 0|3 2", &format!("{head}|1 - -|2 - -|3 - -"));
+    prints(
+        &bench("2"),
+        "by n s.pos|a 1 -5|a 2 -4|a 3 -3|a 4 -2|a 5 3|a 6 4|a 7 5",
+        &format!("{head}|a 1 - -|a 2 -4 -4|a 3 -3 -3|a 4 - -|a 5 - -|a 6 - -|a 7 - -"),
+    );
+    prints(
+        &bench("- 2"),
+        "by n s.pos|a 1 2|a 2 3|a 3 4|a 4 5|a 5 -4|a 6 -3",
+        &format!("{head}|a 1 - -|a 2 3 3|a 3 4 4|a 4 - -|a 5 - -|a 6 - -"),
+    );
+    prints(&bench("0"), "by n s.pos|a 1 -2|a 2 0|a 3 2", &format!("{head}|a 1 - -|a 2 - -|a 3 - -"));
 }
 
 // Reals.

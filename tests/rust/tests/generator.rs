@@ -1,22 +1,23 @@
 //! The generator itself: its valid benches are accepted, its cases draw every answer of the table, have bytes of every class at every kind
 //! of place, and tell machines that read clause filters in the wrong cycle or divide wholes by another rule from the right one, a seed
-//! makes a case again. Its sheets are tried in tests/wrong_sheets.rs.
+//! makes a case again. Its sheets are tried in tests/wrong_sheets.rs, what it does with senders in tests/wrong_senders.rs.
 
 use second::generate::bench::{bench, render, LARGE, LOOSE, SMALL};
 use second::generate::case::{Call, Case};
 use second::generate::prng::Prng;
 use second::generate::states::odd_state;
-use second::image::{decode_bench, decode_state, state_bytes};
+use second::image::{decode_bench, decode_state, state_bytes, state_image, store_at, COUNT_AT};
 use second::interpreter::accept;
 use second::interpreter::grammar::{Bench, Sort};
-use second::interpreter::machine::{cycle_of, Stands, State, Variant, RIGHT};
-use second::interpreter::row::row;
+use second::interpreter::machine::{cycle_of, fresh, Given, Sender, Stands, State, Variant, RIGHT};
+use second::interpreter::row::row_of;
 use second::interpreter::value::{quotient, whole, Cell};
 use second::memory::{self, Memory, Tally, OURS};
+use second::resent::Seen;
 use second::{generate, show};
 use std::cell::RefCell;
 
-const NUMBERS: [u8; 17] = [0, 11, 12, 13, 14, 15, 16, 17, 18, 21, 22, 23, 24, 25, 31, 32, 33];
+const NUMBERS: [u8; 19] = [0, 11, 12, 13, 14, 15, 16, 17, 18, 21, 22, 23, 24, 25, 31, 32, 33, 42, 43];
 
 #[test]
 fn valid_benches_are_accepted() {
@@ -46,6 +47,12 @@ fn cases_draw_every_answer() {
     assert!(tally.fired * 20 > taken, "only {} of {taken} accepted calls fired", tally.fired);
 }
 
+/// The sender whose line leads from one state to another: the only one with another number.
+fn sender<'s>(before: &State, after: &'s State) -> Option<&'s Sender> {
+    let number = |sender: &Sender| before.sender(&sender.name).map_or(0, |place| before.senders[place].number);
+    after.senders.iter().find(|sender| number(sender) != sender.number)
+}
+
 /// Hands on each line that is taken and not resent: the bench, and the states before and after it.
 fn each_cycle(case: &Case, mut look: impl FnMut(&Bench, &State, &State)) {
     let mut memory = Memory::new(case.fill);
@@ -57,7 +64,7 @@ fn each_cycle(case: &Case, mut look: impl FnMut(&Bench, &State, &State)) {
         }
         let bench = accept(decode_bench(&memory.bench).expect("a bench's text")).expect("a checked bench");
         let [before, after] = [&state, &memory.state].map(|bytes| decode_state(&bench, bytes).expect("a state of the bench"));
-        if before.number != after.number {
+        if sender(&before, &after).is_some() {
             look(&bench, &before, &after);
         }
     }
@@ -65,8 +72,9 @@ fn each_cycle(case: &Case, mut look: impl FnMut(&Bench, &State, &State)) {
 
 /// Whether a wrong machine gives another row to the line between two states, from the state that the right one is in.
 fn other_row(wrong: Variant, bench: &Bench, before: &State, after: &State) -> bool {
-    let wrong = cycle_of(wrong, bench, before, after.number, &after.last);
-    row(bench, &wrong.expect("the machine never stops on an accepted bench")) != row(bench, after)
+    let Sender { name, number, last, .. } = sender(before, after).expect("a line between two states");
+    let wrong = cycle_of(wrong, bench, before, Given { sender: name, number: *number, readings: last });
+    row_of(bench, &wrong.expect("the machine never stops on an accepted bench"), name) != row_of(bench, after, name)
 }
 
 /// How a case tells a machine whose clause filters read the cycle before, as document 01 had them, from the right one.
@@ -106,7 +114,7 @@ fn cases_show_late_filters() {
     let (mut shown, mut at_joining, mut at_staying) = (0, 0, 0);
     // A written state may have other attributes one cycle before, which no run leaves.
     let written = |case: &Case| case.steps.iter().any(|step| matches!(step.call, Call::SetState { .. }));
-    for case in (0..10_000).map(|number| generate::without_sheets(3, number)).filter(|case| !written(case)) {
+    for case in (0..10_000).map(|number| generate::plain(3, number)).filter(|case| !written(case)) {
         let found = LateFilters::of(&case);
         shown += usize::from(found.shown);
         at_joining += usize::from(found.at_joining);
@@ -272,7 +280,7 @@ impl Divisions {
 #[test]
 fn cases_show_how_wholes_are_divided() {
     let (mut told, mut told_in, mut sorts) = ([0; WRONG.len()], [0; PLACES.len()], [0; SORTS.len()]);
-    for case in (0..10_000).map(|number| generate::without_sheets(3, number)) {
+    for case in (0..10_000).map(|number| generate::plain(3, number)) {
         let found = Divisions::of(&case);
         told.iter_mut().zip(found.told).for_each(|(count, told)| *count += usize::from(told));
         told_in.iter_mut().zip(found.told_in).for_each(|(count, told)| *count += usize::from(told));
@@ -300,8 +308,9 @@ fn states_vary_one_cycle_before() {
         let text = render(&mut prng, &plan.words);
         let bench = accept(&text).expect("valid benches are accepted");
         let count = bench.entities.len();
-        let Call::SetState { at: 0, bytes: mut memory } = odd_state(&mut prng, &text, count, &mut 0) else { continue };
-        if memory.len() != state_bytes(count) {
+        let start = state_image(&bench, &fresh(&bench).expect("a state"));
+        let Call::SetState { at: 0, bytes: mut memory } = odd_state(&mut prng, &bench, &start) else { continue };
+        if memory.len() <= COUNT_AT || memory.len() != state_bytes(count, usize::from(memory[COUNT_AT])) {
             continue;
         }
         if let Some(state) = decode_state(&bench, &memory) {
@@ -314,7 +323,7 @@ fn states_vary_one_cycle_before() {
             continue;
         }
         // A state as soon as one entity was absent: nothing else is wrong.
-        for flag in 4 + count..4 + 2 * count {
+        for flag in store_at(count, 1)..store_at(count, 1) + count {
             if memory[flag] == 1 {
                 memory[flag] = 0;
                 refused += usize::from(decode_state(&bench, &memory).is_some());
@@ -323,6 +332,50 @@ fn states_vary_one_cycle_before() {
         }
     }
     assert!(all_unset >= 15 && some_set >= 15 && refused >= 15, "{all_unset} all unset, {some_set} some set, {refused} refused");
+}
+
+/// Catches a generator that no longer tries some sort of sender, number, line sent again, row or spoilt state, or too seldom sends a line
+/// again after lines of others.
+#[test]
+fn cases_make_every_sort_of_sender() {
+    let mut tally = Tally::default();
+    for number in 0..3_000 {
+        tally.add(&memory::answers(&generate::without_sheets(3, number)));
+        tally.senders.add(&memory::answers(&generate::spoils::case(3, number)).senders);
+    }
+    assert_eq!(tally.senders.lacking(6), [""; 0]);
+    let Seen { again, late, asked } = tally.resent;
+    assert!(again >= 1_200 && late >= 500 && asked >= 1_200, "{again} lines sent again, {late} of them late, {asked} rows asked for");
+}
+
+/// Catches probes that are put into a case so that its other steps find other memory.
+#[test]
+fn probes_leave_the_other_steps_alone() {
+    let mut more = 0;
+    for number in 0..500 {
+        let (plain, with) = (generate::plain(3, number), generate::without_sheets(3, number));
+        more += with.steps.len() - plain.steps.len();
+        let [plain, with] = [plain, with].map(|case| ends(&case).1);
+        assert!(plain.bench == with.bench && plain.state == with.state, "case {number}");
+    }
+    assert!(more >= 500, "only {more} probes in 500 cases");
+}
+
+/// A line sent again at any later point gives the very row that it gave when it was taken and leaves every byte of the state; counting the
+/// answers sees to that. And it is no step that the others notice.
+#[test]
+fn lines_sent_again_after_every_step() {
+    let mut tally = Tally::default();
+    for number in 0..300 {
+        let plain = generate::without_sheets(3, number);
+        let mut with = plain.clone();
+        generate::agains::put_in(&mut with);
+        tally.add(&memory::answers(&with));
+        let [plain, with] = [plain, with].map(|case| ends(&case).1);
+        assert!(plain.bench == with.bench && plain.state == with.state, "case {number}");
+    }
+    let Seen { again, late, .. } = tally.resent;
+    assert!(again >= 3_000 && late >= 1_800, "{again} lines sent again, {late} of them late");
 }
 
 /// What the steps of a case answer, but for sheets and writes, and the memory at the end.
@@ -358,9 +411,11 @@ fn a_seed_makes_a_case_again() {
         assert_eq!(case, generate::case(3, number));
         assert_ne!(case, generate::case(4, number));
         assert_ne!(case, generate::case(3, number + 1));
-        let placed = generate::places::case(3, number);
-        assert_eq!(placed, generate::places::case(3, number));
-        assert_ne!(placed, generate::places::case(4, number));
-        assert_ne!(placed, generate::places::case(3, number + 1));
+        for make in [generate::places::case, generate::spoils::case] {
+            let case = make(3, number);
+            assert_eq!(case, make(3, number));
+            assert_ne!(case, make(4, number));
+            assert_ne!(case, make(3, number + 1));
+        }
     }
 }

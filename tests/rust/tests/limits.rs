@@ -3,7 +3,7 @@
 mod common;
 use common::{prints, refusal};
 use second::calls;
-use second::image::{BENCH_SIZE, ROW_SIZE, STATE_SIZE};
+use second::image::{sender_at, BENCH_SIZE, NUMBER_AT, ROW_SIZE, STATE_SIZE};
 
 const HEAD: &str = "interface I { event x : whole action z ( whole ) } entity e : I { } rules ";
 
@@ -94,7 +94,7 @@ fn long_flat_sums() {
     let sum = "1+".repeat(16_000) + "1";
     let text = format!("{HEAD}when event x from e value = {sum} trigger action z ( 1 ) on e end end");
     assert_eq!(refusal(&text), (0, 0));
-    prints(&text, "n e.x|1 16001|2 2", "n e.z|1 1|2 -");
+    prints(&text, "by n e.x|a 1 16001|a 2 2", "by n e.z|a 1 1|a 2 -");
 }
 
 #[test]
@@ -103,12 +103,14 @@ fn line_feeds_in_lines() {
     assert_eq!(calls::bench_check(b"rules end", &mut memory.0), 0);
     assert_eq!(calls::state_fresh(&memory.0, &mut memory.1), 0);
     let mut line = |names: &[u8], values: &[u8]| calls::bench_line(&memory.0, &mut memory.1, names, values, &mut memory.2);
-    assert_eq!(line(b"n\n", b"1"), 22);
-    assert_eq!(line(b"n", b"1\n"), 21);
-    assert_eq!(line(b"n", b"1"), 1 << 8);
+    assert_eq!(line(b"by n\n", b"a 1"), 22);
+    assert_eq!(line(b"by\nn", b"a 1"), 22);
+    assert_eq!(line(b"by n", b"a 1\n"), 21);
+    assert_eq!(line(b"by n", b"a\n 1"), 21);
+    assert_eq!(line(b"by n", b"a 1"), 3 << 8);
 }
 
-/// All columns of a bench at its limits, with the longest names: 20,001 bytes. A line of more than 32,768 bytes must repeat a column or
+/// All columns of a bench at its limits, with the longest names: 20,004 bytes. A line of more than 32,768 bytes must repeat a column or
 /// have one that is unknown, so no line shows that limit itself: 22 is due in any case.
 #[test]
 fn longest_line_of_names() {
@@ -120,13 +122,13 @@ fn longest_line_of_names() {
         let name = long('e', entity);
         format!("{name} {}", repeat(12, " ", |member| format!("{name}.{}", long('m', member))))
     };
-    let names = format!("n {}", repeat(32, " ", columns));
-    assert_eq!(names.len(), 20_001);
-    prints(&bench, &format!("{names}|1{}|1", " -".repeat(416)), "n|1|refused 21");
-    prints(&bench, &format!("{names} {}|1", long('e', 31)), "refused 22");
+    let names = format!("by n {}", repeat(32, " ", columns));
+    assert_eq!(names.len(), 20_004);
+    prints(&bench, &format!("{names}|a 1{}|a 1", " -".repeat(416)), "by n|a 1|refused 21");
+    prints(&bench, &format!("{names} {}|a 1", long('e', 31)), "refused 22");
 }
 
-/// The longest record that can be taken: all entities there, all events read. It is 6,698 bytes long.
+/// The longest record that can be taken: the longest name and number, all entities there, all events read. It is 6,723 bytes long.
 #[test]
 fn longest_record() {
     let members = repeat(12, " ", |member| format!("event m{member} : real"));
@@ -134,17 +136,23 @@ fn longest_record() {
     let bench = format!("interface I {{ {members} }} {entities} rules end");
     let names = |entity: usize| format!("e{entity} {}", repeat(12, " ", |member| format!("e{entity}.m{member}")));
     let values = format!(" true{}", " 3ff0000000000000".repeat(12)).repeat(32);
-    assert_eq!(values.len() + "4294967295".len(), 6_698);
-    prints(&bench, &format!("n {}|1{values}|2{values}", repeat(32, " ", names)), "n|1|2");
+    let sender = "s".repeat(24);
+    assert_eq!(format!("{sender} 4294967295{values}").len(), 6_723);
+    let lines = format!("by n {}|{sender} 1{values}|{sender} 2{values}", repeat(32, " ", names));
+    prints(&bench, &lines, &format!("by n|{sender} 1|{sender} 2"));
 }
 
 #[test]
 fn longest_line_of_values() {
     // One whole column's field filled up to 8,192 bytes and beyond: 23 for its form, then 21 for the length.
     let bench = "interface I { event x : whole } entity e : I { } rules end";
-    let line = |length: usize| format!("n e.x|1 {}", "1".repeat(length - 2));
-    prints(bench, &line(8_192), "n|refused 23");
-    prints(bench, &line(8_193), "n|refused 21");
+    let line = |length: usize| format!("by n e.x|a 1 {}", "1".repeat(length - 4));
+    prints(bench, &line(8_192), "by n|refused 23");
+    prints(bench, &line(8_193), "by n|refused 21");
+    // The same for the sender: 43 for its form, then 21.
+    let line = |length: usize| format!("by n e.x|{} 1 -", "s".repeat(length - 4));
+    prints(bench, &line(8_192), "by n|refused 43");
+    prints(bench, &line(8_193), "by n|refused 21");
 }
 
 #[test]
@@ -152,10 +160,20 @@ fn greatest_number() {
     let mut memory = (vec![0; BENCH_SIZE], vec![0; STATE_SIZE], vec![0; ROW_SIZE]);
     calls::bench_check(b"rules end", &mut memory.0);
     calls::state_fresh(&memory.0, &mut memory.1);
-    memory.1[..4].copy_from_slice(&(u32::MAX - 1).to_le_bytes());
-    let mut line = |values: &[u8]| calls::bench_line(&memory.0, &mut memory.1, b"n", values, &mut memory.2);
-    assert_eq!(line(b"4294967295"), 10 << 8);
-    assert_eq!(line(b"4294967296"), 24);
-    assert_eq!(line(b"0"), 24);
-    assert_eq!(line(b"4294967295"), 10 << 8);
+    assert_eq!(calls::bench_line(&memory.0, &mut memory.1, b"by n", b"a 1", &mut memory.2), 3 << 8);
+    assert_eq!(calls::bench_line(&memory.0, &mut memory.1, b"by n", b"b 1", &mut memory.2), 3 << 8);
+    let number = sender_at(0, 0) + NUMBER_AT;
+    memory.1[number..number + 4].copy_from_slice(&(u32::MAX - 1).to_le_bytes());
+    let mut line = |values: &[u8]| calls::bench_line(&memory.0, &mut memory.1, b"by n", values, &mut memory.2);
+    assert_eq!(line(b"a 4294967295"), 12 << 8);
+    assert_eq!(line(b"a 4294967296"), 24);
+    assert_eq!(line(b"a 4294967297"), 24);
+    assert_eq!(line(b"a 0"), 24);
+    assert_eq!(line(b"a 1"), 24);
+    assert_eq!(line(b"a 4294967295"), 12 << 8);
+    // Another sender's number is no greater for it.
+    assert_eq!(line(b"b 4294967295"), 24);
+    assert_eq!(line(b"b 4294967298"), 24);
+    assert_eq!(line(b"b 2"), 3 << 8);
+    assert_eq!(line(b"a 4294967295"), 12 << 8);
 }

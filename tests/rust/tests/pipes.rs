@@ -102,22 +102,26 @@ fn seen(bench: &str, readings: &[u8], cuts: &[usize]) -> Vec<String> {
 #[test]
 fn classes_of_cuts() {
     let bench = "interface I { event x : whole } entity e : I { } rules end";
-    let lines = |cuts: &[usize]| seen(bench, b"n e.x\n1 -\n2 34\n3 5\n", cuts);
+    let lines = |cuts: &[usize]| seen(bench, b"by n e.x\na 1 -\na 2 34\ncam 1 5\n", cuts);
     assert_eq!(lines(&[]), [""; 0]);
     assert_eq!(lines(&[3]), ["cut inside a line of names"]);
-    assert_eq!(lines(&[6]), ["cut right after a line feed"]);
-    assert_eq!(lines(&[7]), ["cut after a line's first byte"]);
-    assert_eq!(lines(&[8, 9]), ["a piece of one byte", "cut right before a line feed"]);
-    assert_eq!(lines(&[10, 12, 13]), ["a line in three pieces or more", "a piece of one byte", "cut right after a line feed"]);
-    assert_eq!(seen("rules end", b"n\n1\n2\n3\n4\n5\n6\n7\n8\n9\n10", &[21]).len(), 3);
-    assert_eq!(seen("rules", b"n\n1", &[2]), ["refused bench"]);
-    assert_eq!(seen("rules end", b"m\n1", &[2]), ["refused line of names"]);
+    assert_eq!(lines(&[9]), ["cut right after a line feed"]);
+    assert_eq!(lines(&[10]), ["cut after a line's first byte"]);
+    assert_eq!(lines(&[13, 14]), ["a piece of one byte", "cut right before a line feed"]);
+    assert_eq!(lines(&[15, 17, 18]), ["a line in three pieces or more", "a piece of one byte", "cut right after a line feed"]);
+    assert_eq!(lines(&[23]), ["cut after a line's first byte", "cut within a line's sender"]);
+    assert_eq!(lines(&[24]), ["cut within a line's sender"]);
+    assert_eq!(lines(&[25]), [""; 0]);
+    let ten = b"by n\na 1\na 2\na 3\na 4\na 5\na 6\na 7\na 8\na 9\na 10";
+    assert_eq!(seen("rules end", ten, &[ten.len() - 1]), ["a piece of one byte", "cut within a line's number"]);
+    assert_eq!(seen("rules", b"by n\na 1", &[2]), ["refused bench"]);
+    assert_eq!(seen("rules end", b"m\na 1", &[2]), ["refused line of names"]);
 }
 
 /// Lines that are refused show little, so they count only where they are too long.
 #[test]
 fn classes_of_cuts_in_long_records() {
-    let long = [&b"n\n"[..], &[b'1'; 9_000]].concat();
+    let long = [&b"by n\n"[..], &[b'a'; 9_000], b" 1"].concat();
     assert_eq!(seen("rules end", &long, &[100, 101]), ["a record of more than 8192 bytes, cut"]);
     let tail = ["a record of more than 8192 bytes, cut", "a record too long before a cut, regular after it"];
     assert_eq!(seen("rules end", &long, &[8_999]), tail);

@@ -164,54 +164,101 @@ fn lines_of_names() {
     let names = [
         "",
         "m",
-        "n ",
-        " n",
-        "n  p",
-        "n q",
-        "n p.up",
-        "n k.keep",
-        "n p p",
-        "n p.down p.down",
-        "n\tp",
-        "n p.",
-        "n .down",
-        "n p.down.x",
-        "n p\r",
-        "N",
+        "n",
+        "by",
+        "by ",
+        "n by",
+        "by by n",
+        "by  n",
+        "by\tn",
+        "byn",
+        "by m",
+        "By n",
+        "by N",
+        "by n n",
+        "by n by",
+        "by n by n",
+        "n p.down",
+        "by p.down",
+        "n by p.down",
+        "p.down by n",
+        "by n ",
+        " by n",
+        "by n  p",
+        "by n q",
+        "by n p.up",
+        "by n k.keep",
+        "by n p p",
+        "by n p.down p.down",
+        "by n\tp",
+        "by n p.",
+        "by n .down",
+        "by n p.down.x",
+        "by n p\r",
     ];
     for names in names {
-        prints(PEDAL, &format!("{names}|1"), "refused 22");
+        prints(PEDAL, &format!("{names}|a 1"), "refused 22");
     }
     // An attribute is no column.
-    prints("interface I { attribute a : whole } entity e : I { a = 1 } rules end", "n e.a|1 1", "refused 22");
-    // An entity may be called n.
-    prints("interface I { } entity n : I { } rules end", "n n|1 false", "n|1");
+    prints("interface I { attribute a : whole } entity e : I { a = 1 } rules end", "by n e.a|a 1 1", "refused 22");
+    // Entities may be called n and by: columns begin after `by n`.
+    let bench = "interface I { event n : whole } entity n : I { } entity by : I { } rules end";
+    prints(bench, "by n n|a 1 false", "by n|a 1");
+    prints(bench, "by n by by.n n.n n|a 1 - 1 2 -", "by n|a 1");
+    for names in ["n", "by", "n n", "by by", "n by n", "by by n", "by n n n", "by n by by"] {
+        prints(bench, &format!("{names}|a 1 -"), "refused 22");
+    }
 }
 
 #[test]
 fn lines_of_values() {
-    let forms =
-        [" 1", "1 ", "1 - ", "1  -", "1 -", "1 - - -", "01 - -", "+1 - -", "-1 - -", "x - -", "12345678901 - -", "1\t- -", "1x - -"];
+    let forms = [
+        "a",
+        "a ",
+        "a 1",
+        " 1",
+        "a 1 ",
+        "a 1 - ",
+        "a 1  -",
+        "a 1 -",
+        "a 1 - - -",
+        "a 01 - -",
+        "a +1 - -",
+        "a -1 - -",
+        "a x - -",
+        "a 12345678901 - -",
+        "a 1\t- -",
+        "a 1x - -",
+        // No sender, an empty one, no number, both in the other order.
+        "1 - -",
+        " 1 - -",
+        "a - -",
+        "a  - -",
+        "1 a - -",
+        "a b 1 - -",
+        " a 1 - -",
+        "a  1 - -",
+    ];
     for values in forms {
-        prints(PEDAL, &format!("n p.down s.pos|{values}"), "n k.keep|refused 21");
+        prints(PEDAL, &format!("by n p.down s.pos|{values}"), "by n k.keep|refused 21");
     }
     for values in
         ["1 ? ?x", "1 True -", "1 1 -", "1 - 01", "1 - -0", "1 - 2147483648", "1 - -2147483649", "1 - true", "1 - +1", "1 - 1\t", "1 - --1"]
     {
-        prints(PEDAL, &format!("n p.down s.pos|{values}"), "n k.keep|refused 23");
+        prints(PEDAL, &format!("by n p.down s.pos|a {values}"), "by n k.keep|refused 23");
     }
     for values in ["0 - -", "2 - -", "4294967296 - -", "9999999999 - -"] {
-        prints(PEDAL, &format!("n p.down s.pos|{values}"), "n k.keep|refused 24");
+        prints(PEDAL, &format!("by n p.down s.pos|a {values}"), "by n k.keep|refused 24");
     }
-    for values in ["1 ? ?", "1 - -2147483648", "1 true 2147483647", "1 false 0"] {
-        prints(PEDAL, &format!("n p.down s.pos|{values}"), if values.contains("true") { "n k.keep|1 2147483647" } else { "n k.keep|1 -" });
+    for (values, row) in [("1 ? ?", "1 -"), ("1 - -2147483648", "1 -"), ("1 true 2147483647", "1 2147483647"), ("1 false 0", "1 -")] {
+        prints(PEDAL, &format!("by n p.down s.pos|a {values}"), &format!("by n k.keep|a {row}"));
     }
 }
 
 #[test]
 fn reals_in_lines() {
     let bench = "interface I { event r : real action k ( real ) } entity e : I { } rules when event r from e value changed trigger action k ( e.r ) on e end end";
-    prints(bench, "n e.r|1 3ff0000000000000", "n e.k|1 3ff0000000000000");
+    prints(bench, "by n e.r|a 1 3ff0000000000000", "by n e.k|a 1 3ff0000000000000");
     let bad = [
         "3FF0000000000000",
         "3ff000000000000",
@@ -224,26 +271,26 @@ fn reals_in_lines() {
         "3ff000000000000g",
     ];
     for value in bad {
-        prints(bench, &format!("n e.r|1 {value}"), "n e.k|refused 23");
+        prints(bench, &format!("by n e.r|a 1 {value}"), "by n e.k|refused 23");
     }
-    prints(bench, "n e.r|1 7fefffffffffffff|2 0000000000000001", "n e.k|1 7fefffffffffffff|2 0000000000000001");
+    prints(bench, "by n e.r|a 1 7fefffffffffffff|a 2 0000000000000001", "by n e.k|a 1 7fefffffffffffff|a 2 0000000000000001");
 }
 
 #[test]
 fn presence_takes_bools() {
     let bench = "interface I { event x : whole } entity e : I { } rules end";
     for value in ["?", "1", "True", "0"] {
-        prints(bench, &format!("n e|1 {value}"), "n|refused 23");
+        prints(bench, &format!("by n e|a 1 {value}"), "by n|refused 23");
     }
-    prints(bench, "n e e.x|1 false 1|1 false ?|1 false -|2 - 1|2 true 1", "n|refused 23|refused 23|1|refused 23|2");
+    prints(bench, "by n e e.x|a 1 false 1|a 1 false ?|a 1 false -|a 2 - 1|a 2 true 1", "by n|refused 23|refused 23|a 1|refused 23|a 2");
 }
 
 #[test]
 fn other_readings_under_the_last_number() {
-    prints(PEDAL, "n p.down s.pos|1 - 1|1 - 2|1 ? 1|1 - -|1 - 1", "n k.keep|1 -|refused 25|refused 25|refused 25|1 -");
+    prints(PEDAL, "by n p.down s.pos|a 1 - 1|a 1 - 2|a 1 ? 1|a 1 - -|a 1 - 1", "by n k.keep|a 1 -|refused 25|refused 25|refused 25|a 1 -");
 }
 
 #[test]
 fn order_of_refusals_of_a_line() {
-    prints(PEDAL, "n p.down s.pos|5 x|5 x -|5 - -", "n k.keep|refused 21|refused 23|refused 24");
+    prints(PEDAL, "by n p.down s.pos|a 5 x|a 5 x -|a 5 - -", "by n k.keep|refused 21|refused 23|refused 24");
 }

@@ -2,6 +2,7 @@
 
 use second::generate::bench::{render, Plan};
 use second::generate::prng::Prng;
+use second::generate::senders;
 use second::interpreter::accept;
 use second::interpreter::grammar::Bench;
 use second::options::Options;
@@ -23,7 +24,9 @@ fn with_draft(seed: u64, test: impl Fn(&mut Prng, Draft, &[u8])) {
     let plan: Plan = MIRROR.plan(&mut prng);
     let text = render(&mut prng, &plan.words);
     let bench: Bench = accept(&text).expect("a good bench");
-    let draft = Draft::new(&plan, &bench, benches::event_columns(&mut prng, &plan));
+    let count = senders::count(&mut prng);
+    let senders = senders::some(&mut prng, &plan, count);
+    let draft = Draft::new(&plan, &bench, benches::event_columns(&mut prng, &plan), senders);
     test(&mut prng, draft, &text);
 }
 
@@ -141,7 +144,7 @@ fn poor_folders_lack_classes() {
     };
     let mut coverage = coverage::Coverage::default();
     assert_eq!(coverage.lacking().len(), required().len());
-    for readings in [&b"n"[..], b"n\n", b"m"] {
+    for readings in [&b"by n"[..], b"by n\n", b"m"] {
         let folder = poor(readings);
         coverage.take(&folder, &folder.wanted());
     }
@@ -153,11 +156,11 @@ fn poor_folders_lack_classes() {
 
 #[test]
 fn differences() {
-    assert_eq!(difference(b"n\n1\n", b"n\n1\n"), None);
-    assert_eq!(difference(b"n\n1\n", b"n\n2\n"), Some(2));
-    assert_eq!(difference(b"n\n1\n", b"n\n1"), Some(3));
-    assert_eq!(difference(b"n\n", b"n\nrefused 21\n"), Some(2));
-    assert_eq!(difference(b"", b"n"), Some(0));
+    assert_eq!(difference(b"by n\na 1\n", b"by n\na 1\n"), None);
+    assert_eq!(difference(b"by n\na 1\n", b"by n\na 2\n"), Some(7));
+    assert_eq!(difference(b"by n\na 1\n", b"by n\na 1"), Some(8));
+    assert_eq!(difference(b"by n\n", b"by n\nrefused 21\n"), Some(5));
+    assert_eq!(difference(b"", b"by n"), Some(0));
 }
 
 /// `cat` copies its standard input: it finds nothing in /dev/null, and fails where there is no input.

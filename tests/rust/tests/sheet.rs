@@ -3,7 +3,7 @@
 mod common;
 use common::PEDAL;
 use second::calls::{bench_check, bench_line, bench_sheet, state_fresh};
-use second::image::{sheet_size, BENCH_SIZE, ROW_SIZE, STATE_SIZE};
+use second::image::{sender_at, sheet_size, store_at, BENCH_SIZE, NUMBER_AT, ROW_SIZE, STATE_SIZE};
 
 const FILL: u8 = 0xa5;
 /// Bytes past the stated size of a sheet.
@@ -31,9 +31,10 @@ impl Lent {
         self
     }
 
-    /// The state with another last number.
+    /// The state of a bench with one entity, whose first sender has another last number.
     fn numbered(mut self, number: u32) -> Lent {
-        self.state[..4].copy_from_slice(&number.to_le_bytes());
+        let at = sender_at(1, 0) + NUMBER_AT;
+        self.state[at..at + 4].copy_from_slice(&number.to_le_bytes());
         self
     }
 
@@ -74,7 +75,7 @@ fn filled(row: &str) -> String {
 fn wholes_and_bools() {
     // Of the last two lines the first is sent again, the second is refused.
     fresh(PEDAL).shows(
-        "n p.down s.pos|1 false 100|2 true 140|2 true 140|3 - 150|4 false 150|5 true 190|5 true 190|4 - -",
+        "by n p.down s.pos|a 1 false 100|a 2 true 140|a 2 true 140|a 3 - 150|a 4 false 150|a 5 true 190|a 5 true 190|a 4 - -",
         "p.down s.pos k.keep",
         &[
             "         1         false           100             -",
@@ -93,7 +94,7 @@ const TEMPERATURE: &str = "interface T { attribute offset : real event temp : re
 
 #[test]
 fn reals_over_two_rows() {
-    let day = "n t.temp t.fan|1 400921fb54442d18 true|2 - false|3 3fd5555555555555 -|4 ? true|";
+    let day = "by n t.temp t.fan|a 1 400921fb54442d18 true|a 2 - false|a 3 3fd5555555555555 -|a 4 ? true|";
     fresh(TEMPERATURE).shows(
         day,
         "t.temp t.fan t.sum t.offset",
@@ -154,10 +155,10 @@ fn of_equal_zeros_the_earlier_is_shown() {
     let (zero, minus) = ("0000000000000000", "8000000000000000");
     let (one, minus_one) = ("3ff0000000000000", "bff0000000000000");
     let lines = [
-        "n z.a z.b z.c z.d".to_string(),
-        format!("1 {zero} {minus} {one} {minus_one}"),
-        format!("2 {minus} {zero} {minus} {zero}"),
-        format!("3 {minus} {zero} {zero} {minus}"),
+        "by n z.a z.b z.c z.d".to_string(),
+        format!("a 1 {zero} {minus} {one} {minus_one}"),
+        format!("a 2 {minus} {zero} {minus} {zero}"),
+        format!("a 3 {minus} {zero} {zero} {minus}"),
     ];
     fresh(bench).shows(
         &lines.join("|"),
@@ -203,7 +204,7 @@ fn absent_entities_read_unset() {
         entity a : L { bay = 2 gain = 3r } \
         rules when event lit from a value = true trigger action show ( a.gain ) on a end end";
     fresh(bench).shows(
-        "n a a.lit|1 - true|2 false -|3 - -|4 true -|5 - true",
+        "by n a a.lit|a 1 - true|a 2 false -|a 3 - -|a 4 true -|a 5 - true",
         "a.bay a.gain a.lit a.show",
         &[
             "         1             2      40080000          true      40080000",
@@ -232,13 +233,13 @@ fn absent_entities_read_unset() {
 
 #[test]
 fn a_day_runs_on_from_the_lent_state() {
-    let names = "n t.temp t.fan";
-    let lent = fresh(TEMPERATURE).after(names, "1 4034000000000000 false").after(names, "2 c034000000000000 true");
+    let names = "by n t.temp t.fan";
+    let lent = fresh(TEMPERATURE).after(names, "a 1 4034000000000000 false").after(names, "a 2 c034000000000000 true");
     // The lent state's own line is sent again, in other columns; then line 3, again, with other readings, with a gap, with a field that
     // is no value, without a field, an empty line, and line 4. What was read before the day is neither lowest nor highest.
     lent.shows(
-        "n t t.fan t.temp|2 - true c034000000000000|3 - - 3ff0000000000000|3 - - 3ff0000000000000|3 - - 4000000000000000|5 - - -|4 - - x|\
-         4 - -||4 - - 4000000000000000",
+        "by n t t.fan t.temp|a 2 - true c034000000000000|a 3 - - 3ff0000000000000|a 3 - - 3ff0000000000000|a 3 - - 4000000000000000|a 5 - - -|a 4 - - x|\
+         a 4 - -||a 4 - - 4000000000000000",
         "t.temp t.fan",
         &[
             "         3      3ff00000          true",
@@ -265,9 +266,11 @@ fn without_a_printed_line_only_the_closing_rows_stand() {
         "                                                   -",
         "                                                   -",
     ];
-    let lent = fresh(TEMPERATURE).after("n t.temp", "1 4034000000000000");
-    // Nothing, the lent line again, and what is refused by 21, 23, 24, 25.
-    for day in ["n", "n|", "n t.temp|1 4034000000000000", "n t.temp|1 -|2|2 5|3 -|0 -|01 -||\r|2 - -"] {
+    let lent = fresh(TEMPERATURE).after("by n t.temp", "a 1 4034000000000000");
+    // Nothing, the lent line again, and what is refused by 21, 43, 23, 24, 25.
+    for day in
+        ["by n", "by n|", "by n t.temp|a 1 4034000000000000", "by n t.temp|a 1 -|a 2|1 1 -|a 2 5|a 3 -|b 2 -|a 0 -|a 01 -||\r|a 2 - -"]
+    {
         lent.shows(day, "t.temp t.fan t.sum", &rows);
         lent.shows(day, "t.fan", &[]);
     }
@@ -276,9 +279,9 @@ fn without_a_printed_line_only_the_closing_rows_stand() {
 #[test]
 fn all_eighty_columns() {
     let bench = "interface I { event w : whole event b : bool event r : real } entity e : I { } rules end";
-    let lent = fresh(bench).numbered(4_294_967_293);
+    let lent = fresh(bench).after("by n", "a 1").numbered(4_294_967_293);
     // The last number is 4294967295: the line after it is refused.
-    let day = "n e.w e.b e.r\n4294967294 -2147483648 false 7fefffffffffffff\n4294967295 2147483647 true -\n4294967296 0 true -\n";
+    let day = "by n e.w e.b e.r\na 4294967294 -2147483648 false 7fefffffffffffff\na 4294967295 2147483647 true -\na 4294967296 0 true -\n";
     let sheet = lent.sheet(day, "e.w e.b e.w e.b e.w").expect("a sheet");
     let wanted = "4294967294   -2147483648         false   -2147483648         false   -2147483648\n\
                   4294967295    2147483647          true    2147483647          true    2147483647\n";
@@ -301,16 +304,31 @@ fn forms_of_the_readings() {
     let lent = fresh("interface I { event x : whole } entity e : I { } rules end");
     let one = ["         1             5"];
     let two = ["         1             5", "         2             6"];
-    lent.shows("n e.x|1 5", "e.x", &one);
-    lent.shows("n e.x|1 5|", "e.x", &one);
-    lent.shows("n e.x|1 5||", "e.x", &one);
-    lent.shows("n e.x||1 5|2 6", "e.x", &two);
-    lent.shows("n e.x|1 5|2 6\r|2 6", "e.x", &two);
-    lent.shows("n e.x|1 5|2 6\r|", "e.x", &one);
+    lent.shows("by n e.x|a 1 5", "e.x", &one);
+    lent.shows("by n e.x|a 1 5|", "e.x", &one);
+    lent.shows("by n e.x|a 1 5||", "e.x", &one);
+    lent.shows("by n e.x||a 1 5|a 2 6", "e.x", &two);
+    lent.shows("by n e.x|a 1 5|a 2 6\r|a 2 6", "e.x", &two);
+    lent.shows("by n e.x|a 1 5|a 2 6\r|", "e.x", &one);
     // Presence counts as a column, and a line of names without columns is one.
-    lent.shows("n e e.x|1 true 5", "e.x", &one);
-    lent.shows("n|1", "e.x", &["         1             -"]);
-    for names in ["", "|", "|n e.x|1 5", "n |1", "n e.y|1 5", "n e.x e.x|1 5 5", "n\r|1", " n|1", "N|1", "n e.x.|1 5"] {
+    lent.shows("by n e e.x|a 1 true 5", "e.x", &one);
+    lent.shows("by n|a 1", "e.x", &["         1             -"]);
+    for names in [
+        "",
+        "|",
+        "|by n e.x|a 1 5",
+        "by n |a 1",
+        "by n e.y|a 1 5",
+        "by n e.x e.x|a 1 5 5",
+        "by n\r|a 1",
+        " by n|a 1",
+        "By n|a 1",
+        "by N|a 1",
+        "n|a 1",
+        "by|a 1",
+        "n by|a 1",
+        "by n e.x.|a 1 5",
+    ] {
         lent.refuses(22, names, "e.x");
     }
 }
@@ -320,9 +338,9 @@ fn long_lines() {
     let lent = fresh("interface I { event x : whole } entity e : I { } rules end");
     let one = ["         1             5"];
     // A line of values that is too long is passed over as any refused one; a line of names that is too long refuses the day.
-    lent.shows(&format!("n e.x|1 {}|1 5", "5".repeat(8_191)), "e.x", &one);
-    lent.shows(&format!("n e.x|1 {}|1 5", "5".repeat(100_000)), "e.x", &one);
-    lent.refuses(22, &format!("n e.x{}|1 5", " e.x".repeat(8_191)), "e.x");
+    lent.shows(&format!("by n e.x|a 1 {}|a 1 5", "5".repeat(8_191)), "e.x", &one);
+    lent.shows(&format!("by n e.x|a 1 {}|a 1 5", "5".repeat(100_000)), "e.x", &one);
+    lent.refuses(22, &format!("by n e.x{}|a 1 5", " e.x".repeat(8_191)), "e.x");
 }
 
 #[test]
@@ -331,7 +349,7 @@ fn lists_of_cells() {
         "interface I { attribute a : whole event x : whole action k ( whole ) } entity e : I { a = 7 } entity f : I { a = 8 } \
          rules when event x from e value changed trigger action k ( e.a + e.x ) on f end end",
     );
-    let day = "n e.x|1 5";
+    let day = "by n e.x|a 1 5";
     // Members of any sort, the same one again, up to five.
     lent.shows(day, "e.a", &["         1             7"]);
     lent.shows(day, "f.k", &["         1            12"]);
@@ -360,6 +378,7 @@ fn lists_of_cells() {
         "e.a,f.a",
         "e.a e",
         "n",
+        "by",
         "-",
         "e.a\0",
     ];
@@ -369,14 +388,14 @@ fn lists_of_cells() {
     lent.refuses(41, day, &"e.a ".repeat(20_000));
     lent.refuses(41, day, &format!("e.{}", "a".repeat(70_000)));
     // A bench without cells has no list.
-    fresh("rules end").refuses(41, "n|1", "");
-    fresh("interface I { } entity e : I { } rules end").refuses(41, "n|1", "e");
+    fresh("rules end").refuses(41, "by n|a 1", "");
+    fresh("interface I { } entity e : I { } rules end").refuses(41, "by n|a 1", "e");
 }
 
 // Memory.
 
 /// Two lines with a set real in each of five columns: they need the whole stated size.
-const LARGEST: &str = "n e.r\n1 3ff0000000000000\n2 4000000000000000";
+const LARGEST: &str = "by n e.r\na 1 3ff0000000000000\na 2 4000000000000000";
 
 fn one_real() -> Lent {
     fresh("interface I { event r : real } entity e : I { } rules end")
@@ -385,7 +404,7 @@ fn one_real() -> Lent {
 #[test]
 fn stated_size() {
     assert_eq!(sheet_size(b""), 2_430);
-    assert_eq!(sheet_size(b"n e.r"), 2_430);
+    assert_eq!(sheet_size(b"by n e.r"), 2_430);
     assert_eq!(sheet_size(b"\n"), 2_592);
     assert_eq!(sheet_size(LARGEST.as_bytes()), 2_754);
     assert_eq!(sheet_size(&[b'\n'; 1_000]), 164_430);
@@ -407,10 +426,10 @@ fn exact_size_and_one_byte_less() {
     // The size is asked for even if the sheet is shorter, empty, or refused.
     assert_eq!(sheet(LARGEST, "e.r", 2_754), (10 * 81) << 8);
     assert_eq!(sheet(LARGEST, "e.r", 2_753), 31);
-    assert_eq!(sheet("n", "e.r", 2_430), (3 * 81) << 8);
-    assert_eq!(sheet("n", "e.r", 2_429), 31);
-    assert_eq!(sheet("n\n\n\n", "e.r", 2_916), (3 * 81) << 8);
-    assert_eq!(sheet("n\n\n\n", "e.r", 2_915), 31);
+    assert_eq!(sheet("by n", "e.r", 2_430), (3 * 81) << 8);
+    assert_eq!(sheet("by n", "e.r", 2_429), 31);
+    assert_eq!(sheet("by n\n\n\n", "e.r", 2_916), (3 * 81) << 8);
+    assert_eq!(sheet("by n\n\n\n", "e.r", 2_915), 31);
     assert_eq!(sheet("", "", 2_429), 31);
     assert_eq!(sheet("", "", 2_430), 41);
 }
@@ -425,7 +444,7 @@ fn order_of_refusals() {
         answer
     };
     // All is wrong, then one thing after another is mended.
-    lent.state[4] = 2;
+    lent.state[store_at(1, 0)] = 2;
     lent.bench[4] = b'I';
     assert_eq!(sheet(&lent, BENCH_SIZE - 1, STATE_SIZE, "", "", 2_430), 31);
     assert_eq!(sheet(&lent, BENCH_SIZE, STATE_SIZE - 1, "", "", 2_430), 31);
@@ -433,17 +452,17 @@ fn order_of_refusals() {
     assert_eq!(sheet(&lent, BENCH_SIZE, STATE_SIZE, "", "", 2_430), 32);
     lent.bench[4] = b'i';
     assert_eq!(sheet(&lent, BENCH_SIZE, STATE_SIZE, "", "", 2_430), 33);
-    lent.state[4] = 1;
+    lent.state[store_at(1, 0)] = 1;
     assert_eq!(sheet(&lent, BENCH_SIZE, STATE_SIZE, "", "", 2_430), 41);
     assert_eq!(sheet(&lent, BENCH_SIZE, STATE_SIZE, "", "e.r", 2_430), 22);
-    lent.shows("n", "e.r", &["                       -"; 3]);
+    lent.shows("by n", "e.r", &["                       -"; 3]);
 }
 
 /// The sheet of a day is the same whether its lines run on in one sheet or start from the state in between.
 #[test]
 fn days_one_after_another() {
-    let names = "n p.down s.pos";
-    let lines = ["1 false 100", "2 true 140", "3 - 150", "4 false 150", "5 true 190"];
+    let names = "by n p.down s.pos";
+    let lines = ["a 1 false 100", "b 1 true 140", "a 2 - 150", "c 1 false 150", "a 3 true 190"];
     let day = |lines: &[&str]| format!("{names}\n{}", lines.join("\n"));
     let whole = fresh(PEDAL).sheet(&day(&lines), "k.keep p.down").expect("a sheet");
     for cut in 0..=lines.len() {

@@ -9,8 +9,8 @@ use second::interpreter::entity_name;
 fn pedal_bench() {
     prints(
         PEDAL,
-        "n p.down s.pos|1 false 100|2 true 140|2 true 140|3 - 150|4 false 150|5 true 190|4 - -",
-        "n k.keep|1 -|2 140|2 140|3 -|4 -|5 190|refused 24",
+        "by n p.down s.pos|a 1 false 100|a 2 true 140|a 2 true 140|a 3 - 150|a 4 false 150|a 5 true 190|a 4 - -",
+        "by n k.keep|a 1 -|a 2 140|a 2 140|a 3 -|a 4 -|a 5 190|refused 24",
     );
 }
 
@@ -33,7 +33,7 @@ fn sums() {
 #[test]
 fn last_write_stands() {
     let bench = keeping("whole", "1").replace("on x end", "on x , action keep ( 2 ) on x end");
-    prints(&bench, "n x.go|1 true", "n x.keep|1 2");
+    prints(&bench, "by n x.go|a 1 true", "by n x.keep|a 1 2");
 }
 
 /// The dropped trial's bench: the attribute is set now, and that is what the filter reads.
@@ -41,14 +41,14 @@ fn last_write_stands() {
 fn clause_filter_can_hold_in_cycle_1() {
     let bench = "interface X { attribute a : whole event go : bool action keep ( whole ) } entity x : X { a = 1 } \
         rules when event go from x with a = 1 value changed trigger action keep ( 1 ) on x end end";
-    prints(bench, "n x.go|1 true|2 false|3 false", "n x.keep|1 1|2 1|3 -");
+    prints(bench, "by n x.go|a 1 true|a 2 false|a 3 false", "by n x.keep|a 1 1|a 2 1|a 3 -");
 }
 
 #[test]
 fn numbers_of_lines() {
-    prints("rules end", "n|1", "n|1");
-    prints("rules end", "n|0", "n|refused 24");
-    prints("rules end", "n|01", "n|refused 21");
+    prints("rules end", "by n|a 1", "by n|a 1");
+    prints("rules end", "by n|a 0", "by n|refused 24");
+    prints("rules end", "by n|a 01", "by n|refused 21");
 }
 
 #[test]
@@ -74,7 +74,7 @@ fn names_by_number() {
 #[test]
 fn compares_with_the_store_one_cycle_before() {
     // One press fires once, also when it is held.
-    prints(PEDAL, "n p.down s.pos|1 true 5|2 true 6|3 true 7", "n k.keep|1 5|2 -|3 -");
+    prints(PEDAL, "by n p.down s.pos|a 1 true 5|a 2 true 6|a 3 true 7", "by n k.keep|a 1 5|a 2 -|a 3 -");
 }
 
 #[test]
@@ -82,7 +82,7 @@ fn action_is_seen_one_cycle_later() {
     let bench = "interface X { event go : bool action a ( bool ) action b ( bool ) } entity x : X { } rules \
         when event go from x value = true trigger action a ( true ) on x end \
         when event a from x value = true trigger action b ( true ) on x end end";
-    prints(bench, "n x.go|1 true|2 -|3 -", "n x.a x.b|1 true -|2 - true|3 - -");
+    prints(bench, "by n x.go|a 1 true|a 2 -|a 3 -", "by n x.a x.b|a 1 true -|a 2 - true|a 3 - -");
 }
 
 #[test]
@@ -90,5 +90,5 @@ fn chooses_for_variables_of_calls() {
     let bench = "interface X { event go : bool } interface L { attribute i : whole action keep ( whole ) } \
         entity x : X { } entity k : L { i = 5 } entity l : L { i = 6 } \
         rules when event go from x value = true trigger action keep ( v.i ) on v : L end end";
-    prints(bench, "n x.go|1 true", "n k.keep l.keep|1 5 6");
+    prints(bench, "by n x.go|a 1 true", "by n k.keep l.keep|a 1 5 6");
 }

@@ -3,7 +3,7 @@
 use second::interpreter::accept;
 use second::interpreter::grammar::Bench;
 use second::interpreter::line::{self, Taken};
-use second::interpreter::machine::{self, State};
+use second::interpreter::machine::{self, Sender, State};
 use second::interpreter::row;
 use second::replay::{folder, Folder};
 
@@ -56,6 +56,12 @@ enum Flaw {
     /// A refused line of names is told for each line.
     GoesOnAfterNames,
     SilentOnResent,
+    /// A line sent again shows what fires now.
+    RowOfCellsNow,
+    /// Rows begin with the number.
+    NoSender,
+    /// The senders of a file are forgotten where a chunk ends.
+    ForgetsSenders,
     // Files.
     MissingBenchIsSilent,
     MissingReadingsHaveNames,
@@ -80,6 +86,8 @@ enum Flaw {
     LosesPart,
     /// That part is lost if it is one byte.
     LosesFirstByte,
+    /// That part is lost if the line's sender is cut.
+    LosesSender,
     /// That part is lost if the line's number is cut.
     LosesNumber,
     /// That part is lost if it is already too long, and the rest is taken for a line.
@@ -98,7 +106,7 @@ enum Flaw {
     TakesOldByte,
 }
 
-const FLAWS: [Flaw; 25] = [
+const FLAWS: [Flaw; 28] = [
     Flaw::CutsAtChunks,
     Flaw::ForgetsLongLines,
     Flaw::EmptyLineAtChunks,
@@ -116,6 +124,9 @@ const FLAWS: [Flaw; 25] = [
     Flaw::StopsAtRefusal,
     Flaw::GoesOnAfterNames,
     Flaw::SilentOnResent,
+    Flaw::RowOfCellsNow,
+    Flaw::NoSender,
+    Flaw::ForgetsSenders,
     Flaw::MissingBenchIsSilent,
     Flaw::MissingReadingsHaveNames,
     Flaw::CutsBench,
@@ -127,12 +138,13 @@ const FLAWS: [Flaw; 25] = [
 ];
 
 /// These show only where the readings come through a pipe.
-const SHORT_READS: [Flaw; 13] = [
+const SHORT_READS: [Flaw; 14] = [
     Flaw::EndsAtShortRead,
     Flaw::LosesLastByte,
     Flaw::CutsAtShortRead,
     Flaw::LosesPart,
     Flaw::LosesFirstByte,
+    Flaw::LosesSender,
     Flaw::LosesNumber,
     Flaw::ForgetsLongPart,
     Flaw::LosesMiddle,
@@ -169,7 +181,7 @@ fn lines_rows(runner: Runner, folder: &Folder, bench: &Bench) -> Vec<Vec<u8>> {
     let mut lines = read(runner, &gathered(runner, folder)).into_iter();
     let mut names = lines.next().unwrap_or_default();
     if flaw == Flaw::MissingReadingsHaveNames && folder.readings.is_none() {
-        names = b"n".to_vec();
+        names = b"by n".to_vec();
     }
     let columns = line::columns(bench, &names).filter(|_| flaw != Flaw::ShortNames || names.len() <= 16_384);
     let Some(columns) = columns else {
@@ -178,7 +190,13 @@ fn lines_rows(runner: Runner, folder: &Folder, bench: &Bench) -> Vec<Vec<u8>> {
     };
     let mut rows = vec![row::header(bench)];
     let mut state = machine::fresh(bench).expect("a state");
+    let mut bytes = names.len() + 1;
     for values in lines {
+        let end = bytes + values.len() + 1;
+        if flaw == Flaw::ForgetsSenders && bytes / runner.chunk != end / runner.chunk {
+            state.senders.clear();
+        }
+        bytes = end;
         let values = changed(flaw, values);
         match answer(flaw, bench, &mut state, &columns, &values) {
             Ok(row) => rows.extend(row),
@@ -196,11 +214,19 @@ fn answer(flaw: Flaw, bench: &Bench, state: &mut State, columns: &[line::Column]
         return Err(21);
     }
     match line::take_values(bench, state, columns, values)? {
-        Taken::Resent if flaw == Flaw::SilentOnResent => return Ok(None),
-        Taken::Resent => {}
-        Taken::Next(next) => *state = next,
+        Taken::Resent(_) if flaw == Flaw::SilentOnResent => Ok(None),
+        // That of the cells now.
+        Taken::Resent(sender) if flaw == Flaw::RowOfCellsNow => {
+            let now = Sender { fired: state.now.cells.clone(), ..state.senders[sender].clone() };
+            Ok(Some(row::row(bench, &now)))
+        }
+        Taken::Resent(sender) => Ok(Some(row::row(bench, &state.senders[sender]))),
+        Taken::Next(next, sender) => {
+            *state = next;
+            let row = row::row(bench, &state.senders[sender]);
+            Ok(Some(if flaw == Flaw::NoSender { row[state.senders[sender].name.len() + 1..].to_vec() } else { row }))
+        }
     }
-    Ok(Some(row::row(bench, state)))
 }
 
 /// The bytes of a file, put together from what the reads give: a chunk, or what is left of a piece.
@@ -231,7 +257,8 @@ fn at_short_end(Runner { flaw, chunk }: Runner, read: usize, bytes: &mut Vec<u8>
         Flaw::CutsAtShortRead if !part.is_empty() => bytes.push(b'\n'),
         Flaw::LosesPart => bytes.truncate(start),
         Flaw::LosesFirstByte if part.len() == 1 => bytes.truncate(start),
-        Flaw::LosesNumber if part.iter().all(u8::is_ascii_digit) => bytes.truncate(start),
+        Flaw::LosesSender if !part.contains(&b' ') => bytes.truncate(start),
+        Flaw::LosesNumber if part.iter().filter(|&&byte| byte == b' ').count() == 1 => bytes.truncate(start),
         Flaw::ForgetsLongPart if start > 0 && part.len() > 8_192 => bytes.truncate(start),
         Flaw::LosesMiddle if part.len() > read => bytes.truncate(bytes.len() - read),
         Flaw::EmptyLineAfterShortRead if part.is_empty() => bytes.push(b'\n'),

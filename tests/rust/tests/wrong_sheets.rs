@@ -47,6 +47,8 @@ enum Flaw {
     PrintsRefused,
     StopsAtRefusal,
     StartsFresh,
+    /// From the lent state, but without its senders.
+    ForgetsSenders,
     /// A line without a line feed is not seen.
     NeedsLastFeed,
     // Cells.
@@ -58,6 +60,13 @@ enum Flaw {
     ReadsAbsent,
     /// An action that is not fired shows what it fired last.
     KeepsActions,
+    // Numbers.
+    /// That of the sender that is known longest.
+    FirstSendersNumber,
+    /// The count of all lines.
+    NumberOfAll,
+    /// The sender stands before the number.
+    SenderBefore,
     // Rows.
     LeftNumber,
     LeftCells,
@@ -103,7 +112,7 @@ enum Flaw {
 }
 
 /// Every flaw, and how many sheets at least must show it.
-const FLAWS: [(Flaw, usize); 53] = [
+const FLAWS: [(Flaw, usize); 57] = [
     (Flaw::NeedsMore, 1_500),
     (Flaw::CountsLines, 40),
     (Flaw::AsksForSheetAlone, 80),
@@ -121,11 +130,15 @@ const FLAWS: [(Flaw, usize); 53] = [
     (Flaw::PrintsRefused, 650),
     (Flaw::StopsAtRefusal, 550),
     (Flaw::StartsFresh, 500),
+    (Flaw::ForgetsSenders, 400),
     (Flaw::NeedsLastFeed, 200),
     (Flaw::ReadsSeen, 150),
     (Flaw::ReadsBefore, 650),
     (Flaw::ReadsAbsent, 150),
     (Flaw::KeepsActions, 100),
+    (Flaw::FirstSendersNumber, 400),
+    (Flaw::NumberOfAll, 400),
+    (Flaw::SenderBefore, 850),
     (Flaw::LeftNumber, 850),
     (Flaw::LeftCells, 950),
     (Flaw::LastDigitsAbove, 400),
@@ -248,6 +261,10 @@ impl<'g> Given<'g> {
             Flaw::StopsAtRefusal => lines[..lines.iter().position(refused).unwrap_or(lines.len())].into(),
             Flaw::NeedsLastFeed if !self.readings.ends_with(b"\n") => lines[..lines.len().saturating_sub(1)].into(),
             Flaw::StartsFresh => self.run(&fresh(bench).expect("an accepted bench")).expect("the names are taken").into(),
+            Flaw::ForgetsSenders => {
+                let state = State { senders: Vec::new(), ..self.state.clone().expect("a state") };
+                self.run(&state).expect("the names are taken").into()
+            }
             _ => lines.into(),
         }
     }
@@ -299,15 +316,16 @@ impl Printer<'_> {
         for (passed, after) in lines {
             let cells = self.read(before, after, &shown);
             let printed = match passed {
-                Passed::Printed => true,
-                Passed::Resent => self.is(Flaw::PrintsResent),
-                Passed::Refused(_) => self.is(Flaw::PrintsRefused),
+                Passed::Printed(sender) => Some(after.senders[*sender].number),
+                Passed::Resent(sender) if self.is(Flaw::PrintsResent) => Some(after.senders[*sender].number),
+                Passed::Refused(_) if self.is(Flaw::PrintsRefused) => Some(0),
+                _ => None,
             };
-            if printed {
-                self.line(after.number, &cells);
+            if let Some(number) = printed {
+                self.number(*passed, number, after, &cells);
                 any = true;
             }
-            if *passed == Passed::Printed || (self.is(Flaw::FoldsResent) && *passed == Passed::Resent) {
+            if matches!(passed, Passed::Printed(_)) || (self.is(Flaw::FoldsResent) && matches!(passed, Passed::Resent(_))) {
                 shown.push(cells);
             }
             before = after;
@@ -319,6 +337,18 @@ impl Printer<'_> {
             self.sheet.pop();
         }
         self.sheet
+    }
+
+    /// Prints a line with its number, or with what a flaw takes for it.
+    fn number(&mut self, passed: Passed, number: u32, after: &State, cells: &[Cell]) {
+        let sender = if let Passed::Printed(sender) | Passed::Resent(sender) = passed { Some(&after.senders[sender]) } else { None };
+        let text = match (self.flaw, sender) {
+            (Flaw::FirstSendersNumber, _) => after.senders.first().map_or(0, |first| first.number).to_string(),
+            (Flaw::NumberOfAll, _) => after.senders.iter().map(|sender| u64::from(sender.number)).sum::<u64>().to_string(),
+            (Flaw::SenderBefore, Some(sender)) => format!("{}{number}", String::from_utf8_lossy(&sender.name[..1])),
+            _ => number.to_string(),
+        };
+        self.line(&text[..text.len().min(10)], cells);
     }
 
     fn read(&self, before: &State, after: &State, shown: &[Vec<Cell>]) -> Vec<Cell> {
@@ -371,7 +401,7 @@ impl Printer<'_> {
         if self.is(Flaw::UnsetAsQuestion) { "?" } else { "-" }.into()
     }
 
-    fn line(&mut self, number: u32, cells: &[Cell]) {
+    fn line(&mut self, number: &str, cells: &[Cell]) {
         let upper = |cell: &Cell| match cell {
             None => self.unset(),
             Some(Value::Whole(value)) => value.to_string(),
@@ -393,10 +423,9 @@ impl Printer<'_> {
             Flaw::NoSecondRow => false,
             _ => set > 0,
         };
-        let number = number.to_string();
-        self.row(&number, &first);
+        self.row(number, &first);
         if has_second {
-            let number = if self.is(Flaw::NumberInSecondRow) { &number } else { "" };
+            let number = if self.is(Flaw::NumberInSecondRow) { number } else { "" };
             self.row(number, &second);
         }
     }

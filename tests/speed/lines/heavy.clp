@@ -41,7 +41,7 @@
   (bind ?*row* ?*blank*)
   (bind ?*was-row* ?*blank*)
   (loop-for-count 32 do (bind ?*was* (create$ ?*was* nil)))
-  (printout t "n")
+  (printout t "by n")
   (loop-for-count (?k 0 7) do (printout t " g" ?k ".set"))
   (loop-for-count (?k 0 7) do (printout t " m" ?k ".mark"))
   (loop-for-count (?k 0 7) do (printout t " v" ?k ".turn v" ?k ".warn"))

@@ -1,6 +1,6 @@
 -- The heavy bench by hand: heavy.lua [RULES], the rules being in heavy_rules.lua if no other module is named.
 package.path = arg[0]:gsub("[^/]*$", "") .. "?.lua;" .. package.path
-local forms = require "forms"
+local forms, take = require "forms", require "senders"
 local real, hex = forms.real, forms.hex
 io.stdout:setvbuf("full")
 
@@ -78,18 +78,9 @@ local names = {}
 for k = 0, 7 do names[#names + 1] = "g" .. k .. ".set" end
 for k = 0, 7 do names[#names + 1] = "m" .. k .. ".mark" end
 for k = 0, 7 do names[#names + 1] = "v" .. k .. ".turn v" .. k .. ".warn" end
-io.write("n ", table.concat(names, " "), "\n")
-local last, last_line, row = 0, nil, nil
+io.write("by n ", table.concat(names, " "), "\n")
 for line in lines do
   local next_field = line:gmatch("%S+")
-  local n = tonumber(next_field())
-  if n == last and n > 0 then
-    io.write(line == last_line and row or "refused 25\n")
-  elseif n ~= last + 1 then
-    io.write("refused 24\n")
-  else
-    last, last_line = n, line
-    row = n .. " " .. cycle(next_field) .. "\n"
-    io.write(row)
-  end
+  local by, n = next_field(), next_field()
+  io.write(take(cycle, line, by, n, next_field))
 end

@@ -1,4 +1,49 @@
-; What the usual and the heavy bench share: readings by line, reals as decimals, `nil` for unset, the last write to a cell stands.
+; The known senders, and of each its last number, its last line, and the actions that this line fired.
+(defglobal ?*senders* = (create$) ?*kept* = (create$))
+
+; A letter, then letters, digits or `_`, 24 at most.
+(deffunction is-name (?name)
+  (bind ?letters "abcdefghijklmnopqrstuvwxyzABCDEFGHIJKLMNOPQRSTUVWXYZ")
+  (bind ?others (str-cat ?letters "0123456789_"))
+  (if (or (> (str-length ?name) 24) (not (str-index (sub-string 1 1 ?name) ?letters))) then (return FALSE))
+  (loop-for-count (?i 2 (str-length ?name)) do
+    (if (not (str-index (sub-string ?i ?i ?name) ?others)) then (return FALSE)))
+  TRUE)
+
+; How much is kept of each sender, and where that of the one at a place begins.
+(deffunction width ()
+  (div (length$ ?*kept*) (length$ ?*senders*)))
+(deffunction from (?place)
+  (+ 1 (* (- ?place 1) (width))))
+
+; What is said to a line: `new`, `resent`, or a refusal.
+(deffunction judged (?by ?n ?line)
+  (bind ?place (member$ ?by ?*senders*))
+  (if (not ?place) then
+    (if (not (is-name (str-cat ?by))) then (return "refused 43"))
+    (if (= (length$ ?*senders*) 8) then (return "refused 42"))
+    (return (if (= ?n 1) then new else "refused 24")))
+  (bind ?from (from ?place))
+  (bind ?last (nth$ ?from ?*kept*))
+  (if (= ?n (+ ?last 1)) then (return new))
+  (if (<> ?n ?last) then (return "refused 24"))
+  (if (eq ?line (nth$ (+ ?from 1) ?*kept*)) then resent else "refused 25"))
+
+(deffunction keep (?by ?n ?line $?fired)
+  (bind ?place (member$ ?by ?*senders*))
+  (if ?place
+    then
+      (bind ?from (from ?place))
+      (bind ?*kept* (replace$ ?*kept* ?from (+ ?from 1 (length$ ?fired)) ?n ?line ?fired))
+    else
+      (bind ?*senders* (create$ ?*senders* ?by))
+      (bind ?*kept* (create$ ?*kept* ?n ?line ?fired))))
+
+(deffunction kept (?by)
+  (bind ?from (from (member$ ?by ?*senders*)))
+  (subseq$ ?*kept* (+ ?from 2) (+ ?from (width) -1)))
+
+; What the usual and the heavy bench share besides: readings by line, reals as decimals, `nil` for unset, the last write to a cell stands.
 (defglobal ?*row* = (create$) ?*by* = (create$) ?*blank* = (create$) ?*zeros* = (create$))
 
 (deffunction cells (?count)
@@ -19,9 +64,9 @@
   (bind ?value (nth$ ?cell ?*row*))
   (if (eq ?value -) then nil else ?value))
 
-(deffunction print-row (?n)
-  (printout t ?n)
-  (progn$ (?value ?*row*)
+(deffunction print-row (?by ?n $?row)
+  (printout t ?by " " ?n)
+  (progn$ (?value ?row)
     (if (floatp ?value) then (format t " %.17g" ?value) else (printout t " " ?value)))
   (printout t crlf))
 
@@ -30,21 +75,20 @@
 
 (deffunction run-lines ()
   (readline in)
-  (bind ?last 0) (bind ?last-line "")
   (bind ?line (readline in))
   (while (neq ?line EOF) do
     (bind ?fields (explode$ ?line))
-    (bind ?n (nth$ 1 ?fields))
-    (if (and (= ?n ?last) (> ?n 0))
-      then (if (eq ?line ?last-line) then (print-row ?n) else (printout t "refused 25" crlf))
-      else (if (<> ?n (+ ?last 1))
-        then (printout t "refused 24" crlf)
-        else
-          (take-line (rest$ ?fields))
-          (bind ?*row* ?*blank*)
-          (bind ?*by* ?*zeros*)
-          (run)
-          (bind ?last ?n)
-          (bind ?last-line ?line)
-          (print-row ?n)))
+    (bind ?by (nth$ 1 ?fields))
+    (bind ?n (nth$ 2 ?fields))
+    (bind ?said (judged ?by ?n ?line))
+    (switch ?said
+      (case new then
+        (take-line (subseq$ ?fields 3 (length$ ?fields)))
+        (bind ?*row* ?*blank*)
+        (bind ?*by* ?*zeros*)
+        (run)
+        (keep ?by ?n ?line ?*row*)
+        (print-row ?by ?n ?*row*))
+      (case resent then (print-row ?by ?n (kept ?by)))
+      (default (printout t ?said crlf)))
     (bind ?line (readline in))))

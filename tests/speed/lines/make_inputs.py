@@ -10,6 +10,7 @@ import sys
 
 HERE = os.path.dirname(os.path.abspath(__file__))
 LINES = {"pedal": 100_000, "usual": 100_000, "heavy": 150}
+SENDER = "box"  # of all lines
 
 # The heavy bench: each rule has three variables, and each is written eight times with another number.
 HEAVY_HEAD = """interface Sensor { attribute room : whole attribute gain : whole event level : whole event lit : bool }
@@ -192,6 +193,14 @@ NAMES = {
 MAKERS = {"pedal": pedal, "usual": usual, "heavy": heavy}
 
 
+def names_line(name):
+    return "by n " + NAMES[name]
+
+
+def values_line(n, fields, decimal):
+    return " ".join([SENDER, str(n)] + [form(value, decimal) for value in fields])
+
+
 def form(value, decimal):
     if isinstance(value, bool):
         return "true" if value else "false"
@@ -220,8 +229,8 @@ def main():
         rng = random.Random(f"{seed} {name}")
         lines = list(numbered(rng, LINES[name], MAKERS[name](rng)))
         for file, decimal in (("readings.txt", False), ("decimal.txt", True)):
-            rows = ["n " + NAMES[name]] + [" ".join([str(n)] + [form(v, decimal) for v in fields]) for n, fields in lines]
-            write(os.path.join(folder, name, file), "\n".join(rows) + "\n")
+            text = [names_line(name)] + [values_line(n, fields, decimal) for n, fields in lines]
+            write(os.path.join(folder, name, file), "\n".join(text) + "\n")
     os.makedirs(os.path.join(folder, "check"), exist_ok=True)
     for name, size in (("1k", 1024), ("32k", 32768)):
         write(os.path.join(folder, "check", name + ".txt"), check_bench(size))

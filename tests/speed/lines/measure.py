@@ -1,6 +1,7 @@
 """measure.py TESTS FOLDER RUNNER SECOND CALLS SECOND_CALLS [ROUNDS]: rows first, which must be equal, then CPU times, each program in turn.
 
-Only the runner of BENCH_BEFORE may give other rows, if what they mean has changed since: it is said how many.
+Only the runner of BENCH_BEFORE may give other rows, if what they mean has changed since: it is said how many. One that knows no senders yet (before
+document 02's order 5) gets the readings without them.
 """
 import os
 import re
@@ -57,6 +58,23 @@ def rows(command, cwd):
     return subprocess.run(command, cwd=cwd, stdin=subprocess.DEVNULL, stdout=subprocess.PIPE, check=True).stdout
 
 
+def unsent(text):
+    """Readings or rows without their senders."""
+    return re.sub(rb"^(?!refused )\S+ ", b"", text, flags=re.MULTILINE)
+
+
+def place_of(name, command, cwd):
+    """Where a program is run: in the bench's folder, or, if it is a runner that refuses a line of names with senders, where there are none."""
+    if name != BEFORE or rows(command, cwd) != b"refused 22\n":
+        return cwd
+    place = os.path.join(cwd, "unsent")
+    os.makedirs(place, exist_ok=True)
+    shutil.copy(os.path.join(cwd, "bench.txt"), place)
+    with open(os.path.join(cwd, "readings.txt"), "rb") as sent, open(os.path.join(place, "readings.txt"), "wb") as file:
+        file.write(unsent(sent.read()))
+    return place
+
+
 def unlike(given, expected):
     """How many rows are not the same."""
     return sum(one != other for one, other in zip_longest(given.split(b"\n"), expected.split(b"\n")))
@@ -90,15 +108,17 @@ def main():
         listed = opponents(bench)
         expected = rows([runner], cwd)
         lines = expected.count(b"\n") - 1
+        places = {name: place_of(name, command, cwd) for name, command, _ in listed}
         for name, command, decimal in listed:
-            others = unlike(rows(command, cwd), decimals(expected) if decimal else expected)
+            wanted = expected if places[name] == cwd else unsent(expected)
+            others = unlike(rows(command, places[name]), decimals(wanted) if decimal else wanted)
             if others and name != BEFORE:
                 sys.exit(f"{bench}: the rows of {name} are not the runner's")
             print(f"{bench}: {lines} lines, {others} rows differ: {name}", flush=True)
         times = {name: [] for name, _, _ in listed}
         for _ in range(rounds):
             for name, command, _ in listed:
-                times[name].append(cpu_seconds(command, cwd))
+                times[name].append(cpu_seconds(command, places[name]))
         for name, _, _ in listed:
             # The ratio is taken in each round, so that what slows a whole round does not count.
             ratios = [other / own for other, own in zip(times[name], times["runner"])]

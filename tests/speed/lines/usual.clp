@@ -93,6 +93,6 @@
   (cells 21)
   (bind ?*row* ?*blank*)
   (bind ?*was* (create$ nil nil nil nil nil nil nil nil nil nil nil nil nil nil))
-  (printout t "n camera.snap lamp1.switch lamp1.dim lamp2.switch lamp2.dim lamp3.switch lamp3.dim lamp4.switch lamp4.dim probe1.alarm "
+  (printout t "by n camera.snap lamp1.switch lamp1.dim lamp2.switch lamp2.dim lamp3.switch lamp3.dim lamp4.switch lamp4.dim probe1.alarm "
     "probe2.alarm probe3.alarm probe4.alarm log.steps log.mm log.ratio log.turned log.missing log.drift log.hot log.scale" crlf)
   (run-lines))

@@ -1,6 +1,6 @@
 -- The usual bench by hand.
 package.path = arg[0]:gsub("[^/]*$", "") .. "?.lua;" .. package.path
-local forms = require "forms"
+local forms, take = require "forms", require "senders"
 local real, hex = forms.real, forms.hex
 io.stdout:setvbuf("full")
 
@@ -115,24 +115,11 @@ local function cycle(pos, edge, dir, count, held, width, t1, o1, t2, o2, t3, o3,
 end
 
 local lines = io.lines("readings.txt")
-assert(lines() == "n stage.pos stage.edge stage.dir pedal.count pedal.held camera.width probe1.temp probe1.ok probe2.temp probe2.ok "
+assert(lines() == "by n stage.pos stage.edge stage.dir pedal.count pedal.held camera.width probe1.temp probe1.ok probe2.temp probe2.ok "
   .. "probe3.temp probe3.ok probe4.temp probe4.ok")
-io.write("n camera.snap lamp1.switch lamp1.dim lamp2.switch lamp2.dim lamp3.switch lamp3.dim lamp4.switch lamp4.dim probe1.alarm probe2.alarm "
+io.write("by n camera.snap lamp1.switch lamp1.dim lamp2.switch lamp2.dim lamp3.switch lamp3.dim lamp4.switch lamp4.dim probe1.alarm probe2.alarm "
   .. "probe3.alarm probe4.alarm log.steps log.mm log.ratio log.turned log.missing log.drift log.hot log.scale\n")
-local fields = "^(%d+) " .. ("(%S+) "):rep(13) .. "(%S+)$"
-local last, last_line, row = 0, nil, nil
-local function take(line, n, ...)
-  n = tonumber(n)
-  if n == last and n > 0 then
-    io.write(line == last_line and row or "refused 25\n")
-  elseif n ~= last + 1 then
-    io.write("refused 24\n")
-  else
-    last, last_line = n, line
-    row = n .. " " .. cycle(...) .. "\n"
-    io.write(row)
-  end
-end
+local fields = "^(%S+) (%d+) " .. ("(%S+) "):rep(13) .. "(%S+)$"
 for line in lines do
-  take(line, line:match(fields))
+  io.write(take(cycle, line, line:match(fields)))
 end

@@ -9,7 +9,7 @@ import sys
 
 LINES = os.path.join(os.path.dirname(os.path.abspath(__file__)), os.pardir, "lines")
 sys.path.insert(0, LINES)
-from make_inputs import MAKERS, NAMES, form, numbered, write
+from make_inputs import MAKERS, names_line, numbered, values_line, write
 
 SMALL = 300
 COUNTS = (SMALL, 25_000, 50_000, 100_000)
@@ -19,10 +19,8 @@ CELLS = {"pedal": "p.down s.pos k.keep", "usual": "stage.pos pedal.count log.ste
 
 def readings(name, seed, count):
     rng = random.Random(f"{seed} {name}")
-    lines = [f"n {NAMES[name]}"]
-    for number, fields in numbered(rng, count, MAKERS[name](rng)):
-        lines.append(" ".join([str(number)] + [form(value, False) for value in fields]))
-    return "\n".join(lines) + "\n"
+    lines = [values_line(number, fields, False) for number, fields in numbered(rng, count, MAKERS[name](rng))]
+    return "\n".join([names_line(name)] + lines) + "\n"
 
 
 def main():

@@ -27,7 +27,7 @@ use Rattle.text.specs.definitions.Syntax.{
   Rule,
 }
 use Rattle.checking.specs.definitions.Scope.{clauses}
-use Rattle.cycles.specs.definitions.Store.{Store, State, Line}
+use Rattle.cycles.specs.definitions.Store.{Store, Inputs, Stores}
 use Rattle.cycles.specs.definitions.Spots.{Spot, Spots}
 use Rattle.cycles.specs.contracts.TotalMachine.{
   value-at,
@@ -59,24 +59,21 @@ pub record Stores-agree (S : ℕ → Type 0) (s t : Store) : Type 0 where
   pub presence : (e : ℕ) → S e → s .present e ≡ t .present e
   pub cells : (e m : ℕ) → S e → s .cell e m ≡ t .cell e m
 
--- the same now and previous, and the same last number
-pub record States-agree (S : ℕ → Type 0) (s t : State) : Type 0 where
+-- the same now and previous
+pub record Both-agree (S : ℕ → Type 0) (s t : Stores) : Type 0 where
   pub now : Stores-agree S (s .now) (t .now)
   pub previous : Stores-agree S (s .previous) (t .previous)
-  pub last : s .last ≡ t .last
 
-pub same-state : (S : ℕ → Type 0) (s : State) → States-agree S s s
-same-state S s = record {
+pub same-stores : (S : ℕ → Type 0) (s : Stores) → Both-agree S s s
+same-stores S s = record {
   now = record { presence = λ e i. refl; cells = λ e m i. refl };
   previous = record { presence = λ e i. refl; cells = λ e m i. refl };
-  last = refl;
 }
 
--- the same number, and the same readings for the entities of a set
-pub record Lines-agree (S : ℕ → Type 0) (k l : Line) : Type 0 where
-  pub number : k .number ≡ l .number
-  pub presence : (e : ℕ) → S e → k .inputs .presence e ≡ l .inputs .presence e
-  pub given : (e m : ℕ) → S e → k .inputs .given e m ≡ l .inputs .given e m
+-- the same readings for the entities of a set
+pub record Inputs-agree (S : ℕ → Type 0) (i j : Inputs) : Type 0 where
+  pub presence : (e : ℕ) → S e → i .presence e ≡ j .presence e
+  pub given : (e m : ℕ) → S e → i .given e m ≡ j .given e m
 
 module _ (S : ℕ → Type 0) (s t : Store) (g : Stores-agree S s t) where
   value-at-agree : (o : Option Spot) → Spot-in S o → value-at s o ≡ value-at t o

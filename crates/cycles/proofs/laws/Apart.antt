@@ -1,6 +1,6 @@
 -- Two runs of the total machine on a closed set of entities: what the others read never reaches the set.
 use Prim.Native.Nat.{ℕ}
-use mathlib.Core.Path.{_≡_, refl, sym, ap, ap₂, _∙_}
+use mathlib.Core.Path.{_≡_, refl, sym, ap, _∙_}
 use mathlib.Core.Bool.{Bool, true, false, _&&_, and-false}
 use mathlib.Core.List.{List, [], _∷_, _++_, flatMap}
 use mathlib.Core.Option.{Option, none, some}
@@ -13,7 +13,7 @@ use Rattle.values.specs.declared.Value.the-variants.{Unset}
 use Rattle.values.specs.definitions.Value.{is-set}
 use Rattle.text.specs.definitions.Syntax.{Call, Rule, File}
 use Rattle.checking.specs.definitions.Scope.{Variable, variables}
-use Rattle.cycles.specs.definitions.Store.{Store, State, Line}
+use Rattle.cycles.specs.definitions.Store.{Store, Inputs, Stores}
 use Rattle.cycles.specs.definitions.Spots.{Spot, spots, numbered}
 use Rattle.cycles.specs.contracts.TotalMachine.{
   is-present-at,
@@ -28,13 +28,12 @@ use Rattle.cycles.specs.definitions.Reference.{Write, written-if}
 use Rattle.cycles.specs.definitions.Bindings.{number-if, candidates, bindings}
 use Rattle.cycles.specs.contracts.TotalMachine.{rule-writes, all-writes}
 use Rattle.cycles.specs.definitions.Cycle.{seen, after-writes}
-use Rattle.cycles.specs.contracts.TotalMachine.{cycle, follow}
+use Rattle.cycles.specs.contracts.TotalMachine.{cycle}
 use Rattle.cycles.specs.definitions.ClosedSet.{Among, here, there, is-of, can-be, Reads-inside, Closed}
 use Rattle.cycles.proofs.laws.AmongLaws.{All-in, all-in-cons, one-passes-or-none, numbered-at, all-in-flatMap, flatMap-same}
 use Rattle.cycles.specs.contracts.AllRules.{Binds}
 use Rattle.cycles.proofs.laws.BindingLaws.{bindings-bind, meant-can-be, can-be-inside, Spot-in, spots-in}
-use Rattle.cycles.proofs.laws.FollowLaws.{follow-resent, follow-new}
-use Rattle.cycles.proofs.laws.Agreement.{Stores-agree, States-agree, Lines-agree, binding-writes-agree}
+use Rattle.cycles.proofs.laws.Agreement.{Stores-agree, Both-agree, Inputs-agree, binding-writes-agree}
 
 -- candidates and bindings, where the set has every entity of the variables' interfaces
 module _ (f : File) (S : ℕ → Type 0) (s t : Store) (g : Stores-agree S s t) where
@@ -149,34 +148,25 @@ module _ (f : File) (S : ℕ → Type 0) (closed : Closed f S) where
           missed-stays e m (rule-writes f now previous r) (rule-misses f now previous r e p) v
           ∙ sym (missed-stays e m (rule-writes f now′ previous′ r) (rule-misses f now′ previous′ r e p) v)
 
-  seen-agree : (s t : Store) (k l : Line) → Stores-agree S s t → Lines-agree S k l → Stores-agree S (seen f s (k .inputs)) (seen f t (l .inputs))
+  seen-agree : (s t : Store) (i j : Inputs) → Stores-agree S s t → Inputs-agree S i j → Stores-agree S (seen f s i) (seen f t j)
   unfolding seen
-  seen-agree s t k l g h = record {
-    presence = λ e i. rw (h .presence e i, g .presence e i);
-    cells = λ e m i. rw (h .given e m i, h .presence e i, g .presence e i, g .cells e m i);
+  seen-agree s t i j g h = record {
+    presence = λ e p. rw (h .presence e p, g .presence e p);
+    cells = λ e m p. rw (h .given e m p, h .presence e p, g .presence e p, g .cells e m p);
   }
 
-  cycle-apart : (s t : State) (k l : Line) → States-agree S s t → Lines-agree S k l → States-agree S (cycle f s k) (cycle f t l)
+  -- a cycle for each of two runs, of lines alike on the set
+  pub cycle-apart : (s t : Stores) (i j : Inputs) → Both-agree S s t → Inputs-agree S i j → Both-agree S (cycle f s i) (cycle f t j)
   unfolding cycle
-  cycle-apart s t k l g h =
-      let n = seen-agree (s .now) (t .now) k l (g .now) h in
+  cycle-apart s t i j g h =
+      let n = seen-agree (s .now) (t .now) i j (g .now) h in
       record {
         now = record {
           presence = n .presence;
-          cells = λ e m i. rw (
-            writes-agree (seen f (s .now) (k .inputs)) (s .previous) (seen f (t .now) (l .inputs)) (t .previous) n (g .previous) e m i Unset,
-            n .cells e m i,
+          cells = λ e m p. rw (
+            writes-agree (seen f (s .now) i) (s .previous) (seen f (t .now) j) (t .previous) n (g .previous) e m p Unset,
+            n .cells e m p,
           );
         };
         previous = n;
-        last = h .number;
       }
-
--- a line for each of two runs, alike on the set
-pub follow-apart : (f : File) (S : ℕ → Type 0) → Closed f S → (s t : State) (k l : Line) → States-agree S s t → Lines-agree S k l
-    → States-agree S (follow f s k) (follow f t l)
-follow-apart f S closed s t k l g h = go (eqb (k .number) (s .last)) refl (sym (ap₂ eqb (h .number) (g .last)))
-  where
-    go : (b : Bool) → eqb (k .number) (s .last) ≡ b → eqb (l .number) (t .last) ≡ eqb (k .number) (s .last) → States-agree S (follow f s k) (follow f t l)
-    go true e d = rw (follow-resent f s k e, follow-resent f t l (d ∙ e)) g
-    go false e d = rw (follow-new f s k e, follow-new f t l (d ∙ e)) (cycle-apart f S closed s t k l g h)

@@ -1,6 +1,6 @@
--- The tests of a cell in the state image: what a state's cell has in memory passes them, and what passes them is a value that the cell can hold.
-use mathlib.Core.Path.{_≡_, refl, sym, ap, _∙_}
-use mathlib.Core.Bool.{Bool, true, false, cond, _&&_, _||_}
+-- The tests of a plane's cell: what a store or a kept line has in memory passes them, and what passes them is what such a cell can hold.
+use mathlib.Core.Path.{_≡_, refl, sym, ap, _∙_, subst}
+use mathlib.Core.Bool.{Bool, true, false, cond, _&&_, _||_, false≢true}
 use mathlib.Core.List.{[]}
 use mathlib.Core.Option.{Option, none, some}
 use Prim.Native.Nat.{ℕ, _^_, _<_}
@@ -24,8 +24,10 @@ use Rattle.values.proofs.laws.WholeLaws.{raised-lt}
 use Rattle.values.proofs.laws.RealLaws.{finite-by-bits}
 use Rattle.values.proofs.laws.StorableLaws.{unset-storable, unpacked-at-kind, unpacked-packed, payload-below, length-cell-bytes}
 use Rattle.text.specs.definitions.Syntax.{Sort, attribute, event, action, Member}
-use Rattle.checking.specs.definitions.Scope.{is-attribute}
-use Rattle.cycles.specs.definitions.StateImage.{
+use Rattle.text.proofs.laws.ListLaws.{some-injective, none-some}
+use Rattle.checking.specs.definitions.Scope.{is-attribute, is-action}
+use Rattle.cycles.specs.definitions.Cycle.{is-sort}
+use Rattle.cycles.specs.definitions.Planes.{
   input-bytes,
   input-of,
   input-at,
@@ -34,7 +36,7 @@ use Rattle.cycles.specs.definitions.StateImage.{
   is-value-cell,
   store-fits,
   is-blank-cell,
-  input-fits-in,
+  kept-fits,
 }
 use Rattle.cycles.proofs.laws.TableLaws.{word-drop, word-low-first}
 
@@ -142,6 +144,7 @@ cell-read k v h = ap (unpacked (tag v)) (payload-read k v h) ∙ unpacked-packed
 
 -- ---- readings
 
+-- a value's tag is no blank's
 tag-below : (v : Value) → tag v < 4
 tag-below (Whole z) = omega arith
 tag-below (Truth b) = omega arith
@@ -152,6 +155,9 @@ tag-below (Real x) = go (isNan x)
     go false = omega arith
 tag-below Unset = omega arith
 
+pub no-blank : (v : Value) → eqb (tag v) 4 ≡ false
+no-blank v = ne-eqb (tag v) 4 (λ e. omega (arith, tag-below v))
+
 pub length-input-bytes : (o : Option Value) → length (input-bytes o) ≡ 9
 length-input-bytes none = refl
 length-input-bytes (some v) = length-cell-bytes v
@@ -160,55 +166,118 @@ pub input-read : (o : Option Value) → ((v : Value) → o ≡ some v → (k : K
 input-read none h = refl
 input-read (some v) h =
     let (k, g) = h v refl in
-    rw (ne-eqb (tag v) 4 (λ e. omega (arith, tag-below v))) (ap some (cell-read k v g))
+    rw (no-blank v) (ap some (cell-read k v g))
 
 -- an event's reading, as a sound state has it
 abbrev pub Event-value : Option Member → Value → Type 0
 Event-value o v = (x : Member) × (o ≡ some x) × (x .sort ≡ event) × T (storable (x .kind) v)
 
-pub input-passes : (o : Option Member) (r : Option Value) → ((v : Value) → r ≡ some v → Event-value o v)
-    → T (input-fits-in o (getD (input-bytes r) 0 0) (word-at 8 (input-bytes r) 1))
-unfolding input-fits-in is-blank-cell
-input-passes none none h = tt
-input-passes (some x) none h = at (x .sort) refl
+-- ---- what is kept of a line
+
+module _ (x : Member) (t w : ℕ) where
+  -- the test by the member's sort
+  pub kept-attribute : x .sort ≡ attribute → kept-fits (some x) t w ≡ is-blank-cell t w
+  unfolding kept-fits
+  kept-attribute q = rw (q, kept-fits)
+
+  pub kept-event : x .sort ≡ event → kept-fits (some x) t w ≡ (is-blank-cell t w || is-value-cell (x .kind) t w)
+  unfolding kept-fits
+  kept-event q = rw (q, kept-fits)
+
+  pub kept-action : x .sort ≡ action → kept-fits (some x) t w ≡ is-value-cell (x .kind) t w
+  unfolding kept-fits
+  kept-action q = rw (q, kept-fits)
+
+-- a blank passes wherever there is no action
+pub blank-passes : (o : Option Member) → is-sort is-action o ≡ false → T (kept-fits o 4 0)
+unfolding kept-fits is-blank-cell is-sort is-action
+blank-passes none h = tt
+blank-passes (some x) h = at (x .sort) refl
   where
-    at : (s : Sort) → x .sort ≡ s → T (input-fits-in (some x) 4 0)
-    at attribute q = rw (q, input-fits-in) tt
-    at event q = rw (q, input-fits-in) tt
-    at action q = rw (q, input-fits-in) tt
-input-passes o (some v) h =
+    at : (s : Sort) → x .sort ≡ s → T (kept-fits (some x) 4 0)
+    at attribute q = rw (kept-attribute x 4 0 q) tt
+    at event q = rw (kept-event x 4 0 q) tt
+    at action q = absurd (false≢true (sym h ∙ ap is-action q))
+
+-- an event's reading, or none, where there is no action
+pub reading-passes : (o : Option Member) (r : Option Value) → is-sort is-action o ≡ false → ((v : Value) → r ≡ some v → Event-value o v)
+    → T (kept-fits o (getD (input-bytes r) 0 0) (word-at 8 (input-bytes r) 1))
+reading-passes o none a h = blank-passes o a
+reading-passes o (some v) a h =
     let x = h v refl .0 in
     let g = h v refl .3 in
-    rw (payload-read (x .kind) v g, h v refl .1, h v refl .2, input-fits-in)
+    rw (payload-read (x .kind) v g, h v refl .1, kept-event x (tag v) (payload v) (h v refl .2))
     (or-right (is-blank-cell (tag v) (payload v)) (is-value-cell (x .kind) (tag v) (payload v)) (value-passes (x .kind) v g))
 
-pub input-sound : (o : Option Member) (t w : ℕ) (v : Value) → T (input-fits-in o t w) → input-of t w ≡ some v → Event-value o v
-unfolding input-fits-in is-blank-cell
-input-sound o t w v h e = go o refl h
+-- the value of an action that fired, or that of one that did not
+pub fired-passes : (x : Member) (v : Value) → x .sort ≡ action → T (storable (x .kind) v)
+    → T (kept-fits (some x) (getD (cell-bytes v) 0 0) (word-at 8 (cell-bytes v) 1))
+fired-passes x v q g = rw (payload-read (x .kind) v g, kept-action x (tag v) (payload v) q) (value-passes (x .kind) v g)
+
+pub an-action : (o : Option Member) → is-sort is-action o ≡ true → (x : Member) × (o ≡ some x) × (x .sort ≡ action)
+unfolding is-sort is-action
+an-action none h = absurd (false≢true h)
+an-action (some x) h = (x, refl, at (x .sort) h)
   where
-    -- a blank cell is no reading
-    blank : T (is-blank-cell t w) → ⊥
-    blank b = let g : none ≡ some v = rw (eqb→eq t 4 (and-l (eqb t 4) (eqb w 0) b)) at e in let z : _≡_ {A = ℕ} 0 1 = cc in omega arith
+    at : (s : Sort) → is-action s ≡ true → s ≡ action
+    at attribute q = absurd (false≢true q)
+    at event q = absurd (false≢true q)
+    at action q = refl
 
-    value : unpacked t w ≡ v
-    value = at (eqb t 4) e
-      where
-        at : (b : Bool) → cond b none (some (unpacked t w)) ≡ some v → unpacked t w ≡ v
-        at true q = let z : _≡_ {A = ℕ} 0 1 = cc in absurd (omega arith)
-        at false q = cc
+-- at an action the value fired, anywhere else the reading
+pub kept-passes : (o : Option Member) (v : Value) (r : Option Value) → ((x : Member) → o ≡ some x → x .sort ≡ action → T (storable (x .kind) v))
+    → ((u : Value) → r ≡ some u → Event-value o u)
+    → T (kept-fits o (getD (cond (is-sort is-action o) (cell-bytes v) (input-bytes r)) 0 0)
+    (word-at 8 (cond (is-sort is-action o) (cell-bytes v) (input-bytes r)) 1))
+kept-passes o v r fired given = at (is-sort is-action o) refl
+  where
+    at : (b : Bool) → is-sort is-action o ≡ b
+        → T (kept-fits o (getD (cond b (cell-bytes v) (input-bytes r)) 0 0) (word-at 8 (cond b (cell-bytes v) (input-bytes r)) 1))
+    at true q = let x = an-action o q in rw (x .1) (fired-passes (x .0) v (x .2) (fired (x .0) (x .1) (x .2)))
+    at false q = reading-passes o r q given
 
-    read : (k : Kind) → T (is-blank-cell t w || is-value-cell k t w) → T (storable k v)
-    read k g = at (is-blank-cell t w) refl g
-      where
-        at : (b : Bool) → is-blank-cell t w ≡ b → T (b || is-value-cell k t w) → T (storable k v)
-        at true q g = absurd (blank (rw q tt))
-        at false q g = rw value at (value-storable k t w g)
+-- and the other way round
+module _ (t w : ℕ) where
+  -- a blank cell is no reading
+  pub blank-none : T (is-blank-cell t w) → input-of t w ≡ none
+  unfolding is-blank-cell
+  blank-none b = rw (eqb→eq t 4 (and-l (eqb t 4) (eqb w 0) b))
 
-    member : (x : Member) → o ≡ some x → (s : Sort) → x .sort ≡ s → T (input-fits-in (some x) t w) → Event-value o v
-    member x p attribute q g = absurd (blank (rw (q, input-fits-in) at g))
-    member x p event q g = (x, p, q, read (x .kind) (rw (q, input-fits-in) at g))
-    member x p action q g = absurd (blank (rw (q, input-fits-in) at g))
+  no-reading : (v : Value) → input-of t w ≡ some v → T (is-blank-cell t w) → ⊥
+  no-reading v e b = none-some (sym (blank-none b) ∙ e)
 
-    go : (p : Option Member) → o ≡ p → T (input-fits-in p t w) → Event-value o v
-    go none p g = absurd (blank g)
-    go (some x) p g = member x p (x .sort) refl g
+  given-value : (v : Value) → input-of t w ≡ some v → unpacked t w ≡ v
+  given-value v e = at (eqb t 4) e
+    where
+      at : (b : Bool) → cond b none (some (unpacked t w)) ≡ some v → unpacked t w ≡ v
+      at true q = absurd (none-some q)
+      at false q = some-injective q
+
+  -- at an event none or a storable reading
+  pub event-sound : (x : Member) (v : Value) → x .sort ≡ event → T (kept-fits (some x) t w) → input-of t w ≡ some v → T (storable (x .kind) v)
+  event-sound x v q h e = at (is-blank-cell t w) refl (rw (kept-event x t w q) at h)
+    where
+      at : (b : Bool) → is-blank-cell t w ≡ b → T (b || is-value-cell (x .kind) t w) → T (storable (x .kind) v)
+      at true p g = absurd (no-reading v e (rw p tt))
+      at false p g = subst (λ (v : Value). T (storable (x .kind) v)) (given-value v e) (value-storable (x .kind) t w g)
+
+  -- at an action a storable value
+  pub fired-sound : (x : Member) → x .sort ≡ action → T (kept-fits (some x) t w) → T (storable (x .kind) (unpacked t w))
+  fired-sound x q h = value-storable (x .kind) t w (rw (kept-action x t w q) at h)
+
+  -- elsewhere blank
+  pub else-blank : (o : Option Member) → ((x : Member) → o ≡ some x → x .sort ≡ attribute) → T (kept-fits o t w) → T (is-blank-cell t w)
+  unfolding kept-fits
+  else-blank none n h = h
+  else-blank (some x) n h = rw (kept-attribute x t w (n x refl)) at h
+
+  -- a reading where there is no action is an event's
+  pub reading-sound : (o : Option Member) (v : Value) → is-sort is-action o ≡ false → T (kept-fits o t w) → input-of t w ≡ some v → Event-value o v
+  unfolding kept-fits is-sort is-action
+  reading-sound none v a h e = absurd (no-reading v e h)
+  reading-sound (some x) v a h e = at (x .sort) refl
+    where
+      at : (s : Sort) → x .sort ≡ s → Event-value (some x) v
+      at attribute q = absurd (no-reading v e (rw (kept-attribute x t w q) at h))
+      at event q = (x, refl, q, event-sound x v q h e)
+      at action q = absurd (false≢true (sym a ∙ ap is-action q))

@@ -2,15 +2,20 @@
 use Prim.Native.Nat.{ℕ, zero, suc, _+_, _-_, _≤_, _<_}
 use native.Mathlib.Numerals.{add-one}
 use native.Mathlib.Omega.{arith}
-use mathlib.Core.Path.{_≡_, refl, ap, _∙_, subst}
+use mathlib.Core.Path.{_≡_, refl, sym, ap, _∙_, subst}
 use mathlib.Core.Bool.{Bool, true, false, not, cond, _&&_}
-use mathlib.Core.List.{List, [], _∷_, _++_}
+use mathlib.Core.List.{List, [], _∷_, _++_, append-nil, append-assoc}
 use lib.Dec.{eqb}
 use lib.ListN.{length, getD, take, drop, length-take, length-drop, drop-of-length-le}
-use lib.Seq.{drop-cons}
-use borrow.Author.Tests.{eq-eqb, ne-eqb}
+use lib.Seq.{drop-cons, take-suc, take-all}
+use borrow.Author.Tests.{eq-eqb, ne-eqb, eqb-true}
 use Rattle.cycles.specs.definitions.Fields.{lengthened, split, fields, is-empty, has-byte}
-use Rattle.cycles.specs.contracts.FieldReads.{Field-start, none-empty, first-length, first-size}
+use Rattle.cycles.specs.contracts.FieldReads.{Field-start, Field-end, none-empty, first-length, first-size}
+
+-- ---- a line from a place on
+
+pub part-to-end : (l : List ℕ) (k : ℕ) → take (length l - k) (drop k l) ≡ drop k l
+part-to-end l k = take-all (length l - k) (drop k l) (rw (length-drop k l) (omega arith))
 
 -- ---- a byte more
 
@@ -78,6 +83,47 @@ module _ (mark : ℕ) (l : List ℕ) (end : ℕ) where
           marked = λ q. absurd (omega arith);
         }
 
+-- ---- the end of the first field
+
+-- no mark stands before i
+pub record Runs-to (mark : ℕ) (l : List ℕ) (i : ℕ) : Type 0 where
+  pub within : i ≤ length l
+  pub field : (x : List ℕ) (rest : List (List ℕ)) → split mark (drop i l) ≡ x ∷ rest → split mark l ≡ (take i l ++ x) ∷ rest
+
+module _ (mark : ℕ) (l : List ℕ) where
+  pub runs-to-none : Runs-to mark l 0
+  runs-to-none = record { within = omega arith; field = λ x rest e. e }
+
+  module _ (i : ℕ) (r : Runs-to mark l i) where
+    module _ (h : i < length l) where
+      pub runs-to-more : (getD l i 0 ≡ mark → ⊥) → Runs-to mark l (i + 1)
+      unfolding lengthened
+      runs-to-more d = record {
+        within = omega arith;
+        field = λ x rest e.
+            r .field (getD l i 0 ∷ x) rest (split-byte mark l i h d ∙ ap (lengthened (getD l i 0)) e)
+            ∙ ap (λ (y : List ℕ). y ∷ rest) (sym (ap (λ (y : List ℕ). y ++ x) (ap (λ (k : ℕ). take k l) (add-one i) ∙ take-suc l i 0 h)
+            ∙ append-assoc (take i l) (getD l i 0 ∷ []) x));
+      }
+
+      pub ends-before-mark : getD l i 0 ≡ mark → Field-end mark l i
+      ends-before-mark e = record {
+        within = omega arith;
+        marked = λ q.
+            r .field [] (split mark (drop (i + 1) l)) (split-mark mark l i h e)
+            ∙ ap (λ (y : List ℕ). y ∷ split mark (drop (i + 1) l)) (append-nil (take i l));
+        whole = λ q. absurd (omega arith);
+      }
+
+    pub ends-line : length l ≤ i → Field-end mark l i
+    ends-line h = record {
+      within = r .within;
+      marked = λ q. absurd (omega arith);
+      whole = λ q.
+          r .field [] [] (split-end mark l i h)
+          ∙ ap (λ (y : List ℕ). y ∷ []) (append-nil (take i l) ∙ take-all i l h);
+    }
+
 -- ---- what was read is the end of all
 
 -- the fields after a place are the last of all fields
@@ -118,6 +164,21 @@ split-first c (b ∷ bs) {x} {xs} e = go (eqb b c) (split c bs) (λ y zs q. spli
     go true ys k e = let n : [] ≡ x = cc in rw (← n)
     go false [] k e = let n : b ∷ [] ≡ x = cc in rw (← n)
     go false (y ∷ zs) k e = let n : b ∷ y ≡ x = cc in rw (← n) (ap (_∷_ b) (k y zs refl))
+
+-- and what stands after it where there are more
+pub split-more : (c : ℕ) (l : List ℕ) {x y : List ℕ} {ys : List (List ℕ)} → split c l ≡ x ∷ y ∷ ys → l ≡ x ++ c ∷ drop (suc (length x)) l
+unfolding split lengthened
+split-more c [] {x} {y} {ys} e = let z : _≡_ {A = ℕ} 0 1 = cc in absurd (omega arith)
+split-more c (b ∷ bs) {x} {y} {ys} e = go (eqb b c) refl (split c bs) (λ z q. split-more c bs q) e
+  where
+    go : (t : Bool) → eqb b c ≡ t → (zs : List (List ℕ)) → ((z : List ℕ) → zs ≡ z ∷ y ∷ ys → bs ≡ z ++ c ∷ drop (suc (length z)) bs)
+        → cond t ([] ∷ zs) (lengthened b zs) ≡ x ∷ y ∷ ys → b ∷ bs ≡ x ++ c ∷ drop (suc (length x)) (b ∷ bs)
+    go true q zs k e = let n : [] ≡ x = cc in rw (← n) (ap (λ (a : ℕ). a ∷ bs) (eqb-true b c q))
+    go false q [] k e = let z : _≡_ {A = ℕ} 0 1 = cc in absurd (omega arith)
+    go false q (z ∷ zs) k e =
+        let n : b ∷ z ≡ x = cc in
+        let m : zs ≡ y ∷ ys = cc in
+        rw (← n) (ap (_∷_ b) (k z (ap (_∷_ z) m)))
 
 -- ---- a byte that occurs
 

@@ -1,82 +1,78 @@
--- The image of a state gathered from areas: exact bytes, and which state's image it is.
-use Prim.Native.Nat.{ℕ, _*_, _≤_}
+-- Planes gathered from areas: exact bytes, and which stores' planes they are.
+use Prim.Native.Nat.{ℕ, _*_, _≤_, _<_}
 use native.Mathlib.Omega.{arith}
-use mathlib.Core.Path.{_≡_, ap, _∙_}
-use mathlib.Core.List.{List, _++_, append-assoc}
-use Rattle.values.specs.definitions.Bytes.{low-first}
+use mathlib.Core.Path.{_≡_, refl, ap, ap₂, _∙_}
+use mathlib.Core.List.{List, _++_}
 use lib.ListN.{length, take, drop, length-append}
 use lib.Seq.{length-take-le, take-at}
-use Rattle.text.specs.definitions.Syntax.{File}
-use Rattle.cycles.specs.definitions.Store.{State}
-use Rattle.cycles.specs.definitions.StateImage.{table, entity-count, image-size, encode, with-state}
 use Rattle.values.specs.contracts.Puts.{Put}
-use Rattle.cycles.specs.contracts.StateMemory.{gathered}
+use Rattle.values.proofs.laws.PutLaws.{put-next, put-length}
+use Rattle.cycles.specs.definitions.Store.{Store, Stores}
+use Rattle.cycles.specs.definitions.Planes.{table, plane-size, stores-size, encode-store, encode-stores, with-stores}
+use Rattle.cycles.specs.contracts.PlaneMemory.{gathered, Stores-gathered}
 use Rattle.cycles.proofs.laws.TableLaws.{length-table}
-use Rattle.cycles.proofs.laws.ImageParts.{flag-piece, presence-piece, cell-piece, input-piece}
+use Rattle.cycles.proofs.laws.PlaneParts.{flag-piece, cell-piece}
 use Rattle.cycles.proofs.laws.PutLaws.{put-in-front}
 
-module _ (n last : ℕ) (now-flags now-cells previous-flags previous-cells input-flags input-cells : List ℕ) where
-  abbrev whole : List ℕ
-  whole = gathered n last now-flags now-cells previous-flags previous-cells input-flags input-cells
-
-  -- the number, three flags, three planes of cells
-  pub gathered-parts :
-      low-first 4 last
-      ++ (take n now-flags ++ take n previous-flags ++ take n input-flags)
-      ++ (take (108 * n) now-cells ++ take (108 * n) previous-cells ++ take (108 * n) input-cells)
-      ≡ whole
+-- areas as long as n entities need
+module _ (n : ℕ) (flags cells : List ℕ) (a : n ≤ length flags) (b : 108 * n ≤ length cells) where
+  pub length-gathered : length (gathered n flags cells) ≡ plane-size n
   unfolding gathered
-  gathered-parts = simp append-assoc
+  length-gathered =
+      let c = length-take-le n flags a in
+      let d = length-take-le (108 * n) cells b in
+      length-append (take n flags) (take (108 * n) cells) ∙ omega arith
 
-  -- areas as long as n entities need
-  module _ (a : n ≤ length now-flags) (b : 108 * n ≤ length now-cells) (c : n ≤ length previous-flags) (d : 108 * n ≤ length previous-cells)
-      (e : n ≤ length input-flags) (f : 108 * n ≤ length input-cells) where
-    length-gathered : length whole ≡ image-size n
-    unfolding gathered
-    length-gathered =
-        simp (
-          length-append,
-          length-take-le n now-flags a,
-          length-take-le n previous-flags c,
-          length-take-le n input-flags e,
-          length-take-le (108 * n) now-cells b,
-          length-take-le (108 * n) previous-cells d,
-          length-take-le (108 * n) input-cells f,
-        )
-        (omega arith)
+-- ---- as code puts them
 
-    pub gathered-put : {before after : List ℕ} {r : ℕ} → Put whole before 0 after r → image-size n ≤ length before
-        → after ≡ whole ++ drop (image-size n) before
-    gathered-put {before} {after} {r} p l =
-        let k = length-gathered in
-        let q = p .end in
-        let m : r ≡ image-size n = omega arith in
-        put-in-front p (omega arith) .is ∙ ap (λ (i : ℕ). whole ++ drop i before) m
+pub plane-put : (n : ℕ) (flags cells : List ℕ) {before between after : List ℕ} {at next r : ℕ} → Put (take n flags) before at between next
+    → Put (take (108 * n) cells) between next after r → Put (gathered n flags cells) before at after r
+unfolding gathered
+plane-put n flags cells p q = put-next p q
 
--- ---- the image of a state
+module _ {n : ℕ} {flags now-cells previous-cells before : List ℕ} where
+  -- more entities than a bench has: nothing is put
+  pub none-gathered : 32 < n → Stores-gathered n flags now-cells previous-cells before before
+  none-gathered h = record { same = refl; is = λ few. absurd (omega arith) }
 
--- the areas hold the parts of a state of n entities
-pub record Areas-of (n : ℕ) (s : State) (now-flags now-cells previous-flags previous-cells input-flags input-cells : List ℕ) : Type 0 where
-  pub present : take n now-flags ≡ table (flag-piece (s .now .present)) 0 n
+  pub both-gathered : {between after : List ℕ} {next r : ℕ} → Put (gathered n flags now-cells) before 0 between next
+      → Put (gathered n flags previous-cells) between next after r → r ≡ stores-size n → stores-size n ≤ length before
+      → Stores-gathered n flags now-cells previous-cells before after
+  both-gathered {r = r} p q e l =
+      let both = put-next p q in
+      record {
+        same = put-length both;
+        is = λ few.
+            put-in-front both (omega arith) .is
+            ∙ ap (λ (k : ℕ). gathered n flags now-cells ++ gathered n flags previous-cells ++ drop k before) e;
+      }
+
+-- ---- the planes of stores
+
+-- the areas hold the parts of two stores of n entities, of the same presence
+pub record Areas-of (n : ℕ) (s : Stores) (flags now-cells previous-cells : List ℕ) : Type 0 where
+  pub present : take n flags ≡ table (flag-piece (s .now .present)) 0 n
   pub now : take (108 * n) now-cells ≡ table (cell-piece (s .now .cell)) 0 (12 * n)
-  pub previous-present : take n previous-flags ≡ table (flag-piece (s .previous .present)) 0 n
+  pub previous-present : take n flags ≡ table (flag-piece (s .previous .present)) 0 n
   pub previous : take (108 * n) previous-cells ≡ table (cell-piece (s .previous .cell)) 0 (12 * n)
-  pub presence : take n input-flags ≡ table (presence-piece (s .inputs .presence)) 0 n
-  pub given : take (108 * n) input-cells ≡ table (input-piece (s .inputs .given)) 0 (12 * n)
 
-module _ {n : ℕ} {s : State} {now-flags now-cells previous-flags previous-cells input-flags input-cells : List ℕ}
-    (h : Areas-of n s now-flags now-cells previous-flags previous-cells input-flags input-cells) where
-  pub gathered-image : gathered n (s .last) now-flags now-cells previous-flags previous-cells input-flags input-cells ≡ encode n s
-  unfolding gathered encode
-  gathered-image = rw (h .present, h .now, h .previous-present, h .previous, h .presence, h .given)
+pub gathered-store : (n : ℕ) (s : Store) (flags cells : List ℕ) → take n flags ≡ table (flag-piece (s .present)) 0 n
+    → take (108 * n) cells ≡ table (cell-piece (s .cell)) 0 (12 * n) → gathered n flags cells ≡ encode-store n s
+unfolding gathered encode-store
+gathered-store n s flags cells p c = ap₂ _++_ p c
 
--- memory with a state's image written to it
-pub gathered-state : (f : File) (s : State) {now-flags now-cells previous-flags previous-cells input-flags input-cells : List ℕ}
-    → Areas-of (entity-count f) s now-flags now-cells previous-flags previous-cells input-flags input-cells → (m : List ℕ)
-    → gathered (entity-count f) (s .last) now-flags now-cells previous-flags previous-cells input-flags input-cells ++ drop (image-size (entity-count f)) m
-    ≡ with-state f s m
-unfolding with-state
-gathered-state f s h m = ap (λ (l : List ℕ). l ++ drop (image-size (entity-count f)) m) (gathered-image h)
+-- memory with stores written to it
+pub gathered-stores : (n : ℕ) (s : Stores) {flags now-cells previous-cells : List ℕ} → Areas-of n s flags now-cells previous-cells → (m : List ℕ)
+    → gathered n flags now-cells ++ gathered n flags previous-cells ++ drop (stores-size n) m ≡ with-stores n s m
+unfolding with-stores encode-stores
+gathered-stores n s {flags} {now-cells} {previous-cells} h m =
+    ap₂ (λ (x y : List ℕ). x ++ y ++ drop (stores-size n) m) (gathered-store n (s .now) flags now-cells (h .present) (h .now))
+    (gathered-store n (s .previous) flags previous-cells (h .previous-present) (h .previous))
+
+-- the same, of memory to which code has put the areas
+pub stores-gathered : {n : ℕ} {flags now-cells previous-cells before after : List ℕ} → Stores-gathered n flags now-cells previous-cells before after
+    → n ≤ 32 → (s : Stores) → Areas-of n s flags now-cells previous-cells → after ≡ with-stores n s before
+stores-gathered {n = n} {before = before} g few s h = g .is few ∙ gathered-stores n s h before
 
 -- an area that begins with a table
 pub area-taken : (piece : ℕ → List ℕ) (size : ℕ) → ((i : ℕ) → length (piece i) ≡ size) → (k bytes : ℕ) → k * size ≡ bytes

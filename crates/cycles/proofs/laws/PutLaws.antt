@@ -7,7 +7,7 @@ use lib.ListN.{length, drop}
 use Rattle.values.specs.contracts.Puts.{Put}
 use Rattle.values.proofs.laws.ByteLaws.{overwritten-parts}
 use Rattle.values.proofs.laws.PutLaws.{put-none, put-next, put-same}
-use Rattle.cycles.specs.definitions.StateImage.{table}
+use Rattle.cycles.specs.definitions.Planes.{table}
 use Rattle.cycles.specs.contracts.RowMemory.{In-front}
 use Rattle.cycles.proofs.laws.TableLaws.{table-next}
 

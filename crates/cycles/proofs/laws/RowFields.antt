@@ -14,7 +14,7 @@ use Rattle.checking.proofs.laws.WithinCounts.{Within-counts}
 use Rattle.text.proofs.laws.ListLaws.{flatMap-flatMap}
 use Rattle.cycles.specs.definitions.Spots.{Spot, numbered, members-of, entity-cells, cells}
 use Rattle.cycles.specs.definitions.Row.{action-cells, action-fields}
-use Rattle.cycles.specs.definitions.StateImage.{table, entity-count}
+use Rattle.cycles.specs.definitions.Planes.{table, entity-count}
 use Rattle.cycles.specs.contracts.RowMemory.{field-of, field-at}
 use Rattle.cycles.proofs.laws.TableLaws.{table-append}
 use Rattle.cycles.proofs.laws.CellNumbers.{none-past}
@@ -134,6 +134,7 @@ module _ (f : File) (w : Within-counts f) (field : Spot → List ℕ) where
   unfolding cells field-at
   fields-table =
       fields-by-cell
-      ∙ flatMap-flatMap spot-field (λ e. entity-cells f (e .number)) (λ e. flatMap spot-field (entity-cells f (e .number))) (λ e. refl) (numbered 0 (f .entities))
+      ∙ flatMap-flatMap spot-field (λ e. entity-cells f (e .number)) (λ e. flatMap spot-field (entity-cells f (e .number)))
+      (λ e. refl) (numbered 0 (f .entities))
       ∙ numbered-table (λ e. flatMap spot-field (entity-cells f (e .number))) (λ e. table (piece e) 0 12) 0 (f .entities) (λ j x q. entity-fields (0 + j))
       ∙ table-by-twelve piece 0 (length (f .entities))

@@ -6,7 +6,7 @@ use mathlib.Core.Bool.{Bool, true, false, true≢false}
 use mathlib.Core.List.{List, [], _∷_, _++_}
 use mathlib.Core.Option.{Option, none, some}
 use lib.Dec.{ltb}
-use lib.ListN.{length, getD, getElem?, set, drop, length-set, length-take, List·getD-eq-default}
+use lib.ListN.{length, getD, getElem?, set, drop, length-take, List·getD-eq-default}
 use borrow.Author.Tests.{ltb-true, ltb-false}
 use lib.Seq.{append-snoc}
 use Rattle.values.specs.declared.Value.{Value}
@@ -14,8 +14,8 @@ use Rattle.values.specs.declared.Kind.{Kind}
 use Rattle.values.specs.declared.Kind.the-variants.{Wholes, Bools, Reals}
 use Rattle.values.specs.definitions.Bytes.{overwritten}
 use Rattle.values.specs.definitions.Cells.{cell-at}
-use Rattle.values.specs.definitions.Forms.{decimal, printed}
-use Rattle.values.proofs.laws.FormLaws.{decimal-most, printed-most}
+use Rattle.values.specs.definitions.Forms.{printed}
+use Rattle.values.proofs.laws.FormLaws.{printed-most}
 use Rattle.text.specs.definitions.Tokens.{Token, tokens, tokens-of}
 use Rattle.text.specs.definitions.Syntax.{Member, Entity, File}
 use Rattle.text.proofs.laws.SpotLaws.{stands-drop}
@@ -24,12 +24,12 @@ use Rattle.checking.specs.contracts.DirectoryReads.{Few}
 use Rattle.checking.specs.definitions.Scope.{member-of, is-action}
 use Rattle.checking.specs.definitions.Verdict.{name-if-found}
 use Rattle.checking.specs.contracts.Directory.{name-in, Columns-of, kind-class, Bench}
+use Rattle.checking.proofs.laws.WithinCounts.{Within-counts}
 use Rattle.checking.proofs.laws.DirectoryLaws.{number-below, number-inside, named-bytes}
-use Rattle.cycles.specs.definitions.Store.{State}
 use Rattle.cycles.specs.definitions.Spots.{Spot}
 use Rattle.cycles.specs.definitions.Cycle.{is-sort}
-use Rattle.cycles.specs.definitions.Row.{action-fields, row-header, row}
-use Rattle.cycles.specs.definitions.StateImage.{table, entity-count}
+use Rattle.cycles.specs.definitions.Row.{action-fields, row-header}
+use Rattle.cycles.specs.definitions.Planes.{table, entity-count}
 use Rattle.cycles.specs.contracts.CellTokens.{Member-at, Token-of, Cell-token, Sort-test}
 use Rattle.values.specs.contracts.Puts.{Put}
 use Rattle.cycles.specs.contracts.RowMemory.{
@@ -40,13 +40,12 @@ use Rattle.cycles.specs.contracts.RowMemory.{
   Fired-put,
   Short-names,
   Name-put,
-  Now-in,
-  Row-put,
+  Fields-put,
   Header-put,
 }
 use Rattle.cycles.proofs.laws.TableLaws.{table-same}
 use Rattle.cycles.proofs.laws.CellTokenLaws.{few-within, action-class, member-told, entity-told}
-use Rattle.values.proofs.laws.PutLaws.{put-none, put-said, put-byte, put-next, put-same}
+use Rattle.values.proofs.laws.PutLaws.{put-none, put-said, put-byte, put-length, put-next, put-same}
 use Rattle.cycles.proofs.laws.PutLaws.{put-piece, put-no-piece, put-in-front}
 use Rattle.cycles.proofs.laws.RowFields.{fields-table}
 
@@ -108,20 +107,17 @@ module _ {classes d cells : List ℕ} {i token : ℕ} (t : Cell-token d i token)
         ∙ a-field (fired-field cells) (i / 12) (i % 12) o (sym e ∙ action-told t a w c) .2);
   }
 
--- a field from a state
-abbrev now-field : State → Spot → List ℕ
-now-field s p = printed (s .now .cell (p .entity) (p .member))
-
-row-is : (f : File) (s : State) → row f s ≡ decimal (s .last) ++ action-fields f (now-field s)
-unfolding row
-row-is f s = refl
-
-fields-agree : (f : File) (s : State) (cells : List ℕ) → Now-in f s cells → (j : ℕ) → field-at f (fired-field cells) j ≡ field-at f (now-field s) j
+-- fields that agree at the file's members
+pub fields-agree : (f : File) → Within-counts f → (field other : Spot → List ℕ)
+    → ((e m : ℕ) (x : Member) → member-of f e m ≡ some x
+    → field (record { entity = e; member = m; what = x }) ≡ other (record { entity = e; member = m; what = x }))
+    → action-fields f field ≡ action-fields f other
 unfolding field-at
-fields-agree f s cells h j =
-    let e = j / 12 in
-    let m = j % 12 in
-    same-field (fired-field cells) e m (now-field s) (member-of f e m) (λ x q. ap printed (sym (h e m x q)))
+fields-agree f w field other h =
+    fields-table f w field
+    ∙ table-same (field-at f field) (field-at f other) 0 (12 * entity-count f)
+    (λ j x y. same-field field (j / 12) (j % 12) other (member-of f (j / 12) (j % 12)) (h (j / 12) (j % 12)))
+    ∙ sym (fields-table f w other)
 
 -- the fields of the first i cells
 pub record Fired-so-far (classes d cells before : List ℕ) (from i : ℕ) (after : List ℕ) (at : ℕ) : Type 0 where
@@ -147,32 +143,23 @@ module _ {classes d cells : List ℕ} where
   }
 
   module _ {n : ℕ} (e : n ≡ getD d 1 0) where
-    pub row-impossible : 32 < n → {last : ℕ} {l m : List ℕ} → Row-put classes d cells last l m 0
-    row-impossible h = record {
+    pub fields-impossible : 32 < n → {l m : List ℕ} {at : ℕ} → Fields-put classes d cells l at m at
+    fields-impossible h = record {
       short = omega arith;
       is = λ text offsets lengths w c. let q = w .directory .entities in absurd (omega (arith, c .entities));
     }
 
-    -- the number, and the fields of all cells
-    pub row-end : {last from at i : ℕ} {a l m : List ℕ} → (from ≡ 0 + length (decimal last)) × (l ≡ overwritten a 0 (decimal last))
-        → Fired-so-far classes d cells l from i m at → i ≤ 12 * n → 12 * n ≤ i → n ≤ 32 → 32768 ≤ length a → Row-put classes d cells last a m at
-    row-end {last} {from} {at} {i} {a} p q g h few big = record {
-      short = let low = decimal-most last in let high = q .short in let end = p .0 in omega arith;
-      is = λ text offsets lengths w c s k cs.
+    -- the fields of all cells
+    pub fields-end : {at next i : ℕ} {l m : List ℕ} → Fired-so-far classes d cells l at i m next → i ≤ 12 * n → 12 * n ≤ i → n ≤ 32
+        → Fields-put classes d cells l at m next
+    fields-end {i = i} q g h few = record {
+      short = let high = q .short in omega arith;
+      is = λ text offsets lengths w c.
           let f = w .file in
           let z = w .directory .entities in
           let all : i ≡ 12 * entity-count f = omega arith in
-          let low = decimal-most last in
-          let high = q .short in
-          let end = p .0 in
-          put-in-front
-          (put-same (put-next (put-said (decimal last) p) (q .is text offsets lengths w c))
-          (ap₂ (λ (x y : List ℕ). x ++ y) (ap decimal (sym k))
-          (ap (table (field-at f (fired-field cells)) 0) all
-          ∙ table-same (field-at f (fired-field cells)) (field-at f (now-field s)) 0 (12 * entity-count f) (λ j x y. fields-agree f s cells cs j)
-          ∙ sym (fields-table f (few-within f c) (now-field s)))
-          ∙ sym (row-is f s)))
-          (omega arith);
+          put-same (q .is text offsets lengths w c)
+          (ap (table (field-at f (fired-field cells)) 0) all ∙ sym (fields-table f (few-within f c) (fired-field cells)));
     }
 
 -- ---- the header
@@ -308,19 +295,23 @@ module _ {text classes offsets lengths d : List ℕ} where
       is = λ w c. let q = w .directory .entities in absurd (omega (arith, c .entities));
     }
 
-    pub header-end : {at i : ℕ} (a : List ℕ) {m : List ℕ} → Names-so-far text classes offsets lengths d (set a 0 110) 1 i m at
-        → i ≤ 12 * n → 12 * n ≤ i → Header-put text classes offsets lengths d a m at
+    pub header-end : {at i from : ℕ} {a l m : List ℕ} → (from ≡ 0 + 4) × (l ≡ overwritten a 0 (98 ∷ 121 ∷ 32 ∷ 110 ∷ []))
+        → Names-so-far text classes offsets lengths d l from i m at → i ≤ 12 * n → 12 * n ≤ i → Header-put text classes offsets lengths d a m at
     unfolding row-header
-    header-end {at} {i} a q g h = record {
-      short = λ w c s. let z = w .directory .entities in let high = q .is w c s .0 in omega (arith, c .entities);
-      is = λ w c s.
-          let f = w .file in
-          let z = w .directory .entities in
-          let all : i ≡ 12 * entity-count f = omega arith in
-          let long = q .same ∙ length-set a 0 110 in
-          let high = q .within in
-          put-in-front
-          (put-same (put-next (put-byte a 0 110) (q .is w c s .1))
-          (ap (_∷_ 110) (ap (table (field-at f (name-field f)) 0) all ∙ sym (fields-table f (few-within f c) (name-field f)))))
-          (omega arith);
-    }
+    header-end {i = i} {from} {a} {l} p q g h =
+        let by : Put (98 ∷ 121 ∷ 32 ∷ 110 ∷ []) a 0 l from = put-said (98 ∷ 121 ∷ 32 ∷ 110 ∷ []) p in
+        let end = p .0 in
+        record {
+          short = λ w c s. let z = w .directory .entities in let high = q .is w c s .0 in omega (arith, c .entities);
+          is = λ w c s.
+              let f = w .file in
+              let z = w .directory .entities in
+              let all : i ≡ 12 * entity-count f = omega arith in
+              let long = q .same ∙ put-length by in
+              let high = q .within in
+              put-in-front
+              (put-same (put-next by (q .is w c s .1))
+              (ap (λ (x : List ℕ). 98 ∷ 121 ∷ 32 ∷ 110 ∷ x)
+              (ap (table (field-at f (name-field f)) 0) all ∙ sym (fields-table f (few-within f c) (name-field f)))))
+              (omega arith);
+        }

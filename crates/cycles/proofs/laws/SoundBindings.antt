@@ -34,7 +34,7 @@ use Rattle.cycles.specs.contracts.TotalMachine.{binding-writes}
 use Rattle.cycles.specs.definitions.Reference.{ref-binding-writes}
 use Rattle.cycles.specs.definitions.Bindings.{number-if, candidates, bindings, are-known, ref-rule-writes, ref-all-writes}
 use Rattle.cycles.specs.contracts.TotalMachine.{rule-writes, all-writes}
-use Rattle.cycles.specs.definitions.SoundState.{Sound-store}
+use Rattle.cycles.specs.definitions.SoundStores.{Sound-store}
 use Rattle.cycles.proofs.laws.AmongLaws.{numbered-at}
 use Rattle.cycles.proofs.laws.WalkLaws.{collected-runs, every-passes, member-among}
 use Rattle.cycles.proofs.laws.SpotLaws.{Stands, found-spot, entity-spot, Resolves}

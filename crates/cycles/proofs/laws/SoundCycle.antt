@@ -1,10 +1,9 @@
--- For an accepted file the reference machine runs, as the total machine does, from a sound state to a sound state; and what is fresh or read is sound.
-use Prim.Native.Nat.{ℕ, _≤_}
+-- For an accepted file the reference machine runs a cycle, as the total machine does, from sound stores to sound stores; and fresh ones are sound.
+use Prim.Native.Nat.{ℕ}
 use mathlib.Core.Path.{_≡_, refl, sym, _∙_, subst}
-use mathlib.Core.Bool.{Bool, true, false}
 use mathlib.Core.List.{List, List·Memᴰ}
 use mathlib.Core.Option.{Option, none, some}
-use lib.Dec.{T, eqb}
+use lib.Dec.{T}
 use lib.Ieee.Bits.{is-true}
 use lib.Ieee.Fits.{and-i}
 use lib.ListN.{length}
@@ -21,20 +20,18 @@ use Rattle.checking.specs.definitions.Verdict.{file-verdict, verdict}
 use Rattle.checking.proofs.laws.VerdictLaws.{accepted-verdict}
 use Rattle.checking.proofs.laws.AcceptedLaws.{accepted-parsed}
 use Rattle.checking.proofs.laws.CheckedFile.{Known-file, accepted-known}
-use Rattle.cycles.specs.definitions.Outcome.{Outcome, running}
-use Rattle.cycles.specs.definitions.Store.{Inputs, State, Line}
+use Rattle.cycles.specs.definitions.Outcome.{running}
+use Rattle.cycles.specs.definitions.Store.{Inputs, Stores}
 use Rattle.cycles.specs.definitions.Spots.{Spot, every, cells}
 use Rattle.cycles.specs.contracts.TotalMachine.{all-writes}
-use Rattle.cycles.specs.definitions.Cycle.{seen, input-fits, inputs-fit, ref-cycle, ref-follow, fresh}
-use Rattle.cycles.specs.contracts.TotalMachine.{cycle, follow}
-use Rattle.cycles.specs.definitions.Line.{accepted, MOST-LINES, line}
-use Rattle.cycles.specs.definitions.SoundState.{Sound-inputs, Sound-state}
+use Rattle.cycles.specs.definitions.Cycle.{seen, input-fits, inputs-fit, ref-cycle, fresh-stores, ref-fresh-stores}
+use Rattle.cycles.specs.contracts.TotalMachine.{cycle}
+use Rattle.cycles.specs.definitions.SoundStores.{Sound-inputs, Sound-stores}
 use Rattle.cycles.proofs.laws.WalkLaws.{every-passes}
 use Rattle.cycles.proofs.laws.SpotLaws.{cell-stands}
 use Rattle.cycles.proofs.laws.SoundBindings.{rules-run}
 use Rattle.cycles.proofs.laws.SoundStores.{seen-sound, seen-attribute, stored-sound, stored-attribute}
-use Rattle.cycles.proofs.laws.SoundFresh.{known-fresh-sound}
-use Rattle.cycles.proofs.laws.SoundLine.{accepted-line-sound}
+use Rattle.cycles.proofs.laws.SoundFresh.{known-fresh-sound, known-fresh-runs}
 
 -- ---- inputs fit
 
@@ -59,46 +56,36 @@ inputs-pass f k i s =
 
 -- ---- a cycle
 
-module _ (f : File) (known : Known-file f) (s : State) (sound : Sound-state f s) (l : Line)
-    (taken : Sound-inputs f (l .inputs)) (bound : l .number ≤ MOST-LINES) where
-  cycle-sound : (ref-cycle f s l ≡ running (cycle f s l)) × Sound-state f (cycle f s l)
+module _ (f : File) (known : Known-file f) (s : Stores) (sound : Sound-stores f s) (i : Inputs) (taken : Sound-inputs f i) where
+  known-cycle-sound : (ref-cycle f s i ≡ running (cycle f s i)) × Sound-stores f (cycle f s i)
   unfolding ref-cycle cycle
-  cycle-sound =
-      let now = seen-sound f (s .now) (l .inputs) (sound .now) taken in
-      let w = rules-run f (seen f (s .now) (l .inputs)) (s .previous) now (sound .previous) known in (
-        rw (is-true (inputs-fit f (l .inputs)) (inputs-pass f known (l .inputs) taken), w .0),
+  known-cycle-sound =
+      let now = seen-sound f (s .now) i (sound .now) taken in
+      let w = rules-run f (seen f (s .now) i) (s .previous) now (sound .previous) known in (
+        rw (is-true (inputs-fit f i) (inputs-pass f known i taken), w .0),
         record {
-          now = stored-sound f (seen f (s .now) (l .inputs)) (all-writes f (seen f (s .now) (l .inputs)) (s .previous)) now (w .1);
+          now = stored-sound f (seen f (s .now) i) (all-writes f (seen f (s .now) i) (s .previous)) now (w .1);
           previous = now;
           attributes = λ e m x q t.
               rw (
-                stored-attribute f (seen f (s .now) (l .inputs)) (all-writes f (seen f (s .now) (l .inputs)) (s .previous)) e m x q t,
-                seen-attribute f (s .now) (l .inputs) (sound .now) taken e m x q t,
+                stored-attribute f (seen f (s .now) i) (all-writes f (seen f (s .now) i) (s .previous)) e m x q t,
+                seen-attribute f (s .now) i (sound .now) taken e m x q t,
               ) (sound .attributes e m x q t);
-          attributes-before = λ e m x q t p. rw (seen-attribute f (s .now) (l .inputs) (sound .now) taken e m x q t) (sound .attributes e m x q t);
-          inputs = taken;
-          last = bound;
+          attributes-before = λ e m x q t p. rw (seen-attribute f (s .now) i (sound .now) taken e m x q t) (sound .attributes e m x q t);
         },
       )
 
 -- ---- the laws
 
+pub cycle-sound : (f : File) → file-verdict f ≡ Verdict.accepted f → (s : Stores) → Sound-stores f s → (i : Inputs) → Sound-inputs f i
+    → (ref-cycle f s i ≡ running (cycle f s i)) × Sound-stores f (cycle f s i)
+cycle-sound f h s sound i taken = known-cycle-sound f (accepted-known f h) s sound i taken
+
 -- for a text and not for any tree, since in a tree a literal may be too large to be set
-pub fresh-sound : (text : List ℕ) (f : File) → verdict text ≡ Verdict.accepted f → Sound-state f (fresh f)
-fresh-sound text f h =
+pub fresh-stores-sound : (text : List ℕ) (f : File) → verdict text ≡ Verdict.accepted f → Sound-stores f (fresh-stores f)
+fresh-stores-sound text f h =
     let a = accepted-parsed text f h in
     known-fresh-sound f (accepted-known f (accepted-verdict text h)) (parsed-small text (length text) (a .read) f (a .lexed) (a .parsed))
 
-pub line-sound : (f : File) (s : State) (names values : List ℕ) (l : Line) → line f s names values ≡ accepted l
-    → Sound-inputs f (l .inputs) × (l .number ≤ MOST-LINES)
-line-sound = accepted-line-sound
-
-pub follow-sound : (f : File) → file-verdict f ≡ Verdict.accepted f → (s : State) → Sound-state f s → (l : Line) → Sound-inputs f (l .inputs)
-    → l .number ≤ MOST-LINES → (ref-follow f s l ≡ running (follow f s l)) × Sound-state f (follow f s l)
-unfolding ref-follow follow
-follow-sound f h s sound l taken bound = go (eqb (l .number) (s .last))
-  where
-    go : (b : Bool) → _≡_ {A = Outcome State} (elim b [ true ↦ running s | false ↦ ref-cycle f s l ]) (running (elim b [ true ↦ s | false ↦ cycle f s l ]))
-        × Sound-state f (elim b [ true ↦ s | false ↦ cycle f s l ])
-    go true = (refl, sound)
-    go false = cycle-sound f (accepted-known f h) s sound l taken bound
+pub fresh-stores-run : (text : List ℕ) (f : File) → verdict text ≡ Verdict.accepted f → ref-fresh-stores f ≡ running (fresh-stores f)
+fresh-stores-run text f h = known-fresh-runs f (accepted-known f (accepted-verdict text h))

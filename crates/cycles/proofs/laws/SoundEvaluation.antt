@@ -70,7 +70,7 @@ use Rattle.cycles.specs.definitions.Reference.{
   ref-writes-if,
   ref-binding-writes,
 }
-use Rattle.cycles.specs.definitions.SoundState.{Sound-store}
+use Rattle.cycles.specs.definitions.SoundStores.{Sound-store}
 use Rattle.cycles.proofs.laws.WalkLaws.{collected-runs}
 use Rattle.cycles.proofs.laws.SpotLaws.{Stands, read-storable, found-spot, Resolves, kind-known}
 

@@ -23,8 +23,8 @@ use Rattle.checking.proofs.laws.AcceptedLaws.{named-interface}
 use Rattle.checking.proofs.laws.CheckedFile.{Known-assignment, Known-entity, Known-file}
 use Rattle.cycles.specs.definitions.Outcome.{running}
 use Rattle.cycles.specs.definitions.Spots.{every}
-use Rattle.cycles.specs.definitions.Cycle.{assigned, initial-value, fresh, assignment-fits, assignments-fit, ref-fresh}
-use Rattle.cycles.specs.definitions.SoundState.{Sound-store, Sound-inputs, Sound-state}
+use Rattle.cycles.specs.definitions.Cycle.{assigned, initial-value, fresh-stores, assignment-fits, assignments-fit, ref-fresh-stores}
+use Rattle.cycles.specs.definitions.SoundStores.{Sound-store, Sound-stores}
 use Rattle.cycles.proofs.laws.WalkLaws.{every-passes}
 
 -- the members of an entity are those of its interface
@@ -58,8 +58,8 @@ module _ (f : File) (known : Known-file f) (small : All Small-assignments (f .en
         rw l (literal-set (r .item .literal) (small y inside (r .item) a)),
       )
 
-  fresh-cell : (e m : ℕ) (x : Member) → member-of f e m ≡ some x → T (storable (x .kind) (fresh f .now .cell e m))
-  unfolding fresh
+  fresh-cell : (e m : ℕ) (x : Member) → member-of f e m ≡ some x → T (storable (x .kind) (fresh-stores f .now .cell e m))
+  unfolding fresh-stores
   fresh-cell e m x h = by-entity (getElem? (f .entities) e) refl
     where
       by-sort : (y : Entity) → getElem? (f .entities) e ≡ some y → (b : Bool) → (T b → T (is-attribute (x .sort)))
@@ -71,8 +71,8 @@ module _ (f : File) (known : Known-file f) (small : All Small-assignments (f .en
       by-entity none g = unset-storable (x .kind)
       by-entity (some y) g = rw h (by-sort y g (is-attribute (x .sort)) (λ t. t))
 
-  fresh-attribute : (e m : ℕ) (x : Member) → member-of f e m ≡ some x → T (is-attribute (x .sort)) → T (is-set (fresh f .now .cell e m))
-  unfolding fresh
+  fresh-attribute : (e m : ℕ) (x : Member) → member-of f e m ≡ some x → T (is-attribute (x .sort)) → T (is-set (fresh-stores f .now .cell e m))
+  unfolding fresh-stores
   fresh-attribute e m x h t = by-entity (getElem? (f .entities) e) refl
     where
       by-entity : (o : Option Entity) → getElem? (f .entities) e ≡ o → T (is-set (initial-value o (member-of f e m)))
@@ -87,11 +87,8 @@ no-member (some y) = refl
 empty-sound : (f : File) → Sound-store f (record { present = λ e. false; cell = λ e m. Unset })
 empty-sound f = record { of-kind = λ e m x q. unset-storable (x .kind); no-cell = λ e m q. refl; no-entity = λ e q. refl }
 
-no-inputs-sound : (f : File) → Sound-inputs f (record { presence = λ e. none; given = λ e m. none })
-no-inputs-sound f = record { of-kind = λ e m v q. absurd (none-some q); no-entity = λ e q. refl }
-
-pub known-fresh-sound : (f : File) → Known-file f → All Small-assignments (f .entities) → Sound-state f (fresh f)
-unfolding fresh
+pub known-fresh-sound : (f : File) → Known-file f → All Small-assignments (f .entities) → Sound-stores f (fresh-stores f)
+unfolding fresh-stores
 known-fresh-sound f known small = record {
   now = record {
     of-kind = fresh-cell f known small;
@@ -101,8 +98,6 @@ known-fresh-sound f known small = record {
   previous = empty-sound f;
   attributes = fresh-attribute f known small;
   attributes-before = λ e m x q t p. absurd (false≢true p);
-  inputs = no-inputs-sound f;
-  last = lit≤ tt;
 }
 
 -- ---- the reference machine
@@ -124,8 +119,8 @@ entity-passes f e k =
     (every-passes (λ (a : Assignment). assignment-fits (member-named i (a .name .bytes)) (literal-value (a .literal))) (e .assignments)
     (λ a m. assignment-passes i a (k .assignment a m)))
 
-pub known-fresh-runs : (f : File) → Known-file f → ref-fresh f ≡ running (fresh f)
-unfolding ref-fresh
+pub known-fresh-runs : (f : File) → Known-file f → ref-fresh-stores f ≡ running (fresh-stores f)
+unfolding ref-fresh-stores
 known-fresh-runs f known =
     let fits : Entity → Bool = λ e. assignments-fit (interface-named f (e .interface .bytes)) (e .assignments) in
     rw (is-true (every fits (f .entities)) (every-passes fits (f .entities) (λ e m. entity-passes f e (known .entity e m))))

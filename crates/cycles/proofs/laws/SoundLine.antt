@@ -1,12 +1,11 @@
--- An accepted line: only the bench's events have readings, each of its cell's kind, and only its entities presence.
-use Prim.Native.Nat.{ℕ, _+_, _≤_}
-use native.Mathlib.Omega.{arith}
+-- Columns and inputs that a bench reads: only its events have readings, each of its cell's kind, and only its entities presence.
+use Prim.Native.Nat.{ℕ}
 use mathlib.Core.Path.{_≡_, refl, sym, ap, ap₂, _∙_, subst}
-use mathlib.Core.Bool.{Bool, true, false, not, _&&_, _||_, cond}
+use mathlib.Core.Bool.{Bool, true, false, _&&_, cond}
 use mathlib.Core.List.{List, [], _∷_, List·Memᴰ·head, List·Memᴰ·tail}
 use mathlib.Core.Option.{Option, none, some}
-use lib.Dec.{T, leb, leb→le, eqb, eqb→eq}
-use lib.Ieee.Fits.{and-l, and-r}
+use lib.Dec.{T, leb, eqb, eqb→eq}
+use lib.Ieee.Fits.{and-l}
 use lib.ListN.{length, getElem?}
 use Rattle.values.specs.declared.Value.{Value}
 use Rattle.values.specs.declared.Field.{Field}
@@ -19,8 +18,7 @@ use Rattle.text.specs.definitions.Syntax.{Sort, attribute, event, action, Membe
 use Rattle.text.proofs.laws.ListLaws.{some-injective, none-some, All, all-none, all-cons}
 use Rattle.checking.specs.definitions.Scope.{Indexed, entity-named, member-of}
 use Rattle.checking.proofs.laws.LookUpLaws.{entity-found}
-use Rattle.cycles.specs.definitions.Store.{State, Line}
-use Rattle.cycles.specs.definitions.Spots.{Spot, spot-of, every}
+use Rattle.cycles.specs.definitions.Spots.{Spot, spot-of}
 use Rattle.cycles.specs.definitions.Fields.{split, fields}
 use Rattle.cycles.specs.definitions.Header.{
   Column,
@@ -34,47 +32,12 @@ use Rattle.cycles.specs.definitions.Header.{
   column-before,
   columns,
   columns-after-n,
+  columns-after-by,
   header,
 }
-use Rattle.cycles.specs.definitions.Record.{record-of, Input, field-in, input-before, inputs-in, as-truth, presence-in, given-in, inputs-of, takes-input}
-use Rattle.cycles.specs.definitions.Line.{
-  Answer,
-  refused,
-  accepted,
-  or-refused,
-  if-accepted,
-  MOST-LINES,
-  in-turn,
-  new-or-same,
-  Reading,
-  reading,
-  line-of,
-  judged,
-  line-in,
-  line,
-}
-use Rattle.cycles.specs.definitions.SoundState.{Sound-inputs}
+use Rattle.cycles.specs.definitions.Record.{Input, field-in, input-before, inputs-in, as-truth, presence-in, given-in, inputs-of}
+use Rattle.cycles.specs.definitions.SoundStores.{Sound-inputs}
 use Rattle.cycles.proofs.laws.SpotLaws.{Stands, spot-stands}
-
--- ---- an accepted answer came through each step
-
-module _ {A : Type 0} where
-  pub accepted-injective : {a b : A} → accepted a ≡ accepted b → a ≡ b
-  accepted-injective h = cc
-
-  pub refused-accepted : {c : ℕ} {a : A} → refused c ≡ accepted a → ⊥
-  refused-accepted h = let z : _≡_ {A = ℕ} 0 1 = cc in omega arith
-
-module _ {A B : Type 0} where
-  pub or-refused-of : (c : ℕ) (o : Option A) (next : A → Answer B) {b : B} → or-refused c o next ≡ accepted b → (a : A) × (o ≡ some a) × (next a ≡ accepted b)
-  unfolding or-refused
-  or-refused-of c none next h = absurd (refused-accepted h)
-  or-refused-of c (some a) next h = (a, refl, h)
-
-  if-accepted-of : (o : Answer A) (next : A → Answer B) {b : B} → if-accepted o next ≡ accepted b → (a : A) × (o ≡ accepted a) × (next a ≡ accepted b)
-  unfolding if-accepted
-  if-accepted-of (refused c) next h = absurd (refused-accepted h)
-  if-accepted-of (accepted a) next h = (a, refl, h)
 
 -- ---- columns
 
@@ -157,8 +120,16 @@ module _ (f : File) where
           by-n true h = columns-sound xs h
           by-n false h = absurd (none-some h)
 
-      by-length : (b : Bool) → (elim b [ true ↦ columns-after-n f (fields bs) | false ↦ none ]) ≡ some cs → All (Sound-column f) cs
-      by-length true h = after-n (fields bs) h
+      after-by : (xs : List (List ℕ)) → columns-after-by f xs ≡ some cs → All (Sound-column f) cs
+      after-by [] h = absurd (none-some h)
+      after-by (x ∷ xs) h = by-by (same-bytes x (98 ∷ 121 ∷ [])) h
+        where
+          by-by : (b : Bool) → cond b (columns-after-n f xs) none ≡ some cs → All (Sound-column f) cs
+          by-by true h = after-n xs h
+          by-by false h = absurd (none-some h)
+
+      by-length : (b : Bool) → (elim b [ true ↦ columns-after-by f (fields bs) | false ↦ none ]) ≡ some cs → All (Sound-column f) cs
+      by-length true h = after-by (fields bs) h
       by-length false h = absurd (none-some h)
 
 -- ---- inputs
@@ -243,34 +214,3 @@ module _ (f : File) where
   pub all-inputs-sound : (is : List Input) → All (Sound-input f) is → Sound-inputs f (inputs-of is)
   unfolding inputs-of
   all-inputs-sound is h = record { of-kind = given-sound is h; no-entity = no-presence is h }
-
-  pub reading-sound : (names values : List ℕ) (r : Reading) → reading f names values ≡ accepted r → All (Sound-input f) (r .inputs)
-  unfolding reading
-  reading-sound names values r h =
-      let (cs, p, i) = or-refused-of 22 (header f names) _ h in
-      let (n, q, j) = or-refused-of 21 (record-of (length cs) values) _ i in
-      let (is, s, k) = or-refused-of 23 (inputs-in cs (n .texts)) _ j in
-      subst (λ (r : Reading). All (Sound-input f) (r .inputs)) (accepted-injective k) (inputs-sound cs (n .texts) (header-sound f names p) s)
-
-judged-of : (a b c : Bool) (l : Line) {k : Line} → judged a b c l ≡ accepted k → T b × (l ≡ k)
-unfolding judged
-judged-of false b c l h = absurd (refused-accepted h)
-judged-of true false c l h = absurd (refused-accepted h)
-judged-of true true false l h = absurd (refused-accepted h)
-judged-of true true true l h = (tt, accepted-injective h)
-
-in-turn-bound : (last n : ℕ) → T (in-turn last n) → n ≤ MOST-LINES
-unfolding in-turn
-in-turn-bound last n h =
-    leb→le n MOST-LINES (and-l (leb n MOST-LINES) (eqb n last || eqb n (last + 1))
-    (and-r (not (eqb n 0)) (leb n MOST-LINES && (eqb n last || eqb n (last + 1))) h))
-
-pub accepted-line-sound : (f : File) (s : State) (names values : List ℕ) (l : Line) → line f s names values ≡ accepted l
-    → Sound-inputs f (l .inputs) × (l .number ≤ MOST-LINES)
-unfolding line line-of
-accepted-line-sound f s names values l h =
-    let (r, p, q) = if-accepted-of (reading f names values) (line-in f s) h in
-    let (t, e) =
-    judged-of (every (takes-input (s .now) (line-of r .inputs)) (r .inputs)) (in-turn (s .last) (r .number)) (new-or-same f s (line-of r)) (line-of r) q in
-    subst (λ (l : Line). Sound-inputs f (l .inputs) × (l .number ≤ MOST-LINES)) e
-    (all-inputs-sound f (r .inputs) (reading-sound f names values r p), in-turn-bound (s .last) (r .number) t)

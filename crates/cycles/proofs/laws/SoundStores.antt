@@ -17,7 +17,7 @@ use Rattle.checking.specs.definitions.Scope.{member-of, is-attribute, is-action
 use Rattle.cycles.specs.definitions.Store.{Store, Inputs}
 use Rattle.cycles.specs.definitions.Reference.{Write}
 use Rattle.cycles.specs.definitions.Cycle.{is-sort, leaves, seen, after-writes, stored}
-use Rattle.cycles.specs.definitions.SoundState.{Sound-store, Sound-inputs}
+use Rattle.cycles.specs.definitions.SoundStores.{Sound-store, Sound-inputs}
 use Rattle.cycles.proofs.laws.SoundEvaluation.{Sound-write}
 
 -- ---- inputs

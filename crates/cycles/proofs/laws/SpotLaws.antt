@@ -17,7 +17,7 @@ use Rattle.checking.proofs.laws.CheckedExpressions.{Known-member}
 use Rattle.cycles.specs.definitions.Store.{Store}
 use Rattle.cycles.specs.definitions.Spots.{Spot, Spots, spot-at, spot-among, spot-of, numbered, members-of, entity-cells, cells}
 use Rattle.cycles.specs.definitions.Reference.{read-spot}
-use Rattle.cycles.specs.definitions.SoundState.{Sound-store}
+use Rattle.cycles.specs.definitions.SoundStores.{Sound-store}
 use Rattle.cycles.proofs.laws.AmongLaws.{numbered-at}
 use Rattle.cycles.proofs.laws.WalkLaws.{member-among}
 

@@ -7,14 +7,14 @@ use native.Mathlib.Nat.{add-zero, zero-mul, suc-mul, mul-one, add-assoc, pow-suc
 use native.Mathlib.Numerals.{add-one}
 use native.Mathlib.Omega.{arith}
 use lib.Dec.{T, eqb}
-use lib.ListN.{length, getD, set, drop, length-append, length-drop, List·getD-append}
+use lib.ListN.{length, getD, set, take, drop, take-append-drop, length-append, length-drop, List·getD-append}
 use lib.Seq.{take-at, drop-at, drop-drop, getD-drop}
 use lib.Ieee.Fits.{and-i, and-l, and-r}
 use borrow.Author.Tests.{eqb-true, eqb-false}
 use Rattle.values.specs.definitions.Bytes.{word-at, low-first, overwritten}
 use Rattle.values.specs.definitions.Cells.{unpacked, cell-at}
 use Rattle.values.proofs.laws.ByteLaws.{word-same, overwritten-parts}
-use Rattle.cycles.specs.definitions.StateImage.{table, each, input-of, input-at}
+use Rattle.cycles.specs.definitions.Planes.{table, each, input-of, input-at}
 
 -- ---- numbers in memory
 
@@ -197,3 +197,7 @@ module _ (test : ℕ → Bool) where
     pub each-ends : end ≤ i → true ≡ each test i (end - i)
     unfolding each
     each-ends h = let n : end - i ≡ 0 = omega arith in rw n
+
+-- memory that begins with a part
+pub begins-with : (l part : List ℕ) (n : ℕ) → take n l ≡ part → l ≡ part ++ drop n l
+begins-with l part n e = sym (take-append-drop n l) ∙ ap (λ (x : List ℕ). x ++ drop n l) e

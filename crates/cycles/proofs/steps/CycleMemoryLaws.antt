@@ -1,10 +1,11 @@
--- A cycle in the memory of a state: the store that rules see, their writes, and the next image.
+-- A cycle in the memory of the stores: the store that rules see, their writes, and the next stores.
 use Prim.Native.Nat.{ℕ, _+_, _*_, _/_, _%_, _≤_, _<_}
 use native.Mathlib.Omega.{arith}
 use mathlib.Core.Path.{_≡_, sym, ap, ap₂, _∙_, subst}
 use mathlib.Core.Bool.{true, cond}
 use mathlib.Core.List.{List, _++_}
 use lib.ListN.{length, getD, take, drop, replicate, length-drop, length-replicate}
+use lib.Seq.{drop-drop}
 use Rattle.values.specs.declared.Value.{Value}
 use Rattle.values.specs.declared.Value.the-variants.{Unset}
 use Rattle.values.specs.definitions.Cells.{cell-bytes, cell-at}
@@ -16,24 +17,24 @@ use Rattle.checking.specs.contracts.Resolution.{References, Scopes}
 use Rattle.checking.proofs.laws.VerdictLaws.{accepted-verdict}
 use Rattle.checking.proofs.laws.CheckedFile.{accepted-known}
 use Rattle.checking.proofs.laws.WithinCounts.{Within-counts}
-use Rattle.cycles.specs.definitions.Store.{Store, Inputs, State, Line}
+use Rattle.cycles.specs.definitions.Store.{Store, Inputs, Stores}
 use Rattle.cycles.specs.definitions.Reference.{Write}
 use Rattle.cycles.specs.contracts.TotalMachine.{all-writes}
-use Rattle.cycles.specs.definitions.Cycle.{is-sort, seen, after-writes, stored, next-state}
+use Rattle.cycles.specs.definitions.Cycle.{is-sort, seen, after-writes, stored, next-stores}
 use Rattle.cycles.specs.contracts.TotalMachine.{cycle}
-use Rattle.cycles.specs.definitions.SoundState.{Sound-store, Sound-inputs, Sound-state}
-use Rattle.cycles.specs.definitions.StateImage.{STATE, table, entity-count, image-size, decode, is-state, with-state}
+use Rattle.cycles.specs.definitions.SoundStores.{Sound-store, Sound-inputs, Sound-stores}
+use Rattle.cycles.specs.definitions.Planes.{MOST-STORES-BYTES, table, entity-count, stores-size, decode-stores, are-stores, with-stores}
 use Rattle.cycles.specs.contracts.LineReads.{presence-table, input-table}
-use Rattle.cycles.specs.contracts.StateMemory.{gathered}
+use Rattle.cycles.specs.contracts.PlaneMemory.{gathered, Stores-gathered}
 use Rattle.cycles.specs.contracts.Evaluation.{Stored, puts}
 use Rattle.cycles.specs.contracts.AllRules.{Rules-put}
 use Rattle.cycles.specs.contracts.CycleMemory.{seen-flag, seen-value, next-value, Values-put, Cycled}
 use Rattle.cycles.proofs.laws.TableLaws.{table-same}
 use Rattle.cycles.proofs.laws.CellTokenLaws.{few-within}
-use Rattle.cycles.proofs.laws.ImageParts.{flag-piece, cell-piece, flag-sized, cell-sized}
-use Rattle.cycles.proofs.laws.ImageLaws.{state-decoded, state-decoded-sound}
-use Rattle.cycles.proofs.laws.StateTestLaws.{behind, behind-all}
-use Rattle.cycles.proofs.laws.GatheredLaws.{Areas-of, gathered-state, area-taken}
+use Rattle.cycles.proofs.laws.PlaneParts.{flag-piece, cell-piece, flag-sized, cell-sized}
+use Rattle.cycles.proofs.laws.PlaneLaws.{stores-sound}
+use Rattle.cycles.proofs.laws.PlaneTestLaws.{behind, behind-all}
+use Rattle.cycles.proofs.laws.GatheredLaws.{Areas-of, gathered-stores, area-taken}
 use Rattle.cycles.proofs.laws.StoredLaws.{decoded-stored}
 use Rattle.cycles.proofs.laws.SoundEvaluation.{Sound-write}
 use Rattle.cycles.proofs.laws.SoundBindings.{rules-run}
@@ -49,14 +50,14 @@ pub record Blank (area : List ℕ) : Type 0 where
 pub zeros-blank : (n : ℕ) → 3456 ≤ n → Blank (replicate n 0)
 zeros-blank n h = record { room = rw (length-replicate {A = ℕ} n 0) h; unset = λ i l. zeros-unset n i (omega arith) }
 
--- what the steps of a cycle of n entities leave in memory: flags and cells that the rules see, the area of writes, the next cells, the image
-pub record Steps-done (f : File) (classes values d refs scopes : List ℕ) (n number : ℕ)
-    (input-flags input-cells state blank flags rest-flags cells rest-cells area next after : List ℕ) : Type 0 where
-  pub flags-put : flags ≡ table (seen-flag (behind 4 state) input-flags) 0 n ++ rest-flags
-  pub cells-put : cells ≡ table (λ k. cell-bytes (seen-value (behind 4 state) flags (behind (4 + 3 * n) state) input-cells f k)) 0 (12 * n) ++ rest-cells
-  pub rules-put : Rules-put classes values d refs scopes flags cells (behind (4 + n) state) (behind (4 + 111 * n) state) blank area
+-- what the steps of a cycle of n entities leave in memory: flags and cells that the rules see, the area of writes, the next cells, the stores
+pub record Steps-done (f : File) (classes values d refs scopes : List ℕ) (n : ℕ)
+    (input-flags input-cells stores blank flags rest-flags cells rest-cells area next after : List ℕ) : Type 0 where
+  pub flags-put : flags ≡ table (seen-flag stores input-flags) 0 n ++ rest-flags
+  pub cells-put : cells ≡ table (λ k. cell-bytes (seen-value stores flags (behind n stores) input-cells f k)) 0 (12 * n) ++ rest-cells
+  pub rules-put : Rules-put classes values d refs scopes flags cells (behind (109 * n) stores) (behind (109 * n + n) stores) blank area
   pub next-put : next ≡ table (λ k. cell-bytes (next-value cells area f k)) 0 (12 * n) ++ drop (12 * n * 9) area
-  pub image-put : after ≡ gathered n number flags next flags cells input-flags input-cells ++ drop (image-size n) state
+  pub stores-put : after ≡ gathered n flags next ++ gathered n flags cells ++ drop (stores-size n) stores
 
 -- ---- the next cells
 
@@ -94,12 +95,12 @@ module _ (f : File) (h : Within-counts f) (s : Store) (ws : List Write) (sound :
 
 module _ {text classes offsets lengths values d refs scopes : List ℕ} (c : Checked-bench text classes offsets lengths values d)
     (references : References text classes offsets lengths d refs) (scopes-are : Scopes text classes offsets lengths d scopes)
-    {number : ℕ} {input-flags input-cells state blank flags rest-flags cells rest-cells area next after : List ℕ}
-    (is : is-state (c .bench .file) state ≡ true) (big : STATE ≤ length state) (b : Blank blank)
+    {input-flags input-cells stores blank flags rest-flags cells rest-cells area next after : List ℕ}
+    (is : are-stores (c .bench .file) stores ≡ true) (big : MOST-STORES-BYTES ≤ length stores) (b : Blank blank)
     (i : Inputs) (taken : Sound-inputs (c .bench .file) i)
     (given-flags : take (entity-count (c .bench .file)) input-flags ≡ presence-table i (entity-count (c .bench .file)))
     (given-cells : take (108 * entity-count (c .bench .file)) input-cells ≡ input-table i (entity-count (c .bench .file)))
-    (done : Steps-done (c .bench .file) classes values d refs scopes (entity-count (c .bench .file)) number input-flags input-cells state blank flags
+    (done : Steps-done (c .bench .file) classes values d refs scopes (entity-count (c .bench .file)) input-flags input-cells stores blank flags
     rest-flags cells rest-cells area next after) where
   abbrev f : File
   f = c .bench .file
@@ -107,8 +108,8 @@ module _ {text classes offsets lengths values d refs scopes : List ℕ} (c : Che
   abbrev n : ℕ
   n = entity-count f
 
-  abbrev was : State
-  was = decode n state
+  abbrev was : Stores
+  was = decode-stores n stores
 
   abbrev sees : Store
   sees = seen f (was .now) i
@@ -116,14 +117,11 @@ module _ {text classes offsets lengths values d refs scopes : List ℕ} (c : Che
   abbrev writes : List Write
   writes = all-writes f sees (was .previous)
 
-  abbrev line : Line
-  line = record { number = number; inputs = i }
-
   within : Within-counts f
   within = few-within f (c .few)
 
-  sound : Sound-state f was
-  sound = state-decoded-sound f within state was (state-decoded f state is)
+  sound : Sound-stores f was
+  sound = stores-sound f within stores is
 
   sees-sound : Sound-store f sees
   sees-sound = seen-sound f (was .now) i (sound .now) taken
@@ -132,29 +130,26 @@ module _ {text classes offsets lengths values d refs scopes : List ℕ} (c : Che
   writes-sound = rules-run f sees (was .previous) sees-sound (sound .previous) (accepted-known f (accepted-verdict text (c .accepts))) .1
 
   flags-stand : flags ≡ table (flag-piece (sees .present)) 0 n ++ rest-flags
-  unfolding decode
-  flags-stand =
-      done .flags-put
-      ∙ rw (behind-all 4 state) (ap (λ (l : List ℕ). l ++ rest-flags) (flags-seen f i (drop 4 state) (drop (4 + 3 * n) state) input-flags input-cells given-flags))
+  unfolding decode-stores
+  flags-stand = done .flags-put ∙ ap (λ (l : List ℕ). l ++ rest-flags) (flags-seen f i stores input-flags input-cells given-flags)
 
   cells-stand : cells ≡ table (cell-piece (sees .cell)) 0 (12 * n) ++ rest-cells
-  unfolding decode
+  unfolding decode-stores
   cells-stand =
       done .cells-put
-      ∙ rw (behind-all 4 state, behind-all (4 + 3 * n) state)
-      (ap (λ (l : List ℕ). l ++ rest-cells)
-      (cells-seen f i (drop 4 state) (drop (4 + 3 * n) state) input-flags input-cells taken given-cells rest-flags flags-stand))
+      ∙ rw (behind-all n stores)
+      (ap (λ (l : List ℕ). l ++ rest-cells) (cells-seen f i stores input-flags input-cells taken given-cells rest-flags flags-stand))
 
   sees-stored : Stored n flags cells sees
-  sees-stored = tables-stored f within sees sees-sound rest-flags rest-cells flags-stand cells-stand
+  sees-stored = tables-stored f sees sees-sound rest-flags rest-cells flags-stand cells-stand
 
-  previous-stored : Stored n (behind (4 + n) state) (behind (4 + 111 * n) state) (was .previous)
-  unfolding decode
+  previous-stored : Stored n (behind (109 * n) stores) (behind (109 * n + n) stores) (was .previous)
+  unfolding decode-stores
   previous-stored =
       let few = within .entities in
-      let k = length-drop (4 + 111 * n) state in
-      rw (behind-all (4 + n) state, behind-all (4 + 111 * n) state)
-      (decoded-stored n (drop (4 + n) state) (drop (4 + 111 * n) state) (omega arith))
+      let k = length-drop (109 * n) stores in
+      rw (behind-all (109 * n) stores, behind-all (109 * n + n) stores, ← drop-drop n (109 * n) stores)
+      (decoded-stored n (drop (109 * n) stores) (omega arith))
 
   area-is : area ≡ puts blank writes
   area-is = done .rules-put .writes text offsets lengths (record {
@@ -168,58 +163,53 @@ module _ {text classes offsets lengths values d refs scopes : List ℕ} (c : Che
   })
 
   -- the first cells of an area that begins with so many
-  cells-of : (value : ℕ → ℕ → Value) {l : List ℕ} (rest : List ℕ) → l ≡ table (cell-piece value) 0 (12 * n) ++ rest
+  first-cells : (value : ℕ → ℕ → Value) {l : List ℕ} (rest : List ℕ) → l ≡ table (cell-piece value) 0 (12 * n) ++ rest
       → take (108 * n) l ≡ table (cell-piece value) 0 (12 * n)
-  cells-of value rest e = area-taken (cell-piece value) 9 (cell-sized value) (12 * n) (108 * n) (omega arith) rest e
+  first-cells value rest e = area-taken (cell-piece value) 9 (cell-sized value) (12 * n) (108 * n) (omega arith) rest e
 
-  areas : Areas-of n (cycle f was line) flags next flags cells input-flags input-cells
-  unfolding cycle next-state stored
+  areas : Areas-of n (cycle f was i) flags next cells
+  unfolding cycle next-stores stored
   areas =
       let present = area-taken (flag-piece (sees .present)) 1 (flag-sized (sees .present)) n n (omega arith) rest-flags flags-stand in
       record {
         present = present;
-        now = cells-of (stored f sees writes .cell) (drop (12 * n * 9) area)
+        now = first-cells (stored f sees writes .cell) (drop (12 * n * 9) area)
             (done .next-put ∙ ap (λ (l : List ℕ). l ++ drop (12 * n * 9) area) (next-cells f within sees writes writes-sound sees-stored b area-is));
         previous-present = present;
-        previous = cells-of (sees .cell) rest-cells cells-stand;
-        presence = given-flags;
-        given = given-cells;
+        previous = first-cells (sees .cell) rest-cells cells-stand;
       }
 
-  pub cycle-put : after ≡ with-state f (cycle f was line) state
-  unfolding cycle next-state
-  cycle-put = done .image-put ∙ gathered-state f (cycle f was line) areas state
+  pub cycle-put : after ≡ with-stores n (cycle f was i) stores
+  cycle-put = done .stores-put ∙ gathered-stores n (cycle f was i) areas stores
 
 -- ---- as code does it
 
-module _ {classes values d refs scopes : List ℕ} {number n : ℕ} {input-flags input-cells state : List ℕ} (e : n ≡ getD d 1 0) where
-  pub cycle-impossible : 32 < n → {after : List ℕ} → Cycled classes values d refs scopes number input-flags input-cells state after
+module _ {classes values d refs scopes : List ℕ} {n : ℕ} {input-flags input-cells stores : List ℕ} (e : n ≡ getD d 1 0) where
+  pub cycle-impossible : 32 < n → {after : List ℕ} → Cycled classes values d refs scopes input-flags input-cells stores after
   cycle-impossible h = record {
     is = λ text offsets lengths c r s m i t g k. let q = c .bench .directory .entities in absurd (omega (arith, c .few .entities));
   }
 
-  pub cycled : n ≤ 32 → STATE ≤ length state → (no-flags : List ℕ) {blank no-cells flags cells area next after : List ℕ} → Blank blank
-      → flags ≡ table (seen-flag (behind 4 state) input-flags) 0 n ++ drop n no-flags
-      → Values-put classes d (seen-value (behind 4 state) flags (behind (4 + 3 * n) state) input-cells) (12 * n) no-cells cells
-      → Rules-put classes values d refs scopes flags cells (behind (4 + n) state) (behind (4 + 111 * n) state) blank area
+  pub cycled : n ≤ 32 → MOST-STORES-BYTES ≤ length stores → (no-flags : List ℕ) {blank no-cells flags cells area next after : List ℕ} → Blank blank
+      → flags ≡ table (seen-flag stores input-flags) 0 n ++ drop n no-flags
+      → Values-put classes d (seen-value stores flags (behind n stores) input-cells) (12 * n) no-cells cells
+      → Rules-put classes values d refs scopes flags cells (behind (109 * n) stores) (behind (109 * n + n) stores) blank area
       → Values-put classes d (next-value cells area) (12 * n) area next
-      → (getD d 1 0 ≤ 32
-      → after ≡ gathered (getD d 1 0) number flags next flags cells input-flags input-cells ++ drop (image-size (getD d 1 0)) state)
-      → Cycled classes values d refs scopes number input-flags input-cells state after
+      → Stores-gathered (getD d 1 0) flags next cells stores after
+      → Cycled classes values d refs scopes input-flags input-cells stores after
   cycled few big no-flags {blank} {no-cells} {flags} {cells} {area} {next} {after} b a v w u p = record {
     is = λ text offsets lengths c r s m i t g k.
         let f = c .bench .file in
         let z : n ≡ entity-count f = e ∙ c .bench .directory .entities in
-        let done : Steps-done f classes values d refs scopes n number input-flags input-cells state blank flags (drop n no-flags) cells
+        let done : Steps-done f classes values d refs scopes n input-flags input-cells stores blank flags (drop n no-flags) cells
         (drop (12 * n * 9) no-cells) area next after = record {
           flags-put = a;
           cells-put = v .is text offsets lengths (c .bench) (c .few);
           rules-put = w;
           next-put = u .is text offsets lengths (c .bench) (c .few);
-          image-put = subst (λ (j : ℕ). after ≡ gathered j number flags next flags cells input-flags input-cells ++ drop (image-size j) state) (sym e)
-              (p (omega arith));
+          stores-put = subst (λ (j : ℕ). after ≡ gathered j flags next ++ gathered j flags cells ++ drop (stores-size j) stores) (sym e) (p .is (omega arith));
         } in
         cycle-put c r s m big b i t g k
-        (subst (λ (j : ℕ). Steps-done f classes values d refs scopes j number input-flags input-cells state blank flags (drop n no-flags) cells
+        (subst (λ (j : ℕ). Steps-done f classes values d refs scopes j input-flags input-cells stores blank flags (drop n no-flags) cells
         (drop (12 * n * 9) no-cells) area next after) z done);
   }

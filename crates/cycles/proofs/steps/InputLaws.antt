@@ -23,12 +23,12 @@ use Rattle.checking.proofs.laws.CalledLaws.{row-interface}
 use Rattle.cycles.specs.definitions.Spots.{Spot}
 use Rattle.cycles.specs.definitions.Header.{Column, is-presence, is-member-number}
 use Rattle.cycles.specs.definitions.Record.{Input, field-in, as-truth, presence-in, given-in, inputs-of}
-use Rattle.cycles.specs.definitions.StateImage.{table, presence-flag, input-bytes}
+use Rattle.cycles.specs.definitions.Planes.{table, presence-flag, input-bytes}
 use Rattle.cycles.specs.contracts.HeaderReads.{member-or-presence, column-number}
 use Rattle.cycles.specs.contracts.LineReads.{is-well-formed, said, presence-table, input-table, presence-put, event-put, Column-stands, Input-put}
 use Rattle.cycles.proofs.laws.CellNumbers.{cell-entity, cell-member, cell-below, no-member-no-cell}
 use Rattle.cycles.proofs.laws.CellFits.{length-input-bytes}
-use Rattle.cycles.proofs.laws.ImageParts.{presence-sized}
+use Rattle.cycles.proofs.laws.PlaneParts.{presence-sized}
 use Rattle.cycles.proofs.laws.TableLaws.{table-same, table-append, length-table}
 use Rattle.cycles.proofs.laws.ColumnLaws.{Small}
 use Rattle.cycles.proofs.laws.ColumnReadLaws.{few-within}

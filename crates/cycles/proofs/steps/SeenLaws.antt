@@ -1,4 +1,4 @@
--- The store that rules see, from memory: flags and cells of a state, and a line's inputs.
+-- The store that rules see, from memory: a store's plane, and a line's inputs.
 use Prim.Native.Nat.{ℕ, _+_, _*_, _/_, _%_, _≤_, _<_}
 use native.Mathlib.Omega.{arith}
 use mathlib.Core.Path.{_≡_, refl, sym, ap, ap₂, _∙_, subst}
@@ -16,20 +16,19 @@ use Rattle.values.proofs.laws.StorableLaws.{length-cell-bytes}
 use Rattle.values.proofs.laws.CellLaws.{length-with-cell}
 use Rattle.text.specs.definitions.Syntax.{File}
 use Rattle.checking.specs.definitions.Scope.{member-of, is-attribute, is-action}
-use Rattle.checking.proofs.laws.WithinCounts.{Within-counts}
 use Rattle.cycles.specs.definitions.Store.{Store, Inputs}
 use Rattle.cycles.specs.definitions.Cycle.{is-sort, present-after, leaves, seen}
-use Rattle.cycles.specs.definitions.SoundState.{Sound-store, Sound-inputs}
-use Rattle.cycles.specs.definitions.StateImage.{table, flag, presence-flag, entity-count, input-at, decode-store}
+use Rattle.cycles.specs.definitions.SoundStores.{Sound-store, Sound-inputs}
+use Rattle.cycles.specs.definitions.Planes.{table, flag, presence-flag, entity-count, input-at, decode-store}
 use Rattle.cycles.specs.contracts.LineReads.{presence-table, input-table}
 use Rattle.cycles.specs.contracts.CellTokens.{Cell-token, Sort-test}
 use Rattle.cycles.specs.contracts.Evaluation.{Stored}
-use Rattle.cycles.specs.contracts.Judging.{present-by}
-use Rattle.cycles.specs.contracts.CycleMemory.{seen-flag, leaves-by, seen-value, next-value, Value-of, Values-put}
-use Rattle.cycles.proofs.laws.TableLaws.{word-drop, table-same, length-table, table-fill, table-flag, table-input}
-use Rattle.cycles.proofs.laws.CellFits.{input-read}
+use Rattle.cycles.specs.contracts.CycleMemory.{present-by, seen-flag, leaves-by, seen-value, next-value, Value-of, Values-put}
+use Rattle.cycles.proofs.laws.TableLaws.{begins-with, word-drop, table-same, length-table, table-fill, table-flag, table-cell, table-input}
+use Rattle.cycles.proofs.laws.CellFits.{cell-read, input-read}
+use Rattle.cycles.proofs.laws.CellNumbers.{cell-entity, cell-member, cell-below}
 use Rattle.cycles.proofs.laws.CellTokenLaws.{action-class, attribute-class}
-use Rattle.cycles.proofs.laws.ImageParts.{
+use Rattle.cycles.proofs.laws.PlaneParts.{
   flag-piece,
   presence-piece,
   cell-piece,
@@ -39,10 +38,8 @@ use Rattle.cycles.proofs.laws.ImageParts.{
   cell-sized,
   input-sized,
   read-flag,
-  store-read,
+  some-kind,
 }
-use Rattle.cycles.proofs.laws.JudgeLaws.{begins-with}
-use Rattle.cycles.proofs.laws.StoredLaws.{decoded-stored}
 
 -- ---- values put cell by cell
 
@@ -155,12 +152,16 @@ read-or : (b : Bool) (v x : Value) → cond b x v ≡ Option·getD (cond b none 
 read-or true v x = refl
 read-or false v x = refl
 
-module _ (f : File) (i : Inputs) (present cells flags inputs : List ℕ) where
+-- `present` is the plane of the store before the line
+module _ (f : File) (i : Inputs) (present flags inputs : List ℕ) where
   abbrev n : ℕ
   n = entity-count f
 
+  abbrev cells : List ℕ
+  cells = drop n present
+
   abbrev now : Store
-  now = decode-store n present cells
+  now = decode-store n present
 
   module _ (given-flags : take n flags ≡ presence-table i n) where
     flag-seen : (e : ℕ) → e < n → seen-flag present flags e ≡ flag-piece (seen f now i .present) e
@@ -209,14 +210,25 @@ module _ (f : File) (i : Inputs) (present cells flags inputs : List ℕ) where
           (λ k p q. ap cell-bytes (value-is k (omega arith)))
 
 -- memory that begins with a sound store's parts stands for it
-pub tables-stored : (f : File) → Within-counts f → (s : Store) → Sound-store f s → {flags cells : List ℕ} (r q : List ℕ)
+pub tables-stored : (f : File) → (s : Store) → Sound-store f s → {flags cells : List ℕ} (r q : List ℕ)
     → flags ≡ table (flag-piece (s .present)) 0 (entity-count f) ++ r → cells ≡ table (cell-piece (s .cell)) 0 (12 * entity-count f) ++ q
     → Stored (entity-count f) flags cells s
-tables-stored f w s h {flags} {cells} r q a b =
+tables-stored f s h {flags} {cells} r q a b =
     let n = entity-count f in
     let part = table (cell-piece (s .cell)) 0 (12 * n) in
     let k = length-append part q in
     let j = length-table (cell-piece (s .cell)) 9 (cell-sized (s .cell)) 0 (12 * n) in
-    let room : n * 108 ≤ length cells = rw b (omega arith) in
-    let whole : decode-store n flags cells ≡ s = ap₂ (decode-store n) a b ∙ store-read f w s h r q in
-    subst (Stored n flags cells) whole (decoded-stored n flags cells room)
+    record {
+      room = rw b (omega arith);
+      present = λ e l.
+          sym (ap (λ (m : List ℕ). eqb (getD m e 0) 1) a
+          ∙ ap (λ (t : ℕ). eqb t 1) (table-flag (flag-piece (s .present)) (flag-sized (s .present)) n e r l)
+          ∙ read-flag (s .present e));
+      cell = λ e m l t.
+          let i = e * 12 + m in
+          let y = some-kind f s h (i / 12) (i % 12) in
+          sym (ap (λ (x : List ℕ). cell-at x i) b
+          ∙ table-cell (cell-piece (s .cell)) (cell-sized (s .cell)) (12 * n) i q (cell-below e m t n l)
+          ∙ cell-read (y .0) (s .cell (i / 12) (i % 12)) (y .1)
+          ∙ ap₂ (s .cell) (cell-entity e m t) (cell-member e m t));
+    }

@@ -178,9 +178,9 @@ module _ (classes d values columns : List ℕ) (count : ℕ) (flags₀ cells₀ 
         not-first z =
             let a : fields values ≡ its-text ∷ left = subst (λ (j : ℕ). fields (drop j values) ≡ its-text ∷ left) z its-texts in
             let b = g .parts in
-            let e : g .texts ≡ left = cc in
+            let e : g .number ∷ g .texts ≡ left = cc in
             let l = left-length in
-            let m : length (g .texts) ≡ length left = ap length e in
+            let m : suc (length (g .texts)) ≡ length left = ap length e in
             let c = g .counted in
             omega arith
 
@@ -195,11 +195,11 @@ module _ (classes d values columns : List ℕ) (count : ℕ) (flags₀ cells₀ 
         unfolding fields
         next-text =
             let a = split-last 32 values (start - 1) more-texts in
-            let b : Last-of (g .first ∷ g .texts) (its-text ∷ left) = subst (λ (xs : List (List ℕ)). Last-of xs (its-text ∷ left)) (g .parts) a in
+            let b : Last-of (g .sender ∷ g .number ∷ g .texts) (its-text ∷ left) = subst (λ (xs : List (List ℕ)). Last-of xs (its-text ∷ left)) (g .parts) a in
             let l = left-length in
             let c = g .counted in
-            let n : length (g .texts) - suc (length left) ≡ count - (k + 1) = omega arith in
-            sym (last-drop (g .first) (g .texts) (its-text ∷ left) b ∙ ap (λ (j : ℕ). drop j (g .texts)) n)
+            let n : suc (length (g .texts)) - suc (length left) ≡ suc (count - (k + 1)) = omega arith in
+            sym (last-drop (g .sender) (g .number ∷ g .texts) (its-text ∷ left) b ∙ ap (λ (j : ℕ). drop j (g .number ∷ g .texts)) n)
 
         -- the column of the text
         record Next-column : Type 0 where

@@ -11,7 +11,7 @@ use Rattle.checking.specs.contracts.DirectoryReads.{Few}
 use Rattle.checking.specs.definitions.Scope.{member-of}
 use Rattle.checking.specs.contracts.Directory.{name-in, sort-class, kind-class, Bench}
 use Rattle.cycles.specs.definitions.Cycle.{is-sort}
-use Rattle.cycles.specs.definitions.StateImage.{ENTITY-CELLS}
+use Rattle.cycles.specs.definitions.Planes.{ENTITY-CELLS}
 
 -- no token's number, for a cell of no member
 abbrev pub NO-TOKEN : ℕ

@@ -1,4 +1,4 @@
--- What a cycle leaves in the memory of a state: of a checked bench in columns, with its rules' names resolved.
+-- What a cycle leaves in the memory of the stores: of a checked bench in columns, with its rules' names resolved.
 use Prim.Native.Nat.{ℕ, _*_, _/_, _%_}
 use mathlib.Core.Path.{_≡_}
 use mathlib.Core.List.{List, _++_}
@@ -17,8 +17,8 @@ use Rattle.checking.specs.contracts.Resolution.{References, Scopes}
 use Rattle.cycles.specs.definitions.Store.{Inputs}
 use Rattle.cycles.specs.definitions.Cycle.{is-sort}
 use Rattle.cycles.specs.contracts.TotalMachine.{cycle}
-use Rattle.cycles.specs.definitions.SoundState.{Sound-inputs}
-use Rattle.cycles.specs.definitions.StateImage.{
+use Rattle.cycles.specs.definitions.SoundStores.{Sound-inputs}
+use Rattle.cycles.specs.definitions.Planes.{
   CELL-BYTES,
   ENTITY-CELLS,
   ENTITY-CELL-BYTES,
@@ -26,14 +26,17 @@ use Rattle.cycles.specs.definitions.StateImage.{
   table,
   flag,
   entity-count,
-  decode,
-  is-state,
-  with-state,
+  decode-stores,
+  are-stores,
+  with-stores,
 }
 use Rattle.cycles.specs.contracts.LineReads.{presence-table, input-table}
-use Rattle.cycles.specs.contracts.Judging.{present-by}
 
 -- ---- the steps, from memory to memory
+
+-- is an entity present after the line? By its flags: present, and the presence that was read
+abbrev pub present-by : ℕ → ℕ → Bool
+present-by present flag = cond (eqb flag 0) (eqb present 1) (eqb flag 2)
 
 -- who is present after the line, by the flags before it and the presence that was read
 abbrev pub seen-flag : List ℕ → List ℕ → ℕ → List ℕ
@@ -69,14 +72,14 @@ pub record Values-put (classes d : List ℕ) (value : File → ℕ → Value) (k
 
 -- ---- the contract
 
--- the memory of a state, which was `state` and is `after`, by the cycle of a line of this number, whose inputs stand in areas of their own
+-- the memory of the stores, which was `stores` and is `after`, by the cycle of a line whose inputs stand in areas of their own
 -- (sound inputs: the bytes of others are those of no value, or of another one)
-pub record Cycled (classes values d refs scopes : List ℕ) (number : ℕ) (input-flags input-cells state after : List ℕ) : Type 0 where
+pub record Cycled (classes values d refs scopes input-flags input-cells stores after : List ℕ) : Type 0 where
   pub is : (text offsets lengths : List ℕ) (c : Checked-bench text classes offsets lengths values d)
       → References text classes offsets lengths d refs → Scopes text classes offsets lengths d scopes
-      → is-state (c .bench .file) state ≡ true
+      → are-stores (c .bench .file) stores ≡ true
       → (i : Inputs) → Sound-inputs (c .bench .file) i
       → take (entity-count (c .bench .file)) input-flags ≡ presence-table i (entity-count (c .bench .file))
       → take (ENTITY-CELL-BYTES * entity-count (c .bench .file)) input-cells ≡ input-table i (entity-count (c .bench .file))
       → after
-      ≡ with-state (c .bench .file) (cycle (c .bench .file) (decode (entity-count (c .bench .file)) state) (record { number = number; inputs = i })) state
+      ≡ with-stores (entity-count (c .bench .file)) (cycle (c .bench .file) (decode-stores (entity-count (c .bench .file)) stores) i) stores

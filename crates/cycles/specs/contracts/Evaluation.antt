@@ -23,7 +23,7 @@ use Rattle.cycles.specs.definitions.Store.{Store}
 use Rattle.cycles.specs.definitions.Spots.{Spot, Spots}
 use Rattle.cycles.specs.contracts.TotalMachine.{value-at, value, filter-holds, test-holds, holds, call-writes, binding-writes}
 use Rattle.cycles.specs.definitions.Reference.{Write, written-if}
-use Rattle.cycles.specs.definitions.StateImage.{ENTITY-CELLS, ENTITY-CELL-BYTES}
+use Rattle.cycles.specs.definitions.Planes.{ENTITY-CELLS, ENTITY-CELL-BYTES}
 
 -- ---- references
 

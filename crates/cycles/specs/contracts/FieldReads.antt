@@ -1,5 +1,5 @@
 -- What is read of a line's fields, from the last to the first, as the definitions go through them.
-use Prim.Native.Nat.{ℕ, _-_, _≤_, _<_}
+use Prim.Native.Nat.{ℕ, _+_, _-_, _≤_, _<_}
 use mathlib.Core.Path.{_≡_}
 use mathlib.Core.List.{List, [], _∷_}
 use mathlib.Core.Bool.{Bool, not, cond}
@@ -13,6 +13,12 @@ pub record Field-start (mark : ℕ) (l : List ℕ) (end r : ℕ) : Type 0 where
   pub within : r ≤ end
   pub field : (rest : List (List ℕ)) → split mark (drop end l) ≡ [] ∷ rest → split mark (drop r l) ≡ take (end - r) (drop r l) ∷ rest
   pub marked : 0 < r → split mark (drop (r - 1) l) ≡ [] ∷ split mark (drop r l)
+
+-- r is where the first field ends: before a mark, or at the line's end
+pub record Field-end (mark : ℕ) (l : List ℕ) (r : ℕ) : Type 0 where
+  pub within : r ≤ length l
+  pub marked : r < length l → split mark l ≡ take r l ∷ split mark (drop (r + 1) l)
+  pub whole : r ≡ length l → split mark l ≡ l ∷ []
 
 unfoldable pub none-empty : List (List ℕ) → Bool
 unfolding every is-empty

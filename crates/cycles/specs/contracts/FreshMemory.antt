@@ -1,4 +1,4 @@
--- What code promises that writes the fresh state of a bench, for every file that stands in the columns and the directory.
+-- What code promises that writes the fresh stores of a bench, for every file that stands in the columns and the directory.
 use Prim.Native.Nat.{ℕ, _+_, _*_, _/_, _%_}
 use mathlib.Core.Path.{_≡_}
 use mathlib.Core.List.{List, [], _∷_}
@@ -17,8 +17,8 @@ use Rattle.checking.specs.definitions.Scope.{look-up, member-of}
 use Rattle.checking.specs.contracts.Directory.{name-in, Columns-of, Bench}
 use Rattle.checking.specs.contracts.CheckedBench.{Values-of}
 use Rattle.checking.specs.contracts.DeclarationWalk.{Body-of}
-use Rattle.cycles.specs.definitions.Cycle.{assigned, initial-value, fresh}
-use Rattle.cycles.specs.definitions.StateImage.{CELL-BYTES, ENTITY-CELLS, table, with-state}
+use Rattle.cycles.specs.definitions.Cycle.{assigned, initial-value, fresh-stores}
+use Rattle.cycles.specs.definitions.Planes.{CELL-BYTES, ENTITY-CELLS, entity-count, table, with-stores}
 use Rattle.values.specs.contracts.Puts.{Put}
 
 -- the columns that literals are read from
@@ -40,7 +40,7 @@ pub record Assigned-value (text classes offsets lengths values : List ℕ) (from
   pub is : (ts : List Token) → Columns-of text classes offsets lengths ts → Values-of values ts → (x : Entity) → Body-of ts from x
       → v ≡ assigned (look-up (λ a. a .name) (name-in text offsets lengths i) (x .assignments))
 
--- the value of cell number i in a fresh state
+-- the value of cell number i in fresh stores
 unfoldable pub fresh-value : File → ℕ → Value
 unfolding initial-value member-of
 fresh-value f i = initial-value (getElem? (f .entities) (i / ENTITY-CELLS)) (member-of f (i / ENTITY-CELLS) (i % ENTITY-CELLS))
@@ -48,20 +48,20 @@ fresh-value f i = initial-value (getElem? (f .entities) (i / ENTITY-CELLS)) (mem
 pub record Fresh-cell (text classes offsets lengths values d : List ℕ) (i : ℕ) (v : Value) : Type 0 where
   pub is : (w : Bench text classes offsets lengths d) → Few (w .file) → Values-of values (w .tokens) → v ≡ fresh-value (w .file) i
 
--- the first k cells of a fresh state, put from `at` on
+-- the first k cells of fresh stores, put from `at` on
 pub record Fresh-cells-put (text classes offsets lengths values d : List ℕ) (k : ℕ) (before : List ℕ) (at : ℕ) (after : List ℕ) (r : ℕ) : Type 0 where
   pub same : length after ≡ length before
   pub end : r ≡ at + CELL-BYTES * k
   pub is : (w : Bench text classes offsets lengths d) → Few (w .file) → Values-of values (w .tokens)
       → Put (table (λ i. cell-bytes (fresh-value (w .file) i)) 0 k) before at after r
 
--- k times the same byte, and k cells of a tag and no payload
+-- k times the same byte, and k unset cells
 abbrev pub flags-of : ℕ → ℕ → List ℕ
 flags-of flag k = table (λ e. flag ∷ []) 0 k
 
-abbrev pub blanks-of : ℕ → ℕ → List ℕ
-blanks-of tag k = table (λ i. tag ∷ low-first 8 0) 0 k
+abbrev pub unset-cells : ℕ → List ℕ
+unset-cells k = table (λ i. 0 ∷ low-first 8 0) 0 k
 
 pub record Fresh-put (text classes offsets lengths values d before after : List ℕ) : Type 0 where
   pub is : (w : Bench text classes offsets lengths d) → Few (w .file) → Values-of values (w .tokens)
-      → after ≡ with-state (w .file) (fresh (w .file)) before
+      → after ≡ with-stores (entity-count (w .file)) (fresh-stores (w .file)) before

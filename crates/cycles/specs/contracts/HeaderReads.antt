@@ -6,13 +6,14 @@ use mathlib.Core.List.{List, [], _∷_, map}
 use mathlib.Core.Bool.{Bool, false, _||_}
 use mathlib.Core.Option.{Option, none, some}
 use lib.Dec.{eqb}
-use lib.ListN.{length, getD}
+use lib.ListN.{getD}
 use Rattle.text.specs.definitions.Syntax.{File}
 use Rattle.checking.specs.contracts.Directory.{Bench}
 use Rattle.checking.specs.contracts.DirectoryReads.{Few}
 use Rattle.checking.specs.definitions.CountFaults.{MOST-MEMBERS, MOST-ENTITIES}
 use Rattle.cycles.specs.definitions.Spots.{Spot}
-use Rattle.cycles.specs.definitions.Header.{Column, header}
+use Rattle.cycles.specs.definitions.Fields.{fields}
+use Rattle.cycles.specs.definitions.Header.{Column, columns-after-n, header}
 
 -- ---- columns
 
@@ -61,6 +62,12 @@ is-number-among n (m ∷ ms) = eqb n m || is-number-among n ms
 abbrev pub Header-is : Option (List Column) → ℕ → List ℕ → Type 0
 Header-is none r l = r ≡ MOST-COLUMNS + 1
 Header-is (some cs) r l = (r ≤ MOST-COLUMNS) × (map column-number cs ≡ backwards r l)
+
+-- the fields after `by`
+pub record Columns-read (text classes offsets lengths d names columns : List ℕ) (r : ℕ) : Type 0 where
+  pub within : r ≤ MOST-COLUMNS + 1
+  pub known : (k : ℕ) → k < r → r ≤ MOST-COLUMNS → getD columns k 0 < NO-COLUMN
+  pub is : (w : Bench text classes offsets lengths d) → Few (w .file) → Header-is (columns-after-n (w .file) (fields names)) r columns
 
 pub record Header-read (text classes offsets lengths d names columns : List ℕ) (r : ℕ) : Type 0 where
   pub within : r ≤ MOST-COLUMNS + 1

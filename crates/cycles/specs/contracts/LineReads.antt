@@ -1,14 +1,12 @@
--- What is read of a record into memory: its number, and its inputs as the state image has them. Said for every file that stands in the token
+-- What is read of a record into memory: its sender and number, and its inputs as planes have them. Said for every file that stands in the token
 -- table and the directory and is within the counts.
-use Prim.Native.Nat.{ℕ, _+_, _*_, _/_, _%_}
+use Prim.Native.Nat.{ℕ, _+_, _*_, _/_, _%_, _≤_}
 use mathlib.Core.Path.{_≡_}
 use mathlib.Core.List.{List, [], _∷_, _++_, map, List·Memᴰ}
 use mathlib.Core.Bool.{Bool, true, false}
 use mathlib.Core.Option.{Option, none, some}
-use lib.ListN.{length, drop, getElem?}
+use lib.ListN.{length, take, getElem?}
 use Rattle.values.specs.declared.Value.{Value}
-use Rattle.values.specs.declared.Number.{Number}
-use Rattle.values.specs.declared.Number.the-variants.{Is, Not}
 use Rattle.values.specs.declared.Field.{Field}
 use Rattle.values.specs.declared.Field.the-variants.{Blank, Given, Malformed}
 use Rattle.values.specs.definitions.Bytes.{overwritten}
@@ -16,20 +14,26 @@ use Rattle.text.specs.definitions.Syntax.{Entity, File}
 use Rattle.checking.specs.contracts.DirectoryReads.{Few}
 use Rattle.checking.specs.definitions.Scope.{member-of}
 use Rattle.checking.specs.contracts.Directory.{Bench}
-use Rattle.cycles.specs.declared.lines.Reading.{Reading as Reads}
-use Rattle.cycles.specs.declared.lines.Reading.the-variants.{Refused, Got}
+use Rattle.cycles.specs.declared.record.Sent.{Sent as Reads}
+use Rattle.cycles.specs.declared.record.Sent.the-variants.{Refused, Got}
 use Rattle.cycles.specs.definitions.Store.{Inputs}
 use Rattle.cycles.specs.definitions.Spots.{Spot}
 use Rattle.cycles.specs.definitions.Fields.{fields}
-use Rattle.cycles.specs.definitions.Header.{Column, header}
-use Rattle.cycles.specs.definitions.Record.{Numbered, field-in, as-truth, Input, inputs-in, inputs-of}
-use Rattle.cycles.specs.definitions.Line.{Answer, refused, accepted, Reading, reading}
-use Rattle.cycles.specs.definitions.StateImage.{CELL-BYTES, ENTITY-CELLS, ENTITY-CELL-BYTES, table, presence-flag, input-bytes}
+use Rattle.cycles.specs.definitions.Header.{Column}
+use Rattle.cycles.specs.definitions.Record.{Sent, record-of, field-in, as-truth, Input, inputs-in, inputs-of}
+use Rattle.cycles.specs.definitions.Planes.{CELL-BYTES, ENTITY-CELLS, table, presence-flag, input-bytes}
 use Rattle.cycles.specs.contracts.HeaderReads.{column-number, backwards}
 
-unfoldable pub number-if-record : Option Numbered → Number
-number-if-record none = Not
-number-if-record (some r) = Is (r .number)
+-- ---- sender and number
+
+-- how many bytes at the record's front are the sender's, and the number; or none
+unfoldable pub sent-answer : Option Sent → Reads
+sent-answer none = Refused
+sent-answer (some r) = Got (length (r .sender)) (r .number)
+
+pub record Sent-read (count : ℕ) (values : List ℕ) (r : Reads) : Type 0 where
+  pub is : r ≡ sent-answer (record-of count values)
+  pub front : (x : Sent) → record-of count values ≡ some x → (x .sender ≡ take (length (x .sender)) values) × (length (x .sender) ≤ length values)
 
 -- ---- a field
 
@@ -88,9 +92,10 @@ pub record Record-given (classes d values columns : List ℕ) (count : ℕ) (fla
   pub header : List Column
   pub stand : (c : Column) → List·Memᴰ c header → Column-stands (bench .file) c
   pub numbers : map column-number header ≡ backwards count columns
-  pub first : List ℕ
+  pub sender : List ℕ
+  pub number : List ℕ
   pub texts : List (List ℕ)
-  pub parts : fields values ≡ first ∷ texts
+  pub parts : fields values ≡ sender ∷ number ∷ texts
   pub counted : length texts ≡ count
   pub flags-after : List ℕ
   pub cells-after : List ℕ
@@ -106,19 +111,3 @@ Inputs-are (some is) n flags-after cells-after ok flags cells =
 pub record Values-read (classes d values columns : List ℕ) (count : ℕ) (flags cells new-flags new-cells : List ℕ) (ok : Bool) : Type 0 where
   pub is : (g : Record-given classes d values columns count flags cells)
       → Inputs-are (inputs-in (g .header) (g .texts)) (length (g .bench .file .entities)) (g .flags-after) (g .cells-after) ok new-flags new-cells
-
--- ---- a record under a header
-
--- the number and the inputs that they give, or the refusal; flags and cells after those of the bench's entities stay
-abbrev pub Answers : Answer Reading → ℕ → List ℕ → List ℕ → List ℕ → List ℕ → Reads → Type 0
-Answers (refused code) n flags cells new-flags new-cells r = r ≡ Refused code
-Answers (accepted rd) n flags cells new-flags new-cells r =
-    (r ≡ Got (rd .number))
-    × (new-flags ≡ presence-table (inputs-of (rd .inputs)) n ++ drop n flags)
-    × (new-cells ≡ input-table (inputs-of (rd .inputs)) n ++ drop (ENTITY-CELL-BYTES * n) cells)
-
--- a record, where the numbers of a header's columns stand in memory
-pub record Record-read (classes d values columns : List ℕ) (count : ℕ) (flags cells new-flags new-cells : List ℕ) (r : Reads) : Type 0 where
-  pub is : (text offsets lengths : List ℕ) (w : Bench text classes offsets lengths d) → Few (w .file)
-      → (names : List ℕ) (cs : List Column) → header (w .file) names ≡ some cs → map column-number cs ≡ backwards count columns
-      → Answers (reading (w .file) names values) (length (w .file .entities)) flags cells new-flags new-cells r

@@ -11,12 +11,12 @@ use Rattle.text.specs.definitions.Syntax.{Member, File}
 use Rattle.checking.specs.contracts.DirectoryReads.{Few}
 use Rattle.checking.specs.definitions.Scope.{member-of, is-action}
 use Rattle.checking.specs.definitions.Verdict.{name-if-found}
+use Rattle.checking.specs.definitions.CountFaults.{MOST-ENTITIES}
 use Rattle.checking.specs.contracts.Directory.{name-in, Bench}
-use Rattle.cycles.specs.definitions.Store.{State}
 use Rattle.cycles.specs.definitions.Spots.{Spot}
-use Rattle.cycles.specs.definitions.Row.{MOST-ROW-BYTES, row, row-header}
+use Rattle.cycles.specs.definitions.Row.{MOST-ROW-BYTES, action-fields, row-header}
 use Rattle.values.specs.contracts.Puts.{Put}
-use Rattle.cycles.specs.definitions.StateImage.{ENTITY-CELLS}
+use Rattle.cycles.specs.definitions.Planes.{ENTITY-CELLS}
 
 unfoldable pub field-of : (Spot → List ℕ) → ℕ → ℕ → Option Member → List ℕ
 unfolding is-action
@@ -32,12 +32,19 @@ field-at f field i = field-of field (i / ENTITY-CELLS) (i % ENTITY-CELLS) (membe
 abbrev pub fired-field : List ℕ → Spot → List ℕ
 fired-field cells p = printed (cell-at cells (p .entity * ENTITY-CELLS + p .member))
 
+-- the most bytes of such a field with its space, and of those of all cells that a file may have
+abbrev pub FIELD-BYTES : ℕ
+FIELD-BYTES = 17
+
+abbrev pub FIELDS-BYTES : ℕ
+FIELDS-BYTES = FIELD-BYTES * (ENTITY-CELLS * MOST-ENTITIES)
+
 -- the header's
 abbrev pub name-field : File → Spot → List ℕ
 name-field f p = name-if-found (getElem? (f .entities) (p .entity)) ++ 46 ∷ p .what .name .bytes
 
 pub record Fired-put (classes d cells : List ℕ) (i : ℕ) (before : List ℕ) (at : ℕ) (after : List ℕ) (r : ℕ) : Type 0 where
-  pub short : r ≤ at + 17
+  pub short : r ≤ at + FIELD-BYTES
   pub is : (text offsets lengths : List ℕ) (w : Bench text classes offsets lengths d) → Few (w .file)
       → Put (field-at (w .file) (fired-field cells) i) before at after r
 
@@ -55,14 +62,11 @@ pub record In-front (bytes before after : List ℕ) (r : ℕ) : Type 0 where
   pub count : r ≡ length bytes
   pub is : after ≡ bytes ++ drop r before
 
--- cells in memory are those of a state now, as far as the file has members
-abbrev pub Now-in : File → State → List ℕ → Type 0
-Now-in f s cells = (e m : ℕ) (x : Member) → member-of f e m ≡ some x → s .now .cell e m ≡ cell-at cells (e * ENTITY-CELLS + m)
-
-pub record Row-put (classes d cells : List ℕ) (last : ℕ) (before after : List ℕ) (r : ℕ) : Type 0 where
-  pub short : r ≤ MOST-ROW-BYTES
+-- the fields of all action cells, from the cells in memory
+pub record Fields-put (classes d cells before : List ℕ) (at : ℕ) (after : List ℕ) (r : ℕ) : Type 0 where
+  pub short : r ≤ at + FIELDS-BYTES
   pub is : (text offsets lengths : List ℕ) (w : Bench text classes offsets lengths d) → Few (w .file)
-      → (s : State) → s .last ≡ last → Now-in (w .file) s cells → In-front (row (w .file) s) before after r
+      → Put (action-fields (w .file) (fired-field cells)) before at after r
 
 pub record Header-put (text classes offsets lengths d before after : List ℕ) (r : ℕ) : Type 0 where
   pub short : (w : Bench text classes offsets lengths d) → Few (w .file) → Short-names text classes offsets lengths → r ≤ MOST-ROW-BYTES

@@ -4,7 +4,6 @@ use Prim.Native.Nat.{ℕ}
 use mathlib.Core.List.{List, [], _∷_, flatMap}
 use mathlib.Core.Bool.{Bool, true, false, not, _&&_, _||_}
 use mathlib.Core.Option.{Option, none, some}
-use lib.Dec.{eqb}
 use Rattle.values.specs.declared.Value.{Value}
 use Rattle.values.specs.declared.Value.the-variants.{Unset}
 use Rattle.values.specs.definitions.Value.{is-set, fitted, settled, operated, negated, as-real, equal, differ}
@@ -32,11 +31,11 @@ use Rattle.text.specs.definitions.Syntax.{
   File,
 }
 use Rattle.checking.specs.definitions.Scope.{variables}
-use Rattle.cycles.specs.definitions.Store.{Store, State, Line}
+use Rattle.cycles.specs.definitions.Store.{Store, Inputs, Stores}
 use Rattle.cycles.specs.definitions.Spots.{Spot, Spots, spots}
 use Rattle.cycles.specs.definitions.Reference.{read-spot, Write, written-if}
 use Rattle.cycles.specs.definitions.Bindings.{bindings}
-use Rattle.cycles.specs.definitions.Cycle.{seen, next-state}
+use Rattle.cycles.specs.definitions.Cycle.{seen, next-stores}
 
 unfoldable pub value-at : Store → Option Spot → Value
 unfolding read-spot
@@ -112,12 +111,8 @@ unfoldable pub all-writes : File → Store → Store → List Write
 unfolding flatMap rule-writes
 all-writes f now previous = flatMap (rule-writes f now previous) (f .rules)
 
--- ---- a line, as `ref-cycle` and `ref-follow`
+-- ---- a cycle, as `ref-cycle`
 
-unfoldable pub cycle : File → State → Line → State
-unfolding next-state all-writes
-cycle f s l = next-state f s l (all-writes f (seen f (s .now) (l .inputs)) (s .previous))
-
-unfoldable pub follow : File → State → Line → State
-unfolding cycle
-follow f s l = elim (eqb (l .number) (s .last)) [ true ↦ s | false ↦ cycle f s l ]
+unfoldable pub cycle : File → Stores → Inputs → Stores
+unfolding next-stores all-writes
+cycle f s i = next-stores f s i (all-writes f (seen f (s .now) i) (s .previous))

@@ -1,4 +1,4 @@
--- A cycle, and the fresh state (document 01, "The bare machine").
+-- A cycle, and the fresh stores (document 01, "The bare machine"). It asks for the two stores and a line's readings alone, whoever sent the line.
 use Prim.Native.Nat.{ℕ}
 use mathlib.Core.List.{List, [], _∷_}
 use mathlib.Core.Bool.{Bool, true, false, not, _&&_, cond}
@@ -12,7 +12,7 @@ use Rattle.values.specs.definitions.Storable.{of-kind}
 use Rattle.text.specs.definitions.Syntax.{Name, Sort, Member, Interface, Assignment, literal-value, Entity, File}
 use Rattle.checking.specs.definitions.Scope.{Indexed, look-up, is-found, member-of, interface-named, member-named, is-attribute, is-action}
 use Rattle.cycles.specs.definitions.Outcome.{Outcome, running, proceed, run-if}
-use Rattle.cycles.specs.definitions.Store.{Store, Inputs, State, Line}
+use Rattle.cycles.specs.definitions.Store.{Store, Inputs, Stores}
 use Rattle.cycles.specs.definitions.Spots.{Spot, every, cells}
 use Rattle.cycles.specs.definitions.Reference.{Write}
 use Rattle.cycles.specs.definitions.Bindings.{ref-all-writes}
@@ -50,14 +50,9 @@ stored f s ws = record {
   cell = λ e m. cond (is-sort is-action (member-of f e m)) (after-writes ws e m Unset) (s .cell e m);
 }
 
-unfoldable pub next-state : File → State → Line → List Write → State
+unfoldable pub next-stores : File → Stores → Inputs → List Write → Stores
 unfolding seen stored
-next-state f s l ws = record {
-  now = stored f (seen f (s .now) (l .inputs)) ws;
-  previous = seen f (s .now) (l .inputs);
-  last = l .number;
-  inputs = l .inputs;
-}
+next-stores f s i ws = record { now = stored f (seen f (s .now) i) ws; previous = seen f (s .now) i }
 
 unfoldable pub input-fits : Kind → Option Value → Bool
 unfolding of-kind
@@ -72,17 +67,12 @@ inputs-fit f i =
     && every (λ p. input-fits (p .what .kind) (i .given (p .entity) (p .member))) (cells f)
 
 -- a cycle for one line: the rules read the line's store as now, and the one before as previous
-unfoldable pub ref-cycle : File → State → Line → Outcome State
-unfolding run-if inputs-fit proceed ref-all-writes next-state
-ref-cycle f s l =
-    run-if (inputs-fit f (l .inputs))
-    (proceed (ref-all-writes f (seen f (s .now) (l .inputs)) (s .previous)) λ ws.
-    running (next-state f s l ws))
-
--- an accepted line: "a resent one starts no cycle"
-unfoldable pub ref-follow : File → State → Line → Outcome State
-unfolding ref-cycle
-ref-follow f s l = elim (eqb (l .number) (s .last)) [ true ↦ running s | false ↦ ref-cycle f s l ]
+unfoldable pub ref-cycle : File → Stores → Inputs → Outcome Stores
+unfolding run-if inputs-fit proceed ref-all-writes next-stores
+ref-cycle f s i =
+    run-if (inputs-fit f i)
+    (proceed (ref-all-writes f (seen f (s .now) i) (s .previous)) λ ws.
+    running (next-stores f s i ws))
 
 unfoldable pub assigned : Option (Indexed Assignment) → Value
 unfolding literal-value
@@ -95,14 +85,12 @@ initial-value none m = Unset
 initial-value (some e) none = Unset
 initial-value (some e) (some m) = cond (is-attribute (m .sort)) (assigned (look-up (λ a. a .name) (m .name .bytes) (e .assignments))) Unset
 
--- "Fresh: all present, attributes set, the rest unset"; "(all absent before the first cycle)"; "(0 when fresh)"
-unfoldable pub fresh : File → State
+-- "Fresh: all present, attributes set, the rest unset"; "(all absent before the first cycle)"
+unfoldable pub fresh-stores : File → Stores
 unfolding is-found initial-value member-of
-fresh f = record {
+fresh-stores f = record {
   now = record { present = λ e. is-found (getElem? (f .entities) e); cell = λ e m. initial-value (getElem? (f .entities) e) (member-of f e m) };
   previous = record { present = λ e. false; cell = λ e m. Unset };
-  last = 0;
-  inputs = record { presence = λ e. none; given = λ e m. none };
 }
 
 -- an assignment: its name is found among the attributes, and its literal is of the attribute's kind
@@ -117,8 +105,8 @@ assignments-fit none xs = false
 assignments-fit (some i) xs = every (λ a. assignment-fits (member-named i (a .name .bytes)) (literal-value (a .literal))) xs
 
 -- the reference machine "stops where a name or member isn't found, where `=` .. meets values of unfitting kinds"
-unfoldable pub ref-fresh : File → Outcome State
-unfolding run-if every assignments-fit interface-named fresh
-ref-fresh f =
+unfoldable pub ref-fresh-stores : File → Outcome Stores
+unfolding run-if every assignments-fit interface-named fresh-stores
+ref-fresh-stores f =
     run-if (every (λ e. assignments-fit (interface-named f (e .interface .bytes)) (e .assignments)) (f .entities))
-    (running (fresh f))
+    (running (fresh-stores f))

@@ -1,4 +1,4 @@
--- A header, which document 01 calls a line of names ("Lines of readings").
+-- A header, which document 01 calls a line of names ("Lines of readings"; document 02, order 5).
 use Prim.Native.Nat.{ℕ}
 use mathlib.Core.List.{List, [], _∷_}
 use mathlib.Core.Bool.{Bool, true, false, not, _&&_, _||_, cond}
@@ -82,11 +82,17 @@ unfolding columns same-bytes
 columns-after-n f [] = none
 columns-after-n f (x ∷ xs) = cond (same-bytes x (110 ∷ [])) (columns f xs) none
 
+-- "The line of names begins `by n`": columns begin after it, so that `by` and `n` may be entities' names too
+unfoldable pub columns-after-by : File → List (List ℕ) → Option (List Column)
+unfolding columns-after-n same-bytes
+columns-after-by f [] = none
+columns-after-by f (x ∷ xs) = cond (same-bytes x (98 ∷ 121 ∷ [])) (columns-after-n f xs) none
+
 -- "at most 32,768 bytes"
 abbrev pub MOST-HEADER-BYTES : ℕ
 MOST-HEADER-BYTES = 32768
 
 -- "A line of names: .., at most 32,768 bytes"
 unfoldable pub header : File → List ℕ → Option (List Column)
-unfolding columns-after-n fields
-header f bs = elim (leb (length bs) MOST-HEADER-BYTES) [ true ↦ columns-after-n f (fields bs) | false ↦ none ]
+unfolding columns-after-by fields
+header f bs = elim (leb (length bs) MOST-HEADER-BYTES) [ true ↦ columns-after-by f (fields bs) | false ↦ none ]

@@ -1,4 +1,4 @@
--- A record, which document 01 calls a line of values ("Lines of readings").
+-- A record, which document 01 calls a line of values ("Lines of readings"; document 02, order 5).
 use Prim.Native.Nat.{ℕ}
 use mathlib.Core.List.{List, [], _∷_}
 use mathlib.Core.Bool.{Bool, true, false, not, _&&_, _||_, cond}
@@ -20,31 +20,33 @@ use Rattle.cycles.specs.definitions.Cycle.{present-after}
 use Rattle.cycles.specs.definitions.Fields.{fields, is-empty, has-byte}
 use Rattle.cycles.specs.definitions.Header.{Column, is-presence, is-member-number}
 
--- a record's number, and the texts of its values
-pub record Numbered : Type 0 where
+-- what a record says before its values are read: a sender, not yet of any form, a number, and the texts of the values
+pub record Sent : Type 0 where
+  pub sender : List ℕ
   pub number : ℕ
   pub texts : List (List ℕ)
 
-unfoldable pub numbered-as : Number → List (List ℕ) → Option Numbered
-numbered-as Not xs = none
-numbered-as (Is n) xs = some (record { number = n; texts = xs })
+unfoldable pub sent-as : List ℕ → Number → List (List ℕ) → Option Sent
+sent-as x Not xs = none
+sent-as x (Is n) xs = some (record { sender = x; number = n; texts = xs })
 
--- "wrong field count, .. or form of `n`", for so many columns
-unfoldable pub numbered-fields : ℕ → List (List ℕ) → Option Numbered
-unfolding numbered-as digit-of led
-numbered-fields count [] = none
-numbered-fields count (x ∷ xs) = cond (eqb (length xs) count) (numbered-as (magnitude x) xs) none
+-- "wrong field count, .. or form of `n`", for so many columns; "each line of values [begins] with the sender's name .. and that sender's number"
+unfoldable pub sent-fields : ℕ → List (List ℕ) → Option Sent
+unfolding sent-as digit-of led
+sent-fields count [] = none
+sent-fields count (x ∷ []) = none
+sent-fields count (x ∷ n ∷ xs) = cond (eqb (length xs) count) (sent-as x (magnitude n) xs) none
 
 -- "at most 8,192 bytes"
 abbrev pub MOST-RECORD-BYTES : ℕ
 MOST-RECORD-BYTES = 8192
 
 -- "at most 8,192 bytes; one space between fields, no line feed inside"; "(an empty field too)"
-unfoldable pub record-of : ℕ → List ℕ → Option Numbered
-unfolding fields is-empty has-byte every numbered-fields
+unfoldable pub record-of : ℕ → List ℕ → Option Sent
+unfolding fields is-empty has-byte every sent-fields
 record-of count bs =
     elim (leb (length bs) MOST-RECORD-BYTES && (not (has-byte 10 bs) && every (λ x. not (is-empty x)) (fields bs))) [
-      | true ↦ numbered-fields count (fields bs)
+      | true ↦ sent-fields count (fields bs)
       | false ↦ none
     ]
 

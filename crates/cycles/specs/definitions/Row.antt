@@ -1,14 +1,12 @@
--- Rows of fired actions, and their header (document 01, "Rows and names").
+-- The fields of fired actions in a row, and the header of rows (document 01, "Rows and names").
 use Prim.Native.Nat.{ℕ}
 use mathlib.Core.List.{List, [], _∷_, _++_, flatMap}
 use mathlib.Core.Bool.{Bool, true, false}
 use mathlib.Core.Option.{Option}
 use lib.ListN.{getElem?}
-use Rattle.values.specs.definitions.Forms.{digit-byte, decimal-digits, hexadecimal, decimal, printed}
 use Rattle.text.specs.definitions.Syntax.{Name, Member, Entity, File}
 use Rattle.checking.specs.definitions.Scope.{is-action}
 use Rattle.checking.specs.definitions.Verdict.{name-if-found}
-use Rattle.cycles.specs.definitions.Store.{State}
 use Rattle.cycles.specs.definitions.Spots.{Spot, cells}
 
 -- "The stated size of memory for a row is 32,768 bytes at most"
@@ -25,12 +23,7 @@ unfoldable pub action-fields : File → (Spot → List ℕ) → List ℕ
 unfolding flatMap action-cells
 action-fields f field = flatMap (λ p. 32 ∷ field p) (action-cells f)
 
--- "`n` and every action cell as `entity.action`"
+-- "`n` and every action cell as `entity.action`"; "their header [begins] with `by n`" (document 02, order 5)
 unfoldable pub row-header : File → List ℕ
 unfolding action-fields name-if-found
-row-header f = 110 ∷ action-fields f (λ p. name-if-found (getElem? (f .entities) (p .entity)) ++ 46 ∷ p .what .name .bytes)
-
--- "the number and each fired value, in the form of readings, or `-`, one space between fields"
-unfoldable pub row : File → State → List ℕ
-unfolding action-fields digit-byte decimal-digits hexadecimal
-row f s = decimal (s .last) ++ action-fields f (λ p. printed (s .now .cell (p .entity) (p .member)))
+row-header f = 98 ∷ 121 ∷ 32 ∷ 110 ∷ action-fields f (λ p. name-if-found (getElem? (f .entities) (p .entity)) ++ 46 ∷ p .what .name .bytes)

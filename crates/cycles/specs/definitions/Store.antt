@@ -1,4 +1,4 @@
--- The machine's state (document 01, "State: .."). A store is absent and unset wherever the bench has no such entity or member.
+-- What the machine works on (document 01, "State: .."): its two stores. A store is absent and unset wherever the bench has no such entity or member.
 use Prim.Native.Nat.{ℕ}
 use mathlib.Core.Bool.{Bool, true, false, cond}
 use mathlib.Core.Option.{Option, none, some}
@@ -19,14 +19,7 @@ pub record Inputs : Type 0 where
   pub presence : ℕ → Option Bool
   pub given : ℕ → ℕ → Option Value
 
--- now; "the same as the rules saw it one cycle before"; "the last line's number (0 when fresh) and readings"
-pub record State : Type 0 where
+-- now; "the same as the rules saw it one cycle before"
+pub record Stores : Type 0 where
   pub now : Store
   pub previous : Store
-  pub last : ℕ
-  pub inputs : Inputs
-
--- what a line says: its number and its readings
-pub record Line : Type 0 where
-  pub number : ℕ
-  pub inputs : Inputs

@@ -1,5 +1,5 @@
 -- What is read of chosen cells, one after another in the order of the text: their numbers stand in memory with the last one first.
-use Prim.Native.Nat.{ℕ, zero, suc, _+_, _-_, _*_, _/_, _%_, _≤_, _<_}
+use Prim.Native.Nat.{ℕ, zero, suc, _+_, _-_, _/_, _%_, _≤_, _<_}
 use native.Mathlib.Omega.{arith}
 use mathlib.Core.Path.{_≡_, refl, sym, ap, ap₂, _∙_, subst}
 use mathlib.Core.Bool.{Bool, true, false}
@@ -7,7 +7,7 @@ use mathlib.Core.List.{List, [], _∷_, map, List·Memᴰ, List·Memᴰ·head, L
 use mathlib.Core.Option.{some}
 use lib.Dec.{eqb}
 use lib.ListN.{length, getD, set, take, drop, length-set, length-drop}
-use lib.Seq.{getD-set-same, getD-set-other}
+use lib.Seq.{drop-drop, getD-set-same, getD-set-other}
 use borrow.Author.Tests.{eqb-true, eqb-false}
 use Rattle.values.specs.declared.Value.{Value}
 use Rattle.values.specs.declared.Value.the-variants.{Unset}
@@ -16,21 +16,22 @@ use Rattle.values.specs.declared.Kind.the-variants.{Wholes, Bools, Reals}
 use Rattle.text.specs.definitions.Syntax.{File}
 use Rattle.checking.specs.definitions.Scope.{member-of}
 use Rattle.checking.specs.contracts.Directory.{kind-class}
-use Rattle.cycles.specs.definitions.Store.{State}
 use Rattle.cycles.specs.definitions.Spots.{Spot}
 use Rattle.cycles.specs.definitions.Reference.{read-spot}
-use Rattle.cycles.specs.definitions.StateImage.{entity-count, now-flags, now-cells, decode-store, decode, state-of}
+use Rattle.cycles.specs.definitions.Planes.{entity-count, decode-store, decode-stores}
 use Rattle.cycles.specs.contracts.TotalMachine.{value-at}
 use Rattle.cycles.specs.contracts.Evaluation.{Locates, located, Stored, Cell-read}
 use Rattle.cycles.specs.contracts.CellTokens.{Cell-token}
 use Rattle.cycles.specs.contracts.HeaderReads.{backwards}
 use Rattle.cycles.proofs.laws.CellNumbers.{cell-entity, cell-member}
 use Rattle.cycles.proofs.laws.CellTokenLaws.{member-told}
-use Rattle.cycles.proofs.laws.StateTestLaws.{behind, behind-all}
+use Rattle.cycles.proofs.laws.PlaneTestLaws.{behind, behind-all}
 use Rattle.cycles.proofs.laws.StoredLaws.{decoded-stored}
 use Rattle.days.specs.definitions.Chosen.{is-real-kind, is-real-spot}
 use Rattle.days.specs.contracts.Choosing.{spot-number, Real-read, Spot-value, Reals-read, Cells-read}
-use Rattle.cycles.proofs.laws.ImageLaws.{is-decoded}
+use Rattle.senders.specs.definitions.Sender.{State}
+use Rattle.senders.specs.definitions.StateImage.{STATE, decode, state-of}
+use Rattle.senders.proofs.laws.StateLaws.{is-decoded}
 use Rattle.days.proofs.laws.SpotNumbers.{spot-entity, spot-member}
 use Rattle.days.proofs.laws.ChoosingLaws.{chosen-stand}
 
@@ -127,36 +128,35 @@ spot-valued {spot = spot} c = record {
 }
 
 -- the store now of a state in memory
-state-now : (f : File) (m : List ℕ) {s : State} → state-of f m ≡ some s
-    → s .now ≡ decode-store (entity-count f) (now-flags (entity-count f) m) (now-cells (entity-count f) m)
-unfolding decode
-state-now f m h = ap (λ (t : State). t .now) (is-decoded f m h)
+state-now : (print : ℕ) (f : File) (m : List ℕ) {s : State} → state-of print f m ≡ some s → s .stores .now ≡ decode-store (entity-count f) (drop 5 m)
+unfolding decode decode-stores
+state-now print f m h = ap (λ (t : State). t .stores .now) (is-decoded print f m h)
 
 -- its parts in the memory of a bench of n entities
-now-stored : (f : File) (state : List ℕ) (n : ℕ) → n ≡ entity-count f → n ≤ 32 → 10468 ≤ length state
-    → {s : State} → state-of f state ≡ some s
-    → Stored (entity-count f) (behind 4 state) (behind (4 + 3 * n) state) (s .now)
-now-stored f state n e l z h =
-    let k = length-drop (4 + 3 * n) state in
-    rw (behind-all 4 state, behind-all (4 + 3 * n) state, state-now f state h, ← e)
-    (decoded-stored n (drop 4 state) (drop (4 + 3 * n) state) (omega arith))
+now-stored : (print : ℕ) (f : File) (state : List ℕ) (n : ℕ) → n ≡ entity-count f → n ≤ 32 → STATE ≤ length state
+    → {s : State} → state-of print f state ≡ some s
+    → Stored (entity-count f) (behind 5 state) (behind (5 + n) state) (s .stores .now)
+now-stored print f state n e l z h =
+    let k = length-drop 5 state in
+    rw (behind-all 5 state, behind-all (5 + n) state, state-now print f state h, ← e, ← drop-drop n 5 state)
+    (decoded-stored n (drop 5 state) (omega arith))
 
 module _ {d state spots : List ℕ} {count n : ℕ} (q : n ≡ getD d 1 0) where
   -- no file within the counts has so many entities
   pub cells-impossible : 32 < n → (r : List Value) → Cells-read d state spots count r
   cells-impossible l r = record {
-    is = λ text classes offsets lengths w few s h cells ps g e. let k = w .directory .entities in absurd (omega (arith, few .entities));
+    is = λ text classes offsets lengths w few print s h cells ps g e. let k = w .directory .entities in absurd (omega (arith, few .entities));
   }
 
-  pub cells-read : {k : ℕ} {r : List Value} → count ≤ 5 → count ≤ k → n ≤ 32 → 10468 ≤ length state
-      → Back-read (Spot-value (behind 4 state) (behind (4 + 3 * n) state)) Unset spots count k r → Cells-read d state spots count r
+  pub cells-read : {k : ℕ} {r : List Value} → count ≤ 5 → count ≤ k → n ≤ 32 → STATE ≤ length state
+      → Back-read (Spot-value (behind 5 state) (behind (5 + n) state)) Unset spots count k r → Cells-read d state spots count r
   cells-read {r = r} l v k z b = record {
-    is = λ text classes offsets lengths w few s h cells ps g e.
+    is = λ text classes offsets lengths w few print s h cells ps g e.
         let f = w .file in
         let u = b .size in
-        said-in-turn Unset (read-spot (s .now)) spots ps count r (omega arith) e
+        said-in-turn Unset (read-spot (s .stores .now)) spots ps count r (omega arith) e
         (λ i j p m a t.
         let x = chosen-stand f cells g p m in
-        b .each i j (omega arith) a .is (entity-count f) (s .now) (now-stored f state n (q ∙ w .directory .entities) k z h) p (spot-entity f few p x)
-        (spot-member f few p x) t);
+        let there = now-stored print f state n (q ∙ w .directory .entities) k z h in
+        b .each i j (omega arith) a .is (entity-count f) (s .stores .now) there p (spot-entity f few p x) (spot-member f few p x) t);
   }

@@ -3,25 +3,26 @@ use Prim.Native.Nat.{ℕ, suc, _+_, _-_, _≤_, _<_}
 use native.Mathlib.Numerals.{add-one}
 use native.Mathlib.Omega.{arith}
 use mathlib.Core.Path.{_≡_, refl, sym, ap, _∙_}
-use mathlib.Core.Bool.{Bool, true, false, not, cond, true≢false, false≢true}
+use mathlib.Core.Bool.{Bool, true, false, cond}
 use mathlib.Core.List.{List, [], _∷_, _++_, map, flatMap}
 use lib.Dec.{ltb, eqb}
 use lib.ListN.{length, take, drop, length-append, length-drop, drop-of-length-le, take-append-drop}
 use lib.Seq.{drop-cons, drop-drop, take-all}
 use borrow.Author.Tests.{ltb-true, ltb-false}
 use Rattle.text.specs.definitions.Syntax.{File}
-use Rattle.cycles.specs.definitions.Store.{State, Line}
 use Rattle.cycles.specs.definitions.Spots.{Spot}
 use Rattle.cycles.specs.definitions.Fields.{lengthened}
 use Rattle.cycles.specs.definitions.Reference.{read-spot}
-use Rattle.cycles.specs.definitions.Line.{Answer, refused, accepted, line}
-use Rattle.cycles.specs.definitions.Readings.{lines, Part-of-line, state-after, header-line, record-lines, turns}
-use Rattle.cycles.specs.contracts.TotalMachine.{follow}
+use Rattle.cycles.specs.definitions.Readings.{lines, Part-of-line, header-line, record-lines}
 use Rattle.cycles.proofs.laws.ReadingsLaws.{lines-fed, lines-last}
-use Rattle.cycles.proofs.laws.FollowLaws.{follow-last}
+use Rattle.senders.specs.definitions.Sender.{State}
+use Rattle.senders.specs.definitions.Answer.{Answer, refused, accepted}
+use Rattle.senders.specs.definitions.Line.{Accepted, new, resent, line}
+use Rattle.senders.specs.definitions.Turns.{state-after, turns}
+use Rattle.senders.proofs.laws.SoundLine.{accepted-line-sound}
 use Rattle.sheets.specs.definitions.Rows.{Printed-line}
 use Rattle.days.specs.definitions.DaySheet.{printed-for, printed-lines, line-feeds}
-use Rattle.days.specs.contracts.SheetMemory.{Line-end, is-new}
+use Rattle.days.specs.contracts.SheetMemory.{Line-end, new-number}
 
 -- ---- lines
 
@@ -116,33 +117,34 @@ records-most s = go (lines s) (lines-no-more s)
 -- ---- printed lines
 
 -- what a record prints in a state
-abbrev pub printed-after : File → List Spot → State → Answer Line → List Printed-line
-printed-after f ps s a = printed-for ps s a (state-after f s a)
+abbrev pub printed-after : File → List Spot → State → Answer Accepted → List Printed-line
+printed-after f ps s a = printed-for ps a (state-after f s a)
+
+module _ (f : File) (ps : List Spot) (s : State) (names v : List ℕ) where
+  pub printed-old : new-number (line f s names v) ≡ 0 → printed-after f ps s (line f s names v) ≡ []
+  unfolding printed-for new-number
+  printed-old h = go (line f s names v) refl
+    where
+      go : (b : Answer Accepted) → line f s names v ≡ b → printed-after f ps s b ≡ []
+      go (refused code) e = refl
+      go (accepted (resent l)) e = refl
+      go (accepted (new l)) e =
+          let z : l .number ≡ 0 = sym (ap new-number e) ∙ h in
+          absurd (omega (arith, accepted-line-sound f s names v (new l) e .turn .next, z))
+
+  pub printed-new : (new-number (line f s names v) ≡ 0 → ⊥)
+      → printed-after f ps s (line f s names v)
+      ≡ record { number = new-number (line f s names v); values = map (read-spot (state-after f s (line f s names v) .stores .now)) ps } ∷ []
+  unfolding printed-for new-number
+  printed-new h = go (line f s names v) h
+    where
+      go : (b : Answer Accepted) → (new-number b ≡ 0 → ⊥)
+          → printed-after f ps s b ≡ record { number = new-number b; values = map (read-spot (state-after f s b .stores .now)) ps } ∷ []
+      go (refused code) h = absurd (h refl)
+      go (accepted (resent l)) h = absurd (h refl)
+      go (accepted (new l)) h = refl
 
 module _ (f : File) (ps : List Spot) (s : State) where
-  pub printed-old : (a : Answer Line) → is-new (s .last) a ≡ false → printed-after f ps s a ≡ []
-  unfolding printed-for is-new
-  printed-old (refused code) h = refl
-  printed-old (accepted l) h = go (eqb (l .number) (s .last)) refl
-    where
-      go : (t : Bool) → eqb (l .number) (s .last) ≡ t → printed-after f ps s (accepted l) ≡ []
-      go true e = rw (e, printed-for)
-      go false e = let z : not false ≡ false = rw e at h in absurd (true≢false z)
-
-  -- the line's number is the last one of the state after it
-  pub printed-new : (a : Answer Line) → is-new (s .last) a ≡ true
-      → printed-after f ps s a ≡ record { number = state-after f s a .last; values = map (read-spot (state-after f s a .now)) ps } ∷ []
-  unfolding printed-for is-new state-after
-  printed-new (refused code) h = absurd (false≢true h)
-  printed-new (accepted l) h = go (eqb (l .number) (s .last)) refl
-    where
-      go : (t : Bool) → eqb (l .number) (s .last) ≡ t
-          → printed-after f ps s (accepted l) ≡ record { number = follow f s l .last; values = map (read-spot (follow f s l .now)) ps } ∷ []
-      go true e = let z : not true ≡ true = rw e at h in absurd (false≢true z)
-      go false e =
-          rw (e, printed-for)
-          (ap (λ (k : ℕ). record { number = k; values = map (read-spot (follow f s l .now)) ps } ∷ []) (sym (follow-last f s l)))
-
   -- a record first
   pub printed-first : (names v : List ℕ) (vs : List (List ℕ))
       → printed-lines ps (turns f names s (v ∷ vs))
@@ -155,12 +157,11 @@ module _ (f : File) (ps : List Spot) (s : State) where
   printed-none names = refl
 
 -- no more printed lines than records
-printed-few : (f : File) (ps : List Spot) (s : State) (a : Answer Line) → length (printed-after f ps s a) ≤ 1
-printed-few f ps s a = go (is-new (s .last) a) refl
-  where
-    go : (t : Bool) → is-new (s .last) a ≡ t → length (printed-after f ps s a) ≤ 1
-    go true e = rw (printed-new f ps s a e) (omega arith)
-    go false e = rw (printed-old f ps s a e) (omega arith)
+printed-few : (f : File) (ps : List Spot) (s : State) (a : Answer Accepted) → length (printed-after f ps s a) ≤ 1
+unfolding printed-for
+printed-few f ps s (refused code) = omega arith
+printed-few f ps s (accepted (resent l)) = omega arith
+printed-few f ps s (accepted (new l)) = omega arith
 
 pub printed-no-more : (f : File) (ps : List Spot) (names : List ℕ) (s : State) (vs : List (List ℕ))
     → length (printed-lines ps (turns f names s vs)) ≤ length vs

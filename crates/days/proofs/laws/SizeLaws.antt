@@ -1,5 +1,5 @@
 -- Sizes of a day sheet: so many chosen cells and printed lines, so many rows of 80 bytes.
-use Prim.Native.Nat.{ℕ, suc, _+_, _≤_}
+use Prim.Native.Nat.{ℕ, suc, _≤_}
 use native.Mathlib.Omega.{arith}
 use mathlib.Core.Path.{_≡_, refl, sym, ap, _∙_, subst}
 use mathlib.Core.Bool.{Bool, true, false}
@@ -8,7 +8,6 @@ use mathlib.Core.List.{
   List,
   [],
   _∷_,
-  _++_,
   map,
   List·Memᴰ,
   List·Memᴰ·not-nil,
@@ -21,21 +20,22 @@ use lib.ListN.{length, length-map}
 use borrow.Author.Tests.{leb-true}
 use Rattle.text.specs.definitions.Syntax.{File}
 use Rattle.text.proofs.laws.ListLaws.{some-injective, none-some}
-use Rattle.cycles.specs.definitions.Store.{State, Line}
 use Rattle.cycles.specs.definitions.Spots.{Spot}
 use Rattle.cycles.specs.definitions.Fields.{split, fields}
 use Rattle.cycles.specs.definitions.Reference.{read-spot}
-use Rattle.cycles.specs.definitions.Line.{Answer, line}
-use Rattle.cycles.specs.definitions.Readings.{lines, state-after, record-lines, turns}
+use Rattle.cycles.specs.definitions.Readings.{lines, record-lines}
+use Rattle.senders.specs.definitions.Sender.{State}
+use Rattle.senders.specs.definitions.Answer.{Answer, refused, accepted}
+use Rattle.senders.specs.definitions.Line.{Accepted, new, resent, line}
+use Rattle.senders.specs.definitions.Turns.{state-after, turns}
 use Rattle.sheets.specs.definitions.Layout.{SHEET-COLUMNS, MOST-CHOSEN}
 use Rattle.sheets.specs.definitions.Rows.{Printed-line}
 use Rattle.sheets.specs.definitions.Sheet.{sheet-rows}
 use Rattle.sheets.proofs.laws.SheetLaws.{Narrow}
 use Rattle.sheets.proofs.theorems.SheetSizes.{every-row-full, sheet-most}
 use Rattle.days.specs.definitions.Chosen.{spot-named, spot-before, spots-named, chosen, is-real-spot}
-use Rattle.days.specs.definitions.DaySheet.{printed-lines, day-sheet, sheet-size}
-use Rattle.days.specs.contracts.SheetMemory.{is-new}
-use Rattle.days.proofs.laws.DayLaws.{records-most, printed-after, printed-old, printed-new, printed-first, printed-none, printed-no-more}
+use Rattle.days.specs.definitions.DaySheet.{printed-for, printed-lines, day-sheet, sheet-size}
+use Rattle.days.proofs.laws.DayLaws.{records-most, printed-after, printed-first, printed-none, printed-no-more}
 
 spots-counted : (f : File) (xs : List (List ℕ)) (ps : List Spot) → spots-named f xs ≡ some ps → length ps ≡ length xs
 unfolding spots-named spot-before
@@ -63,15 +63,14 @@ chosen-few f cells ps h = go (leb (length (fields cells)) MOST-CHOSEN) refl
 -- ---- the sheet
 
 -- each printed line has a value for each chosen cell
-printed-values : (f : File) (ps : List Spot) (s : State) (a : Answer Line) (l : Printed-line) → List·Memᴰ l (printed-after f ps s a)
+printed-values : (f : File) (ps : List Spot) (s : State) (a : Answer Accepted) (l : Printed-line) → List·Memᴰ l (printed-after f ps s a)
     → length (l .values) ≡ length ps
-printed-values f ps s a l m = go (is-new (s .last) a) refl
-  where
-    go : (t : Bool) → is-new (s .last) a ≡ t → length (l .values) ≡ length ps
-    go true e =
-        let q = List·Memᴰ·eq-of-singleton (subst (λ (ls : List Printed-line). List·Memᴰ l ls) (printed-new f ps s a e) m) in
-        ap (λ (x : Printed-line). length (x .values)) q ∙ length-map ps (read-spot (state-after f s a .now))
-    go false e = absurd (List·Memᴰ·not-nil (subst (λ (ls : List Printed-line). List·Memᴰ l ls) (printed-old f ps s a e) m))
+unfolding printed-for
+printed-values f ps s (refused code) l m = absurd (List·Memᴰ·not-nil m)
+printed-values f ps s (accepted (resent k)) l m = absurd (List·Memᴰ·not-nil m)
+printed-values f ps s (accepted (new k)) l m =
+    ap (λ (x : Printed-line). length (x .values)) (List·Memᴰ·eq-of-singleton m)
+    ∙ length-map ps (read-spot (state-after f s (accepted (new k)) .stores .now))
 
 module _ (f : File) (ps : List Spot) (names : List ℕ) (few : length ps ≤ MOST-CHOSEN) where
   narrow : (s : State) (vs : List (List ℕ)) → Narrow (printed-lines ps (turns f names s vs))

@@ -17,7 +17,7 @@ use Rattle.checking.proofs.laws.DirectoryLaws.{number-below}
 use Rattle.checking.proofs.laws.CalledLaws.{none-found, some-found}
 use Rattle.cycles.specs.definitions.Spots.{Spot, spot-among, spot-of}
 use Rattle.cycles.specs.definitions.Fields.{split}
-use Rattle.cycles.specs.definitions.StateImage.{entity-count}
+use Rattle.cycles.specs.definitions.Planes.{entity-count}
 use Rattle.cycles.specs.contracts.FieldReads.{Field-start}
 use Rattle.cycles.proofs.laws.CellNumbers.{no-member-no-cell}
 use Rattle.cycles.proofs.laws.CellTokenLaws.{few-within, entity-told}

@@ -2,20 +2,24 @@
 use Prim.Native.Nat.{ℕ, suc, _+_, _-_, _*_, _≤_, _<_}
 use native.Mathlib.Omega.{arith}
 use mathlib.Core.Path.{_≡_, refl, sym, ap, ap₂, _∙_, subst}
-use mathlib.Core.Bool.{Bool, true, false}
+use mathlib.Core.Bool.{Bool}
 use mathlib.Core.List.{List, [], _∷_, _++_, map, flatMap, append-nil, append-assoc}
 use mathlib.Core.Option.{some}
 use lib.ListN.{length, take, drop, replicate}
 use Rattle.values.specs.declared.Value.{Value}
-use Rattle.values.specs.definitions.Bytes.{word-at}
 use Rattle.values.specs.contracts.Puts.{Put}
 use Rattle.values.proofs.laws.PutLaws.{put-length, put-same}
 use Rattle.text.specs.definitions.Syntax.{File}
-use Rattle.cycles.specs.definitions.Store.{State, Line}
 use Rattle.cycles.specs.definitions.Reference.{read-spot}
-use Rattle.cycles.specs.definitions.Line.{Answer, line}
-use Rattle.cycles.specs.definitions.Readings.{lines, state-after, turns}
-use Rattle.cycles.specs.definitions.StateImage.{STATE, decode, state-of}
+use Rattle.cycles.specs.definitions.Readings.{lines}
+use Rattle.senders.specs.definitions.Sender.{State}
+use Rattle.senders.specs.definitions.Answer.{Answer}
+use Rattle.senders.specs.definitions.Line.{Accepted, line}
+use Rattle.senders.specs.definitions.Turns.{state-after, turns}
+use Rattle.senders.specs.definitions.Fingerprint.{fingerprint}
+use Rattle.senders.specs.definitions.StateImage.{STATE, state-of}
+use Rattle.senders.specs.contracts.Advancing.{state-memory}
+use Rattle.senders.proofs.laws.StandsLaws.{fingerprint-below, memory-stands}
 use Rattle.sheets.specs.declared.Fold.{Fold}
 use Rattle.sheets.specs.definitions.Layout.{MOST-CHOSEN}
 use Rattle.sheets.specs.definitions.Sizes.{MOST-LINE-BYTES, MOST-CLOSING-BYTES}
@@ -27,17 +31,9 @@ use Rattle.sheets.proofs.laws.RowLaws.{chosen-most, line-most}
 use Rattle.sheets.proofs.laws.FoldLaws.{folds-none, folds-snoc}
 use Rattle.sheets.proofs.laws.SheetLaws.{lines-none, lines-next, sheet-put}
 use Rattle.days.specs.definitions.DaySheet.{printed-lines, day-sheet}
-use Rattle.days.specs.contracts.Advancing.{state-memory}
 use Rattle.days.specs.contracts.Choosing.{Cells-read, Reals-read}
-use Rattle.days.specs.contracts.SheetMemory.{Line-end, is-new, Stepped, Day-given, day-file, Day-put}
-use Rattle.days.proofs.laws.RecordLaws.{memory-stands}
-use Rattle.cycles.proofs.laws.ImageLaws.{is-decoded}
+use Rattle.days.specs.contracts.SheetMemory.{Line-end, new-number, Stepped, Day-given, day-file, Day-put}
 use Rattle.days.proofs.laws.DayLaws.{line-taken, no-lines, printed-after, printed-old, printed-new, printed-first, printed-none}
-
--- a state's last number stands at its image's front
-last-in : (f : File) (m : List ℕ) (s : State) → state-of f m ≡ some s → word-at 4 m 0 ≡ s .last
-unfolding decode
-last-in f m s h = sym (ap (λ (t : State). t .last) (is-decoded f m h))
 
 module _ {classes literals d refs scopes columns : List ℕ} {width : ℕ} {spots : List ℕ} {count : ℕ} {state₀ : List ℕ} (readings : List ℕ) where
   -- what the records from `at` on print in a state
@@ -49,7 +45,7 @@ module _ {classes literals d refs scopes columns : List ℕ} {width : ℕ} {spot
     pub record So-far (g : Day-given classes literals d refs scopes columns width spots count state₀) (at end : ℕ) (state sheet : List ℕ)
         (gs : List Fold) : Type 0 where
       pub after : State
-      pub stands : state-of (day-file g) state ≡ some after
+      pub stands : state-of (fingerprint (g .text)) (day-file g) state ≡ some after
       pub done : List Printed-line
       pub put : Put (with-feeds (flatMap line-rows done)) m 0 sheet end
       pub gathers : gs ≡ folds done
@@ -89,7 +85,7 @@ module _ (classes literals d refs scopes columns : List ℕ) (width : ℕ) (spot
         let l = left-length in
         omega arith
 
-    module _ {new-state : List ℕ} (kept : length new-state ≡ length state) {t : Bool}
+    module _ {new-state : List ℕ} (kept : length new-state ≡ length state) {t : ℕ}
         (steps : Stepped classes literals d refs scopes columns width (take (stop - at) (drop at readings)) state new-state t) where
       -- the state after the record
       module _ (g : Day-given classes literals d refs scopes columns width spots count state₀) where
@@ -102,11 +98,14 @@ module _ (classes literals d refs scopes columns : List ℕ) (width : ℕ) (spot
         abbrev v : List ℕ
         v = take (stop - at) (drop at readings)
 
-        abbrev a : Answer Line
+        abbrev a : Answer Accepted
         a = line f s (g .names) v
 
-        stepped : (t ≡ is-new (s .last) a) × (new-state ≡ state-memory f s a state)
-        stepped = steps .is (g .text) (g .offsets) (g .lengths) (g .bench) s (w .is g .stands) (g .names) (g .cs) (g .header-is) (g .columns-are)
+        abbrev print : ℕ
+        print = fingerprint (g .text)
+
+        stepped : (t ≡ new-number a) × (new-state ≡ state-memory print f s a state)
+        stepped = steps .is (g .text) (g .offsets) (g .lengths) (g .bench) print s (w .is g .stands) (g .names) (g .cs) (g .header-is) (g .columns-are)
 
         abbrev after : State
         after = state-after f s a
@@ -114,8 +113,10 @@ module _ (classes literals d refs scopes columns : List ℕ) (width : ℕ) (spot
         abbrev rest : List Printed-line
         rest = printed-from readings g after (stop + 1)
 
-        stands-after : state-of f new-state ≡ some after
-        stands-after = ap (state-of f) (stepped .1) ∙ memory-stands (g .bench) state s (w .state-size) (w .is g .stands) (g .names) v
+        stands-after : state-of print f new-state ≡ some after
+        stands-after =
+            ap (state-of print f) (stepped .1)
+            ∙ memory-stands (g .bench) print (fingerprint-below (g .text)) state s (w .is g .stands) (g .names) v
 
         all-after : printed-from readings g (g .before) from ≡ w .is g .done ++ (printed-after f (g .ps) s a ++ rest)
         all-after =
@@ -124,7 +125,7 @@ module _ (classes literals d refs scopes columns : List ℕ) (width : ℕ) (spot
             ∙ ap (λ (l : List Printed-line). w .is g .done ++ l) (printed-first f (g .ps) s (g .names) v (lines (drop (stop + 1) readings)))
 
       -- a record that prints nothing
-      pub going-passes : t ≡ false → Going (stop + 1) end new-state sheet gs
+      pub going-passes : t ≡ 0 → Going (stop + 1) end new-state sheet gs
       going-passes q = record {
         room =
             let r = w .room in
@@ -141,19 +142,19 @@ module _ (classes literals d refs scopes columns : List ℕ) (width : ℕ) (spot
           gathers = w .is g .gathers;
           all = all-after g
               ∙ ap (λ (l : List Printed-line). w .is g .done ++ (l ++ rest g))
-              (printed-old (f g) (g .ps) (s g) (a g) (sym (stepped g .0) ∙ q));
+              (printed-old (f g) (g .ps) (s g) (g .names) (v g) (sym (stepped g .0) ∙ q));
         };
       }
 
       -- a new line: its rows are put, its values gathered
-      pub going-prints : t ≡ true → {n : ℕ} → n ≡ word-at 4 new-state 0 → {vs : List Value} → Cells-read d new-state spots count vs → count ≤ MOST-CHOSEN
-          → {new-sheet : List ℕ} {new-end : ℕ} → Put (with-feeds (line-rows (record { number = n; values = take count vs }))) sheet end new-sheet new-end
+      pub going-prints : (t ≡ 0 → ⊥) → {vs : List Value} → Cells-read d new-state spots count vs → count ≤ MOST-CHOSEN
+          → {new-sheet : List ℕ} {new-end : ℕ} → Put (with-feeds (line-rows (record { number = t; values = take count vs }))) sheet end new-sheet new-end
           → {hs : List Fold} → hs ≡ folded-values gs (take count vs) → Going (stop + 1) new-end new-state new-sheet hs
-      going-prints q {n} e {vs} reads few {new-sheet} {new-end} puts {hs} gathers = record {
+      going-prints q {vs} reads few {new-sheet} {new-end} puts {hs} gathers = record {
         room =
             let r = w .room in
             let l = left-length in
-            let most = line-most (record { number = n; values = take count vs }) (chosen-most vs count few) in
+            let most = line-most (record { number = t; values = take count vs }) (chosen-most vs count few) in
             let z = puts .end in
             omega arith;
         size = put-length puts ∙ w .size;
@@ -161,12 +162,13 @@ module _ (classes literals d refs scopes columns : List ℕ) (width : ℕ) (spot
         state-kept = kept ∙ w .state-kept;
         is = λ g.
             let r = w .is g in
-            let p : Printed-line = record { number = n; values = take count vs } in
+            let p : Printed-line = record { number = t; values = take count vs } in
             let b = g .bench .checked in
-            let same : p ≡ record { number = after g .last; values = map (read-spot (after g .now)) (g .ps) } =
+            let same : p ≡ record { number = new-number (a g); values = map (read-spot (after g .stores .now)) (g .ps) } =
             ap₂ (λ (k : ℕ) (l : List Value). record { number = k; values = l })
-            (e ∙ last-in (f g) new-state (after g) (stands-after g))
-            (reads .is (g .text) classes (g .offsets) (g .lengths) (b .bench) (b .few) (after g) (stands-after g) (g .cells) (g .ps) (g .chosen-is) (g .spots-are)) in
+            (stepped g .0)
+            (reads .is (g .text) classes (g .offsets) (g .lengths) (b .bench) (b .few) (print g) (after g) (stands-after g) (g .cells) (g .ps) (g .chosen-is)
+            (g .spots-are)) in
             record {
               after = after g;
               stands = stands-after g;
@@ -175,7 +177,7 @@ module _ (classes literals d refs scopes columns : List ℕ) (width : ℕ) (spot
               gathers = gathers ∙ ap (λ (l : List Fold). folded-values l (take count vs)) (r .gathers) ∙ sym (folds-snoc (r .done) p);
               all = all-after g
                   ∙ ap (λ (l : List Printed-line). r .done ++ (l ++ rest g))
-                  (printed-new (f g) (g .ps) (s g) (a g) (sym (stepped g .0) ∙ q) ∙ ap (λ (l : Printed-line). l ∷ []) (sym same))
+                  (printed-new (f g) (g .ps) (s g) (g .names) (v g) (λ z. q (stepped g .0 ∙ z)) ∙ ap (λ (l : Printed-line). l ∷ []) (sym same))
                   ∙ sym (append-assoc (r .done) (p ∷ []) (rest g));
             };
       }

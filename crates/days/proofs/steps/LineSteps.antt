@@ -1,26 +1,27 @@
--- Where a line ends, how many line feeds a text has, and which records are new lines.
+-- Where a line ends, how many line feeds a text has, and the numbers of new lines.
 use Prim.Native.Nat.{ℕ, suc, _+_, _-_, _*_, _/_, _≤_, _<_}
 use native.Mathlib.Numerals.{add-one}
 use native.Mathlib.Omega.{arith}
 use mathlib.Core.Path.{_≡_, refl, sym, ap, _∙_}
-use mathlib.Core.Bool.{Bool, true, false, not, cond}
+use mathlib.Core.Bool.{Bool, true, false}
 use mathlib.Core.List.{List, [], _∷_}
-use lib.Dec.{ltb, eqb}
+use lib.Dec.{ltb}
 use lib.ListN.{length, getD, take, drop, length-drop}
 use lib.Seq.{drop-cons, drop-length, take-suc, getD-drop}
 use borrow.Author.Tests.{lt-ltb, le-ltb, ltb-true, ltb-false, ne-eqb}
-use Rattle.cycles.specs.declared.judge.Judgement.{Judgement}
-use Rattle.cycles.specs.declared.judge.Judgement.the-variants.{Refused, New, Resent}
-use Rattle.cycles.specs.definitions.Store.{Line}
-use Rattle.cycles.specs.definitions.Line.{Answer, refused, accepted, line}
 use Rattle.cycles.specs.definitions.Readings.{Part-of-line}
-use Rattle.cycles.specs.contracts.Judging.{judgement}
 use Rattle.cycles.proofs.laws.ReadingsLaws.{part-append}
+use Rattle.senders.specs.declared.judge.Judgement.{Judgement}
+use Rattle.senders.specs.declared.judge.Judgement.the-variants.{Refused, New, Resent}
+use Rattle.senders.specs.definitions.Sender.{Sender}
+use Rattle.senders.specs.definitions.Answer.{Answer, refused, accepted}
+use Rattle.senders.specs.definitions.Line.{Accepted, new, resent, line}
+use Rattle.senders.specs.contracts.Judging.{judgement}
+use Rattle.senders.specs.contracts.Advancing.{Advanced}
 use Rattle.sheets.specs.definitions.Layout.{MOST-CHOSEN}
 use Rattle.sheets.specs.definitions.Sizes.{MOST-LINE-BYTES, MOST-CLOSING-BYTES}
 use Rattle.days.specs.definitions.DaySheet.{line-feeds, sheet-size}
-use Rattle.days.specs.contracts.Advancing.{Advanced}
-use Rattle.days.specs.contracts.SheetMemory.{Line-end, is-new, Stepped}
+use Rattle.days.specs.contracts.SheetMemory.{Line-end, new-number, Stepped}
 
 -- ---- a line's end
 
@@ -117,37 +118,34 @@ module _ (s : List ℕ) where
 
 -- ---- a record
 
-unfoldable is-new-line : Judgement → Bool
-is-new-line (Refused code) = false
-is-new-line New = true
-is-new-line Resent = false
+unfoldable judged-number : Judgement → ℕ
+judged-number (Refused code) = 0
+judged-number (New at number) = number
+judged-number (Resent at) = 0
 
-new-judged : (last : ℕ) (a : Answer Line) → is-new-line (judgement last a) ≡ is-new last a
-unfolding judgement is-new is-new-line
-new-judged last (refused code) = refl
-new-judged last (accepted l) = go (eqb (l .number) last)
-  where
-    go : (t : Bool) → is-new-line (cond t Resent New) ≡ not t
-    go true = refl
-    go false = refl
+number-judged : (xs : List Sender) (a : Answer Accepted) → judged-number (judgement xs a) ≡ new-number a
+unfolding judgement new-number judged-number
+number-judged xs (refused code) = refl
+number-judged xs (accepted (new l)) = refl
+number-judged xs (accepted (resent l)) = refl
 
 module _ {classes literals d refs scopes columns : List ℕ} {width : ℕ} {values state new-state : List ℕ} {j : Judgement}
     (advances : Advanced classes literals d refs scopes columns width values state new-state j) where
-  stepped : {t : Bool} → t ≡ is-new-line j → Stepped classes literals d refs scopes columns width values state new-state t
+  stepped : {t : ℕ} → t ≡ judged-number j → Stepped classes literals d refs scopes columns width values state new-state t
   stepped e = record {
-    is = λ text offsets lengths b s h names cs x y.
-        let m = advances .is text offsets lengths b s h names cs x y in
-        (e ∙ ap is-new-line (m .judged) ∙ new-judged (s .last) (line (b .checked .bench .file) s names values), m .left);
+    is = λ text offsets lengths b print s h names cs x y.
+        let m = advances .is text offsets lengths b print s h names cs x y in
+        (e ∙ ap judged-number (m .judged) ∙ number-judged (s .senders) (line (b .checked .bench .file) s names values), m .left);
   }
 
-  pub stepped-refused : {code : ℕ} → j ≡ Refused code → Stepped classes literals d refs scopes columns width values state new-state false
-  unfolding is-new-line
-  stepped-refused q = stepped (sym (ap is-new-line q))
+  pub stepped-refused : {code : ℕ} → j ≡ Refused code → Stepped classes literals d refs scopes columns width values state new-state 0
+  unfolding judged-number
+  stepped-refused q = stepped (sym (ap judged-number q))
 
-  pub stepped-new : j ≡ New → Stepped classes literals d refs scopes columns width values state new-state true
-  unfolding is-new-line
-  stepped-new q = stepped (sym (ap is-new-line q))
+  pub stepped-new : {at number : ℕ} → j ≡ New at number → Stepped classes literals d refs scopes columns width values state new-state number
+  unfolding judged-number
+  stepped-new q = stepped (sym (ap judged-number q))
 
-  pub stepped-resent : j ≡ Resent → Stepped classes literals d refs scopes columns width values state new-state false
-  unfolding is-new-line
-  stepped-resent q = stepped (sym (ap is-new-line q))
+  pub stepped-resent : {at : ℕ} → j ≡ Resent at → Stepped classes literals d refs scopes columns width values state new-state 0
+  unfolding judged-number
+  stepped-resent q = stepped (sym (ap judged-number q))

@@ -5,19 +5,24 @@ use mathlib.Core.Path.{_≡_, refl, sym, ap, _∙_, subst}
 use mathlib.Core.Bool.{Bool, true, false}
 use mathlib.Core.List.{List, [], _++_, append-nil}
 use mathlib.Core.Option.{Option, none, some}
-use lib.ListN.{length, take, drop, drop-of-length-le}
+use lib.ListN.{length, getD, take, drop, drop-of-length-le}
 use lib.Seq.{length-take-le}
 use Rattle.values.specs.definitions.Bytes.{overwritten}
 use Rattle.values.specs.contracts.Puts.{Put}
 use Rattle.values.proofs.laws.ByteLaws.{overwritten-parts}
 use Rattle.text.specs.definitions.Syntax.{File}
-use Rattle.cycles.specs.definitions.Store.{State}
 use Rattle.cycles.specs.definitions.Spots.{Spot}
 use Rattle.cycles.specs.definitions.Header.{Column, header}
-use Rattle.cycles.specs.definitions.Line.{Answer, refused, accepted, or-refused}
-use Rattle.cycles.specs.definitions.Readings.{lines, turns}
-use Rattle.cycles.specs.definitions.StateImage.{STATE, entity-count, decode, state-of}
-use Rattle.cycles.specs.contracts.StateMemory.{State-test}
+use Rattle.cycles.specs.definitions.Readings.{lines}
+use Rattle.senders.specs.definitions.Sender.{State}
+use Rattle.senders.specs.definitions.Answer.{Answer, refused, accepted, or-refused}
+use Rattle.senders.specs.definitions.Turns.{turns}
+use Rattle.senders.specs.definitions.Fingerprint.{fingerprint}
+use Rattle.senders.specs.definitions.StateImage.{STATE, decode, is-state, state-of}
+use Rattle.senders.specs.contracts.SenderMemory.{State-test}
+use Rattle.senders.specs.contracts.Advancing.{Resolved-bench}
+use Rattle.senders.proofs.laws.StateLaws.{state-decoded, no-state}
+use Rattle.senders.proofs.laws.StandsLaws.{fingerprint-below}
 use Rattle.cycles.specs.contracts.HeaderReads.{MOST-COLUMNS, Header-is, Header-read}
 use Rattle.cycles.proofs.laws.CellTokenLaws.{few-within}
 use Rattle.cycles.specs.contracts.RowMemory.{In-front}
@@ -27,10 +32,8 @@ use Rattle.sheets.specs.definitions.Sizes.{MOST-LINE-BYTES, MOST-CLOSING-BYTES}
 use Rattle.days.specs.declared.sheet.Sheeted.the-variants.{Refused, Length}
 use Rattle.days.specs.definitions.Chosen.{chosen}
 use Rattle.days.specs.definitions.DaySheet.{day-sheet, sheet-in, sheet-if-state, sheet-size}
-use Rattle.days.specs.contracts.Advancing.{Resolved-bench}
 use Rattle.days.specs.contracts.Choosing.{Chosen-are, Chosen-read}
 use Rattle.days.specs.contracts.SheetMemory.{Line-end, Day-put, Sheet-is, Sheet-put}
-use Rattle.cycles.proofs.laws.ImageLaws.{state-decoded, no-state}
 use Rattle.days.proofs.laws.ImageFront.{state-front}
 use Rattle.days.proofs.laws.DayLaws.{header-taken, records-left, records-most}
 use Rattle.days.proofs.laws.SizeLaws.{chosen-few, day-sheet-most}
@@ -59,27 +62,32 @@ room-for-day readings {end} e h =
     let n = ap length (records-left readings end e) in
     omega arith
 
-module _ (text classes offsets lengths literals d refs scopes state readings cells m : List ℕ) {is : Bool} (tests : State-test classes d state is) where
+module _ (text classes offsets lengths literals d refs scopes state readings cells m : List ℕ) {print : ℕ} (prints : print ≡ fingerprint text) {is : Bool}
+    (tests : State-test print classes d state is) where
   abbrev Bench-there : Type 0
   Bench-there = Resolved-bench text classes offsets lengths literals d refs scopes
 
   abbrev file : Bench-there → File
   file b = b .checked .bench .file
 
+  tested : (b : Bench-there) → is ≡ is-state (fingerprint text) (file b) state
+  tested b =
+      tests .is text offsets lengths (b .checked .bench) (b .checked .few) ∙ ap (λ (p : ℕ). is-state p (file b) state) prints
+
   pub sheet-no-state : is ≡ false → Sheet-put text classes offsets lengths literals d refs scopes state readings cells m m (Refused 33)
   unfolding sheet-if-state
   sheet-no-state q = record {
-    is = λ b. rw (no-state (file b) state (sym (tests .is text offsets lengths (b .checked .bench) (b .checked .few)) ∙ q)) (refl, refl);
+    is = λ b. rw (no-state (fingerprint text) (file b) state (sym (tested b) ∙ q)) (refl, refl);
   }
 
   module _ (q : is ≡ true) {spots : List ℕ} {count : ℕ} (chooses : Chosen-read text offsets lengths d cells spots count) where
     -- the state that memory stands for
-    there : (b : Bench-there) → state-of (file b) state ≡ some (decode (entity-count (file b)) state)
-    there b = state-decoded (file b) state (sym (tests .is text offsets lengths (b .checked .bench) (b .checked .few)) ∙ q)
+    there : (b : Bench-there) → state-of (fingerprint text) (file b) state ≡ some (decode (file b) state)
+    there b = state-decoded (fingerprint text) (file b) state (sym (tested b) ∙ q)
 
     -- the sheet's answer
     abbrev answer : Bench-there → Answer (List ℕ)
-    answer b = sheet-if-state (file b) (state-of (file b) state) readings cells
+    answer b = sheet-if-state (file b) (state-of (fingerprint text) (file b) state) readings cells
 
     none-chosen : MOST-CHOSEN < count → (b : Bench-there) → chosen (file b) cells ≡ none
     none-chosen more b = go (chosen (file b) cells) refl (chooses .is classes (b .checked .bench) (b .checked .few))
@@ -128,7 +136,8 @@ module _ (text classes offsets lengths literals d refs scopes state readings cel
             subst (λ (a : Answer (List ℕ)). Sheet-is a m m (Refused 22)) (sym a) (refl, refl);
       }
 
-      module _ (few-columns : width ≤ MOST-COLUMNS) (state-size : STATE ≤ length state) (room : sheet-size readings ≤ length m) where
+      module _ (few-columns : width ≤ MOST-COLUMNS) (state-size : STATE ≤ length state) (low : (i : ℕ) → getD state i 0 < 256)
+          (room : sheet-size readings ≤ length m) where
         abbrev Header-there : File → Type 0
         Header-there f = (cs : List Column) × (header f (take end readings) ≡ some cs) × Header-is (some cs) width columns
 
@@ -143,7 +152,7 @@ module _ (text classes offsets lengths literals d refs scopes state readings cel
         made-answer : (b : Bench-there) → {ps : List Spot} → chosen (file b) cells ≡ some ps
             → {cs : List Column} → header (file b) (take end readings) ≡ some cs
             → answer b
-            ≡ accepted (day-sheet ps (turns (file b) (take end readings) (decode (entity-count (file b)) state) (lines (drop (end + 1) readings))))
+            ≡ accepted (day-sheet ps (turns (file b) (take end readings) (decode (file b) state) (lines (drop (end + 1) readings))))
         unfolding sheet-if-state sheet-in or-refused
         made-answer b e h = rw (there b, e, header-taken readings end ends, records-left readings end ends, h)
 
@@ -163,9 +172,11 @@ module _ (text classes offsets lengths literals d refs scopes state readings cel
           where
             made : (b : Bench-there) → Chosen-there (file b) → Header-there (file b) → Sheet-is (answer b) m new-m (Length r)
             made b (ps, e, c) (cs, h, k) =
-                let s = decode (entity-count (file b)) state in
-                let copied : state-of (file b) copy ≡ some s =
-                ap (state-of (file b)) same ∙ state-front (file b) (few-within (file b) (b .checked .few)) state ∙ there b in
+                let s = decode (file b) state in
+                let within = few-within (file b) (b .checked .few) in
+                let copied : state-of (fingerprint text) (file b) copy ≡ some s =
+                ap (state-of (fingerprint text) (file b)) same
+                ∙ state-front (file b) within (fingerprint text) (fingerprint-below text) state state-size low s (there b) in
                 let put = day .is (record {
                   text = text;
                   offsets = offsets;

@@ -5,9 +5,10 @@ use mathlib.Core.List.{List, map, List·Memᴰ}
 use mathlib.Core.Option.{some}
 use lib.ListN.{length}
 use Rattle.text.specs.definitions.Syntax.{File}
-use Rattle.cycles.specs.definitions.Store.{State}
 use Rattle.cycles.specs.definitions.Spots.{Spot}
-use Rattle.cycles.specs.definitions.Readings.{lines, header-line, record-lines, turns}
+use Rattle.cycles.specs.definitions.Readings.{lines, header-line, record-lines}
+use Rattle.senders.specs.definitions.Sender.{State}
+use Rattle.senders.specs.definitions.Turns.{turns}
 use Rattle.sheets.specs.definitions.Layout.{SHEET-COLUMNS}
 use Rattle.sheets.specs.definitions.Sheet.{sheet-rows}
 use Rattle.days.specs.definitions.Chosen.{chosen, is-real-spot}

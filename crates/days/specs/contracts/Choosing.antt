@@ -12,12 +12,14 @@ use Rattle.checking.specs.contracts.Directory.{Bench}
 use Rattle.checking.specs.contracts.DirectoryReads.{Few}
 use Rattle.checking.specs.definitions.CountFaults.{MOST-ENTITIES}
 use Rattle.checking.specs.definitions.Scope.{member-of}
-use Rattle.cycles.specs.definitions.Store.{Store, State}
+use Rattle.cycles.specs.definitions.Store.{Store}
 use Rattle.cycles.specs.definitions.Spots.{Spot}
 use Rattle.cycles.specs.definitions.Reference.{read-spot}
-use Rattle.cycles.specs.definitions.StateImage.{ENTITY-CELLS, state-of}
+use Rattle.cycles.specs.definitions.Planes.{ENTITY-CELLS}
 use Rattle.cycles.specs.contracts.Evaluation.{Stored}
 use Rattle.cycles.specs.contracts.HeaderReads.{backwards}
+use Rattle.senders.specs.definitions.Sender.{State}
+use Rattle.senders.specs.definitions.StateImage.{state-of}
 use Rattle.sheets.specs.definitions.Layout.{MOST-CHOSEN}
 use Rattle.days.specs.definitions.Chosen.{chosen, is-real-spot}
 
@@ -66,6 +68,6 @@ pub record Reals-read (classes d spots : List ℕ) (count : ℕ) (r : List Bool)
 -- what the chosen cells read in a state
 pub record Cells-read (d state spots : List ℕ) (count : ℕ) (r : List Value) : Type 0 where
   pub is : (text classes offsets lengths : List ℕ) (w : Bench text classes offsets lengths d) → Few (w .file)
-      → (s : State) → state-of (w .file) state ≡ some s
+      → (print : ℕ) (s : State) → state-of print (w .file) state ≡ some s
       → (cells : List ℕ) (ps : List Spot) → chosen (w .file) cells ≡ some ps → map spot-number ps ≡ backwards count spots
-      → take count r ≡ map (read-spot (s .now)) ps
+      → take count r ≡ map (read-spot (s .stores .now)) ps

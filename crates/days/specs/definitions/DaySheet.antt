@@ -1,34 +1,35 @@
 -- The day sheet of a text of readings, "run on from the lent state".
 use Prim.Native.Nat.{ℕ, suc, _+_, _*_}
 use mathlib.Core.List.{List, [], _∷_, map, flatMap}
-use mathlib.Core.Bool.{true, false, cond}
+use mathlib.Core.Bool.{cond}
 use mathlib.Core.Option.{Option, none, some}
 use lib.Dec.{eqb}
 use Rattle.text.specs.definitions.Syntax.{File}
-use Rattle.cycles.specs.definitions.Store.{State, Line}
 use Rattle.cycles.specs.definitions.Spots.{Spot}
 use Rattle.cycles.specs.definitions.Reference.{read-spot}
 use Rattle.cycles.specs.definitions.Header.{header}
-use Rattle.cycles.specs.definitions.Line.{Answer, refused, accepted, or-refused}
-use Rattle.cycles.specs.definitions.Readings.{lines, header-line, record-lines, Turn, turns}
+use Rattle.cycles.specs.definitions.Readings.{lines, header-line, record-lines}
+use Rattle.senders.specs.definitions.Sender.{State}
+use Rattle.senders.specs.definitions.Answer.{Answer, refused, accepted, or-refused}
+use Rattle.senders.specs.definitions.Line.{Accepted, new, resent}
+use Rattle.senders.specs.definitions.Turns.{Turn, turns}
 use Rattle.sheets.specs.definitions.Layout.{MOST-CHOSEN}
 use Rattle.sheets.specs.definitions.Sizes.{MOST-LINE-BYTES, MOST-CLOSING-BYTES}
 use Rattle.sheets.specs.definitions.Rows.{Printed-line}
 use Rattle.sheets.specs.definitions.Sheet.{sheet}
 use Rattle.days.specs.definitions.Chosen.{chosen, is-real-spot}
 
--- "from the taken lines of a day"; the chosen cells "as they read after the line"; "A resent line isn't printed"
-unfoldable pub printed-for : List Spot → State → Answer Line → State → List Printed-line
+-- "from the taken lines of a day", "the line number" alone (document 02, order 5: "the day sheet shows the number alone"); the chosen cells "as they read
+-- after the line"; "A resent line isn't printed"
+unfoldable pub printed-for : List Spot → Answer Accepted → State → List Printed-line
 unfolding read-spot
-printed-for ps before (refused code) after = []
-printed-for ps before (accepted l) after = elim (eqb (l .number) (before .last)) [
-  | true ↦ []
-  | false ↦ record { number = l .number; values = map (read-spot (after .now)) ps } ∷ []
-]
+printed-for ps (refused code) after = []
+printed-for ps (accepted (resent l)) after = []
+printed-for ps (accepted (new l)) after = record { number = l .number; values = map (read-spot (after .stores .now)) ps } ∷ []
 
 unfoldable pub printed-lines : List Spot → List Turn → List Printed-line
 unfolding flatMap printed-for
-printed-lines ps ts = flatMap (λ t. printed-for ps (t .before) (t .answer) (t .after)) ts
+printed-lines ps ts = flatMap (λ t. printed-for ps (t .answer) (t .after)) ts
 
 unfoldable pub day-sheet : List Spot → List Turn → List ℕ
 unfolding sheet is-real-spot printed-lines

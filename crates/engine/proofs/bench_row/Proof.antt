@@ -10,20 +10,20 @@ use Rattle.engine.proofs.serve.serve.Reads as serve-reads
 returns : tie.Need-returns
 returns c =
     let if1₀ = c .if1 in
-    row-no-bench _ _ _ (if1₀ .taken)
+    row-no-bench _ _ _ _ (if1₀ .taken)
 
 returns-2 : tie.Need-returns-2
 returns-2 c =
     let if1₀ = c .before .if1 in
     let if2₀ = c .if2 in
-    row-no-state _ _ _ (if1₀ .left) (if2₀ .taken)
+    row-no-state _ _ _ _ (if1₀ .left) (if2₀ .taken)
 
 returns-3 : tie.Need-returns-3
 returns-3 c =
     let if1₀ = c .before .before .if1 in
     let if2₀ = c .before .if2 in
     let if3₀ = c .if3 in
-    row-short _ _ _ (if1₀ .left) (if2₀ .left) (if3₀ .taken)
+    row-short _ _ _ _ (if1₀ .left) (if2₀ .left) (if3₀ .taken)
 
 text-of-requires : tie.Need-text-of-requires
 text-of-requires c κs = search needs
@@ -34,9 +34,6 @@ slice-aggregate-serve c = search needs
 slice-aggregate-serve-2 : tie.Need-slice-aggregate-serve-2
 slice-aggregate-serve-2 c = search needs
 
-slice-aggregate-serve-3 : tie.Need-slice-aggregate-serve-3
-slice-aggregate-serve-3 c = search needs
-
 serve-requires : tie.Need-serve-requires
 serve-requires c κs = search needs
 
@@ -45,12 +42,12 @@ same-length c = search needs
 
 returns-4 : tie.Need-returns-4
 returns-4 c =
-    let if1₀ = c .before .before .before .before .before .before .before .before .before .before .before .if1 in
-    let if2₀ = c .before .before .before .before .before .before .before .before .before .before .if2 in
-    let if3₀ = c .before .before .before .before .before .before .before .before .before .if3 in
-    let text-of₀ = c .before .before .before .before .before .before .before .before .text-of in
+    let if1₀ = c .before .before .before .before .before .before .before .before .before .before .if1 in
+    let if2₀ = c .before .before .before .before .before .before .before .before .before .if2 in
+    let if3₀ = c .before .before .before .before .before .before .before .before .if3 in
+    let text-of₀ = c .before .before .before .before .before .before .before .text-of in
     let serve₀ = c .before .before .before .serve in
-    row-served _ _ _ (if1₀ .left) (if2₀ .left) (if3₀ .left) _ _ _ _ (text-of₀ .ensures) (serve₀ .ensures)
+    row-served _ _ _ _ (if1₀ .left) (if2₀ .left) (if3₀ .left) _ _ _ (text-of₀ .ensures) (serve₀ .ensures)
 
 pub bench-row-spec : {M : Type 1} → statement M
 bench-row-spec =
@@ -62,7 +59,6 @@ bench-row-spec =
     text-of-requires
     slice-aggregate-serve
     slice-aggregate-serve-2
-    slice-aggregate-serve-3
     serve-requires
     same-length
     returns-4)

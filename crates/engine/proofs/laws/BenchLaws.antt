@@ -16,7 +16,10 @@ use Rattle.checking.proofs.laws.VerdictLaws.{file-is-accepted}
 use Rattle.values.specs.contracts.Puts.{Put}
 use Rattle.values.proofs.laws.PutLaws.{put-said, put-next}
 use Rattle.cycles.proofs.laws.PutLaws.{put-in-front}
+use Rattle.senders.specs.definitions.Fingerprint.{fingerprint}
+use Rattle.senders.proofs.laws.StandsLaws.{fingerprint-below}
 use Rattle.engine.specs.definitions.BenchImage.{BENCH, with-bench, bench-of, text-in}
+use Rattle.engine.specs.definitions.Calls.{print-of}
 
 -- the length and the text, put one after the other
 pub bench-put : (text m : List ℕ) → (length text ≤ MOST-BYTES) × (BENCH ≤ length m) → {n k : List ℕ} {r : ℕ}
@@ -53,6 +56,13 @@ bench-written text m h =
     rw (length-word (length text) rest h, le-leb (length text) MOST-BYTES h, bench-of)
     (rw (length-word (length text) rest h) (ap accepted-file (take-append-seam text (drop (4 + length text) m))))
 
+pub text-written : (text m : List ℕ) → length text ≤ MOST-BYTES → text-in (with-bench text m) ≡ text
+unfolding text-in with-bench
+text-written text m h =
+    let rest = text ++ drop (4 + length text) m in
+    rw (length-word (length text) rest h, le-leb (length text) MOST-BYTES h, text-in)
+    (rw (length-word (length text) rest h) (take-append-seam text (drop (4 + length text) m)))
+
 pub bench-length : (text m : List ℕ) → BENCH ≤ length m → length text ≤ MOST-BYTES → length (with-bench text m) ≡ length m
 unfolding with-bench
 bench-length text m h g = simp (length-append, length-drop) (omega arith)
@@ -74,3 +84,13 @@ bench-accepted m {f} h = go (leb (word-at 4 m 0) MOST-BYTES) refl
         let g : none ≡ some f = rw (e, bench-of) at h in
         let z : _≡_ {A = ℕ} 0 1 = cc in
         absurd (omega arith)
+
+-- ---- the fingerprint of the text
+
+pub print-of-below : (bench : List ℕ) → print-of bench < 4294967296
+unfolding print-of
+print-of-below bench = fingerprint-below (text-in bench)
+
+pub print-written : (text m : List ℕ) → length text ≤ MOST-BYTES → print-of (with-bench text m) ≡ fingerprint text
+unfolding print-of
+print-written text m h = ap fingerprint (text-written text m h)

@@ -1,5 +1,5 @@
 -- The check accepts exactly the texts that are admitted.
-use Prim.Native.Nat.{ℕ, _+_, _*_, _%_, _≤_, _<_}
+use Prim.Native.Nat.{ℕ, _≤_, _<_}
 use native.Mathlib.Omega.{arith}
 use mathlib.Core.Path.{_≡_, refl, sym, ap, _∙_, subst}
 use mathlib.Core.Logic.{_↔_}
@@ -7,7 +7,6 @@ use mathlib.Core.List.{List}
 use lib.Dec.{lit<}
 use lib.ListN.{length}
 use borrow.Author.Tests.{le-ltb}
-use Rattle.text.specs.definitions.Syntax.{File}
 use Rattle.checking.specs.definitions.Verdict.{Verdict, verdict, verdict-answer}
 use Rattle.checking.specs.definitions.Admitted.{Admitted}
 use Rattle.checking.proofs.laws.FaultCodes.{Refused-by-code, verdict-code}

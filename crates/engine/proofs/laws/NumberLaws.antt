@@ -1,27 +1,28 @@
 -- The numbers that the calls answer, and that a refusal leaves what was lent.
-use Prim.Native.Nat.{ℕ, _+_, _*_, _%_, _<_}
+use Prim.Native.Nat.{ℕ, _+_, _*_, _<_}
 use native.Mathlib.Omega.{arith}
 use mathlib.Core.Path.{_≡_, refl, sym, subst}
 use mathlib.Core.Bool.{Bool, true, false, _||_}
 use mathlib.Core.List.{List, [], _∷_}
 use mathlib.Core.Option.{Option, none, some}
-use lib.Dec.{ltb, eqb, lit<}
+use lib.Dec.{ltb, lit<}
 use lib.ListN.{length}
 use Rattle.text.specs.definitions.Syntax.{File}
 use Rattle.checking.specs.definitions.Verdict.{Verdict, verdict, verdict-answer}
 use Rattle.checking.proofs.laws.FaultCodes.{Refused-by-code, verdict-code}
-use Rattle.cycles.specs.definitions.Store.{State, Line}
-use Rattle.cycles.specs.definitions.Line.{Answer, refused, accepted, line}
-use Rattle.cycles.specs.contracts.TotalMachine.{cycle}
-use Rattle.cycles.specs.definitions.Row as Rows
 use Rattle.cycles.specs.definitions.Row.{row-header}
-use Rattle.cycles.specs.definitions.StateImage.{STATE, state-of}
 use Rattle.cycles.specs.definitions.ClosedSet.{Among, here, there}
-use Rattle.cycles.proofs.laws.AnswerLaws.{Refused-by-number, line-refused-by}
+use Rattle.senders.specs.definitions.Sender.{State, is-sender}
+use Rattle.senders.specs.definitions.Answer.{Answer, refused, accepted}
+use Rattle.senders.specs.definitions.Line.{Accepted, line}
+use Rattle.senders.specs.definitions.Row.{sender-row}
+use Rattle.senders.specs.definitions.StateImage.{STATE, state-of}
+use Rattle.senders.proofs.laws.AnswerLaws.{Refused-by-number, line-refused-by}
 use Rattle.engine.specs.definitions.BenchImage.{BENCH, bench-of}
 use Rattle.engine.specs.definitions.Calls.{
   ROW,
   row-answer,
+  print-of,
   After-check,
   checked,
   check-call,
@@ -30,6 +31,7 @@ use Rattle.engine.specs.definitions.Calls.{
   fresh-call,
   After-line,
   line-refused,
+  line-row,
   line-accepted,
   line-answered,
   line-in-state,
@@ -39,6 +41,7 @@ use Rattle.engine.specs.definitions.Calls.{
   row-written,
   header-on-bench,
   header-call,
+  row-if-named,
   row-in-state,
   row-on-bench,
   row-call,
@@ -49,7 +52,6 @@ use Rattle.engine.specs.definitions.Calls.{
   Row-contract,
 }
 use Rattle.engine.specs.definitions.DemandOne.{number-of, CHECK-NUMBERS, FRESH-NUMBERS, LINE-NUMBERS, HEADER-NUMBERS, ROW-NUMBERS, Listed-answer}
-use Rattle.engine.proofs.laws.CallLaws.{after-accepted, accepted-resent, accepted-new}
 
 -- ---- refusal and acceptance
 
@@ -114,12 +116,13 @@ fresh-call-numbered : (bench state : List ℕ) → Listed-answer FRESH-NUMBERS (
 unfolding fresh-call freshened
 fresh-call-numbered bench state = by-size (ltb (length bench) BENCH || ltb (length state) STATE)
   where
-    by-bench : (o : Option File) → Listed-answer FRESH-NUMBERS (freshened o state .answer) (state ∷ []) (freshened o state .state ∷ [])
+    by-bench : (o : Option File)
+        → Listed-answer FRESH-NUMBERS (freshened (print-of bench) o state .answer) (state ∷ []) (freshened (print-of bench) o state .state ∷ [])
     by-bench none = refusal 32 (there (there here))
     by-bench (some f) = acceptance 0 refl here
 
     call : Bool → After-fresh
-    call b = elim b [ true ↦ record { answer = 31; state = state } | false ↦ freshened (bench-of bench) state ]
+    call b = elim b [ true ↦ record { answer = 31; state = state } | false ↦ freshened (print-of bench) (bench-of bench) state ]
 
     by-size : (b : Bool) → Listed-answer FRESH-NUMBERS (call b .answer) (state ∷ []) (call b .state ∷ [])
     by-size true = refusal 31 (there here)
@@ -138,35 +141,36 @@ LINE = Listed LINE-NUMBERS
 line-listed : (f : File) (s : State) (names values : List ℕ) → Refused-by-number LINE (line f s names values)
 line-listed =
     line-refused-by LINE (lit< tt, there (there (there (there (there here))))) (lit< tt, there (there (there (there here))))
-    (lit< tt, there (there (there (there (there (there here))))))
-    (lit< tt, there (there (there (there (there (there (there here)))))))
     (lit< tt, there (there (there (there (there (there (there (there here))))))))
+    (lit< tt, there (there (there (there (there (there (there (there (there here)))))))))
+    (lit< tt, there (there (there (there (there (there (there (there (there (there here))))))))))
+    (lit< tt, there (there (there (there (there (there (there here)))))))
+    (lit< tt, there (there (there (there (there (there here))))))
 
 abbrev Line-numbered : List ℕ → List ℕ → After-line → Type 0
 Line-numbered state row x = Listed-answer LINE-NUMBERS (x .answer) (state ∷ row ∷ []) (x .state ∷ x .row ∷ [])
 
 line-call-numbered : (bench state names values row : List ℕ) → Line-numbered state row (line-call bench state names values row)
-unfolding line-call line-on-bench line-in-state line-answered line-refused after-accepted
+unfolding line-call line-on-bench line-in-state line-answered line-refused line-accepted
 line-call-numbered bench state names values row = by-size (ltb (length bench) BENCH || ltb (length state) STATE || ltb (length row) ROW)
   where
-    by-number : (f : File) (s : State) (l : Line) (b : Bool) → eqb (l .number) (s .last) ≡ b → Line-numbered state row (line-accepted f s l state row)
-    by-number f s l true e = rw (accepted-resent f s l state row e) (acceptance (row-answer (Rows.row f s)) (row-accepted (Rows.row f s)) here)
-    by-number f s l false e = rw (accepted-new f s l state row e) (acceptance (row-answer (Rows.row f (cycle f s l))) (row-accepted (Rows.row f (cycle f s l))) here)
+    print : ℕ
+    print = print-of bench
 
-    by-line : (f : File) (s : State) (a : Answer Line) → Refused-by-number LINE a → Line-numbered state row (line-answered f s a state row)
+    by-line : (f : File) (s : State) (a : Answer Accepted) → Refused-by-number LINE a → Line-numbered state row (line-answered print f s a state row)
     by-line f s (refused code) h = let e : number-of code ≡ code = let l = h .0 in omega arith in refusal code (rw e (h .1))
-    by-line f s (accepted l) h = by-number f s l (eqb (l .number) (s .last)) refl
+    by-line f s (accepted a) h = acceptance (row-answer (line-row f s a)) (row-accepted (line-row f s a)) here
 
-    by-state : (f : File) (o : Option State) → Line-numbered state row (line-in-state f o state names values row)
+    by-state : (f : File) (o : Option State) → Line-numbered state row (line-in-state print f o state names values row)
     by-state f none = refusal 33 (there (there (there here)))
     by-state f (some s) = by-line f s (line f s names values) (line-listed f s names values)
 
-    by-bench : (o : Option File) → Line-numbered state row (line-on-bench o state names values row)
+    by-bench : (o : Option File) → Line-numbered state row (line-on-bench print o state names values row)
     by-bench none = refusal 32 (there (there here))
-    by-bench (some f) = by-state f (state-of f state)
+    by-bench (some f) = by-state f (state-of print f state)
 
     call : Bool → After-line
-    call b = elim b [ true ↦ line-refused 31 state row | false ↦ line-on-bench (bench-of bench) state names values row ]
+    call b = elim b [ true ↦ line-refused 31 state row | false ↦ line-on-bench print (bench-of bench) state names values row ]
 
     by-size : (b : Bool) → Line-numbered state row (call b)
     by-size true = refusal 31 (there here)
@@ -199,24 +203,32 @@ header-call-numbered bench row = by-size (ltb (length bench) BENCH || ltb (lengt
 pub header-numbered : (bench row new-row : List ℕ) (r : ℕ) → Header-contract bench row new-row r → Listed-answer HEADER-NUMBERS r (row ∷ []) (new-row ∷ [])
 header-numbered bench row new-row r c = subst (Row-numbered HEADER-NUMBERS row) (sym c) (header-call-numbered bench row)
 
-row-call-numbered : (bench state row : List ℕ) → Row-numbered ROW-NUMBERS row (row-call bench state row)
-unfolding row-call row-on-bench row-in-state row-written
-row-call-numbered bench state row = by-size (ltb (length bench) BENCH || ltb (length state) STATE || ltb (length row) ROW)
+row-call-numbered : (bench state sender row : List ℕ) → Row-numbered ROW-NUMBERS row (row-call bench state sender row)
+unfolding row-call row-on-bench row-in-state row-if-named row-written
+row-call-numbered bench state sender row = by-size (ltb (length bench) BENCH || ltb (length state) STATE || ltb (length row) ROW)
   where
-    by-state : (f : File) (o : Option State) → Row-numbered ROW-NUMBERS row (row-in-state f o row)
-    by-state f none = refusal 33 (there (there (there here)))
-    by-state f (some s) = acceptance (row-answer (Rows.row f s)) (row-accepted (Rows.row f s)) here
+    print : ℕ
+    print = print-of bench
 
-    by-bench : (o : Option File) → Row-numbered ROW-NUMBERS row (row-on-bench o state row)
+    by-name : (f : File) (s : State) (b : Bool) → Row-numbered ROW-NUMBERS row (row-if-named b f s sender row)
+    by-name f s false = refusal 43 (there (there (there (there here))))
+    by-name f s true = acceptance (row-answer (sender-row f s sender)) (row-accepted (sender-row f s sender)) here
+
+    by-state : (f : File) (o : Option State) → Row-numbered ROW-NUMBERS row (row-in-state f o sender row)
+    by-state f none = refusal 33 (there (there (there here)))
+    by-state f (some s) = by-name f s (is-sender sender)
+
+    by-bench : (o : Option File) → Row-numbered ROW-NUMBERS row (row-on-bench print o state sender row)
     by-bench none = refusal 32 (there (there here))
-    by-bench (some f) = by-state f (state-of f state)
+    by-bench (some f) = by-state f (state-of print f state)
 
     call : Bool → After-row
-    call b = elim b [ true ↦ record { answer = 31; row = row } | false ↦ row-on-bench (bench-of bench) state row ]
+    call b = elim b [ true ↦ record { answer = 31; row = row } | false ↦ row-on-bench print (bench-of bench) state sender row ]
 
     by-size : (b : Bool) → Row-numbered ROW-NUMBERS row (call b)
     by-size true = refusal 31 (there here)
     by-size false = by-bench (bench-of bench)
 
-pub row-numbered : (bench state row new-row : List ℕ) (r : ℕ) → Row-contract bench state row new-row r → Listed-answer ROW-NUMBERS r (row ∷ []) (new-row ∷ [])
-row-numbered bench state row new-row r c = subst (Row-numbered ROW-NUMBERS row) (sym c) (row-call-numbered bench state row)
+pub row-numbered : (bench state sender row new-row : List ℕ) (r : ℕ) → Row-contract bench state sender row new-row r
+    → Listed-answer ROW-NUMBERS r (row ∷ []) (new-row ∷ [])
+row-numbered bench state sender row new-row r c = subst (Row-numbered ROW-NUMBERS row) (sym c) (row-call-numbered bench state sender row)

@@ -3,7 +3,7 @@ use Prim.Native.Nat.{ℕ, _≤_}
 use mathlib.Core.Path.{_≡_, refl, ap, ap₂, _∙_}
 use mathlib.Core.List.{List, [], _∷_}
 use lib.ListN.{length}
-use Rattle.cycles.specs.definitions.StateImage.{STATE}
+use Rattle.senders.specs.definitions.StateImage.{STATE}
 use Rattle.engine.specs.definitions.BenchImage.{BENCH}
 use Rattle.engine.specs.definitions.Calls.{After-check, check-call, After-fresh, fresh-call, After-line, line-call}
 use Rattle.engine.specs.definitions.Runs.{Request, Run-start, Run, ends, goes-on, replies}

@@ -16,17 +16,20 @@ use Rattle.checking.specs.definitions.Verdict.{Verdict, verdict, verdict-answer
 use Rattle.checking.proofs.laws.VerdictLaws.{accepted-length as text-length, accepted-is-file}
 use Rattle.checking.specs.contracts.CheckedBench.{checked-answer, Checked-bench, Accepts, Says, has-room, Checks}
 use Rattle.checking.specs.contracts.Resolution.{Resolves}
-use Rattle.cycles.specs.contracts.StateMemory.{State-test}
-use Rattle.cycles.specs.contracts.FreshMemory.{Fresh-put}
 use Rattle.cycles.specs.contracts.RowMemory.{Header-put}
 use Rattle.cycles.proofs.laws.RowPuts.{short-names}
-use Rattle.cycles.specs.definitions.Line.{Answer, refused, accepted}
-use Rattle.cycles.specs.definitions.StateImage.{state-of}
+use Rattle.senders.specs.definitions.Sender.{MOST-NAME-BYTES, is-sender}
+use Rattle.senders.specs.definitions.Answer.{Answer, refused, accepted}
+use Rattle.senders.specs.definitions.Fingerprint.{fingerprint}
+use Rattle.senders.specs.definitions.StateImage.{state-of}
+use Rattle.senders.specs.contracts.SenderMemory.{State-test}
+use Rattle.senders.specs.contracts.RowMemory.{Shown, Fresh-state-put}
+use Rattle.senders.proofs.laws.SenderLaws.{name-short}
+use Rattle.senders.proofs.laws.StateLaws.{state-decoded, no-state}
 use Rattle.days.specs.declared.sheet.Sheeted.{Sheeted}
 use Rattle.days.specs.declared.sheet.Sheeted.the-variants.{Refused as Not-made, Length}
 use Rattle.days.specs.definitions.DaySheet.{sheet-if-state}
 use Rattle.days.specs.contracts.SheetMemory.{Sheet-is, Sheet-put}
-use Rattle.cycles.proofs.laws.ImageLaws.{state-decoded, no-state}
 use Rattle.engine.specs.declared.line.Taken.{Taken}
 use Rattle.engine.specs.declared.line.Taken.the-variants.{Refused, Row as Shows}
 use Rattle.engine.specs.declared.serve.Call.{Call}
@@ -44,10 +47,12 @@ use Rattle.engine.specs.definitions.Calls.{
   header-on-bench,
   row-on-bench,
   row-in-state,
+  row-if-named,
   sheet-answered,
   sheet-on-bench,
 }
-use Rattle.engine.specs.contracts.LineMemory.{taken-answer, Short-row, Shown, Line-taken}
+use Rattle.engine.specs.contracts.LineMemory.{taken-answer, Short-row, Line-taken}
+use Rattle.engine.proofs.laws.LineLaws.{state-told}
 use Rattle.engine.specs.contracts.Serving.{served-line, served-sheet, served, sheeted-answer, Room, refusal, On-bench}
 
 -- ---- the answer of a line
@@ -69,6 +74,11 @@ pub serves-as : {call other : Call} {text classes offsets lengths literals d sta
     → On-bench other text classes offsets lengths literals d state shown names values out new-state new-out r
     → On-bench call text classes offsets lengths literals d state shown names values out new-state new-out r
 serves-as e s = rw e s
+
+-- ---- a sender
+
+pub sender-short : (name : List ℕ) {is : Bool} → is ≡ is-sender name → is ≡ true → length name ≤ MOST-NAME-BYTES
+sender-short name e h = name-short name (rw (sym e ∙ h) tt)
 
 -- ---- the check's answer
 
@@ -107,10 +117,10 @@ module _ {text classes offsets lengths literals d state shown names values out :
   unfolding served checked verdict-answer
   check-served e = record { is = λ c. rw (c .accepts, e) }
 
-  pub fresh-served : {new : List ℕ} → Fresh-put text classes offsets lengths literals d state new
+  pub fresh-served : {new : List ℕ} {print : ℕ} → print ≡ fingerprint text → Fresh-state-put text classes offsets lengths literals d print state new
       → On-bench Fresh text classes offsets lengths literals d state shown names values out new out 0
   unfolding served freshened
-  fresh-served p = record { is = λ c. rw (accepted-is c, p .is (c .bench) (c .few) (c .valued)) }
+  fresh-served e p = record { is = λ c. rw (accepted-is c, ← e, p .is (c .bench) (c .few) (c .valued)) }
 
   pub line-served : {refs scopes new-refs new-scopes : List ℕ} → Resolves text classes offsets lengths d refs scopes new-refs new-scopes
       → {new-state new-out : List ℕ} {t : Taken} {r : ℕ}
@@ -133,21 +143,23 @@ module _ {text classes offsets lengths literals d state shown names values out :
         rw (accepted-is c, e (p .short (c .bench) (c .few) s), i .is, i .count);
   }
 
-  module _ {is : Bool} (tests : State-test classes d shown is) where
+  module _ {print : ℕ} (p : print ≡ fingerprint text) {is : Bool} (tests : State-test print classes d shown is) where
     pub row-no-state : is ≡ false → On-bench Row text classes offsets lengths literals d state shown names values out state out 33
     unfolding served row-on-bench row-in-state
-    row-no-state q = record {
-      is = λ c. rw (accepted-is c, no-state (c .bench .file) shown (sym (tests .is text offsets lengths (c .bench) (c .few)) ∙ q));
-    }
+    row-no-state q = record { is = λ c. rw (accepted-is c, no-state (fingerprint text) (c .bench .file) shown (state-told p tests q c)) }
 
-    pub row-served : is ≡ true → {new : List ℕ} {n r : ℕ} → Shown classes d shown out new n → r ≡ 256 * n
+    pub row-no-sender : is ≡ true → is-sender names ≡ false → On-bench Row text classes offsets lengths literals d state shown names values out state out 43
+    unfolding served row-on-bench row-in-state row-if-named
+    row-no-sender q n = record { is = λ c. rw (accepted-is c, state-decoded (fingerprint text) (c .bench .file) shown (state-told p tests q c), n) }
+
+    pub row-served : is ≡ true → is-sender names ≡ true → {new : List ℕ} {n r : ℕ} → Shown classes d shown names out new n → r ≡ 256 * n
         → On-bench Row text classes offsets lengths literals d state shown names values out state new r
-    unfolding served row-on-bench row-in-state row-written with-row
-    row-served q shows e = record {
+    unfolding served row-on-bench row-in-state row-if-named row-written with-row
+    row-served q n shows e = record {
       is = λ c.
-          let o = state-decoded (c .bench .file) shown (sym (tests .is text offsets lengths (c .bench) (c .few)) ∙ q) in
-          let i = shows .is text offsets lengths (c .bench) (c .few) _ o in
-          rw (accepted-is c, o, e, i .is, i .count);
+          let o = state-decoded (fingerprint text) (c .bench .file) shown (state-told p tests q c) in
+          let i = shows .is text offsets lengths (c .bench) (c .few) (fingerprint text) _ o in
+          rw (accepted-is c, o, n, e, i .is, i .count);
     }
 
   pub sheet-served : {refs scopes new-refs new-scopes : List ℕ} → Resolves text classes offsets lengths d refs scopes new-refs new-scopes
@@ -160,7 +172,7 @@ module _ {text classes offsets lengths literals d state shown names values out :
         let f = c .bench .file in
         rw (accepted-is c, e)
         (ap (λ (a : After-sheet). served-sheet a state)
-        (sheet-said (sheet-if-state f (state-of f shown) names values) out t
+        (sheet-said (sheet-if-state f (state-of (fingerprint text) f shown) names values) out t
         (puts .is (record { checked = c; references = resolves .references; scopes-are = resolves .scopes-are }))));
   }
 

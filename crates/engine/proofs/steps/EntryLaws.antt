@@ -6,12 +6,13 @@ use mathlib.Core.List.{List}
 use lib.Dec.{ltb}
 use lib.ListN.{length}
 use borrow.Author.Tests.{lt-ltb, le-ltb, ltb-false}
-use Rattle.cycles.specs.definitions.StateImage.{STATE}
+use Rattle.senders.specs.definitions.StateImage.{STATE}
 use Rattle.days.specs.definitions.DaySheet.{sheet-size}
 use Rattle.engine.specs.declared.serve.Call.the-variants.{Check, Fresh, Line, Header, Row, Sheet}
 use Rattle.engine.specs.definitions.BenchImage.{BENCH, text-in}
 use Rattle.engine.specs.definitions.Calls.{
   ROW,
+  print-of,
   check-call,
   fresh-call,
   line-call,
@@ -34,7 +35,8 @@ module _ (text bench : List ℕ) where
       → record { answer = r; state = new-state; out = new } ≡ served Check text state shown names values bench
       → record { answer = r; bench = new } ≡ check-call text bench
   unfolding check-call served
-  check-served h state shown names values e = rw (le-ltb (length bench) BENCH h, check-call) (ap (λ (s : Served). record { answer = s .answer; bench = s .out }) e)
+  check-served h state shown names values e =
+      rw (le-ltb (length bench) BENCH h, check-call) (ap (λ (s : Served). record { answer = s .answer; bench = s .out }) e)
 
 -- ---- the fresh state
 
@@ -51,7 +53,7 @@ module _ (bench state : List ℕ) where
     pub fresh-served : STATE ≤ length state → (text shown names values out : List ℕ) {new new-out : List ℕ} {r : ℕ} → text ≡ text-in bench
         → record { answer = r; state = new; out = new-out } ≡ served Fresh text state shown names values out
         → record { answer = r; state = new } ≡ fresh-call bench state
-    unfolding fresh-call served
+    unfolding fresh-call print-of served
     fresh-served h text shown names values out t e =
         rw (le-ltb (length bench) BENCH b, le-ltb (length state) STATE h, fresh-call, ← text-accepted bench, ← t)
         (ap (λ (s : Served). record { answer = s .answer; state = s .state }) e)
@@ -76,7 +78,7 @@ module _ (bench state names values row : List ℕ) where
       pub line-served : ROW ≤ length row → (text shown : List ℕ) {new-state new-row : List ℕ} {r : ℕ} → text ≡ text-in bench
           → record { answer = r; state = new-state; out = new-row } ≡ served Line text state shown names values row
           → record { answer = r; state = new-state; row = new-row } ≡ line-call bench state names values row
-      unfolding line-call served
+      unfolding line-call print-of served
       line-served h text shown t e =
           rw (le-ltb (length bench) BENCH b, le-ltb (length state) STATE s, le-ltb (length row) ROW h, line-call, ← text-accepted bench, ← t)
           (ap (λ (x : Served). record { answer = x .answer; state = x .state; row = x .out }) e)
@@ -103,26 +105,26 @@ module _ (bench row : List ℕ) where
 
 -- ---- a row
 
-module _ (bench state row : List ℕ) where
-  pub row-no-bench : length bench < BENCH → record { answer = 31; row = row } ≡ row-call bench state row
+module _ (bench state sender row : List ℕ) where
+  pub row-no-bench : length bench < BENCH → record { answer = 31; row = row } ≡ row-call bench state sender row
   unfolding row-call
   row-no-bench h = rw (lt-ltb (length bench) BENCH h, row-call)
 
   module _ (b : BENCH ≤ length bench) where
-    pub row-no-state : length state < STATE → record { answer = 31; row = row } ≡ row-call bench state row
+    pub row-no-state : length state < STATE → record { answer = 31; row = row } ≡ row-call bench state sender row
     unfolding row-call
     row-no-state h = rw (le-ltb (length bench) BENCH b, lt-ltb (length state) STATE h, row-call)
 
     module _ (s : STATE ≤ length state) where
-      pub row-short : length row < ROW → record { answer = 31; row = row } ≡ row-call bench state row
+      pub row-short : length row < ROW → record { answer = 31; row = row } ≡ row-call bench state sender row
       unfolding row-call
       row-short h = rw (le-ltb (length bench) BENCH b, le-ltb (length state) STATE s, lt-ltb (length row) ROW h, row-call)
 
-      pub row-served : ROW ≤ length row → (text names values none : List ℕ) {new-state new : List ℕ} {r : ℕ} → text ≡ text-in bench
-          → record { answer = r; state = new-state; out = new } ≡ served Row text none state names values row
-          → record { answer = r; row = new } ≡ row-call bench state row
-      unfolding row-call served
-      row-served h text names values none t e =
+      pub row-served : ROW ≤ length row → (text values none : List ℕ) {new-state new : List ℕ} {r : ℕ} → text ≡ text-in bench
+          → record { answer = r; state = new-state; out = new } ≡ served Row text none state sender values row
+          → record { answer = r; row = new } ≡ row-call bench state sender row
+      unfolding row-call print-of served
+      row-served h text values none t e =
           rw (le-ltb (length bench) BENCH b, le-ltb (length state) STATE s, le-ltb (length row) ROW h, row-call, ← text-accepted bench, ← t)
           (ap (λ (x : Served). record { answer = x .answer; row = x .out }) e)
 
@@ -149,7 +151,7 @@ module _ (bench state readings cells sheet : List ℕ) where
       pub sheet-served : short ≡ false → (text none : List ℕ) {new-state new : List ℕ} {r : ℕ} → text ≡ text-in bench
           → record { answer = r; state = new-state; out = new } ≡ served Sheet text none state readings cells sheet
           → record { answer = r; sheet = new } ≡ sheet-call bench state readings cells sheet
-      unfolding sheet-call served
+      unfolding sheet-call print-of served
       sheet-served h text none t e =
           rw (le-ltb (length bench) BENCH b, le-ltb (length state) STATE s, sym tests ∙ h, sheet-call, ← text-accepted bench, ← t)
           (ap (λ (x : Served). record { answer = x .answer; sheet = x .out }) e)

@@ -4,15 +4,12 @@ use mathlib.Core.Path.{_≡_}
 use mathlib.Core.Bool.{true}
 use mathlib.Core.List.{List, map}
 use mathlib.Core.Option.{some}
-use Rattle.checking.specs.contracts.Directory.{Bench}
-use Rattle.checking.specs.contracts.DirectoryReads.{Few}
-use Rattle.cycles.specs.definitions.Store.{State}
+use Rattle.text.specs.definitions.Syntax.{File}
 use Rattle.cycles.specs.definitions.Header.{Column, header}
-use Rattle.cycles.specs.definitions.Row.{row}
-use Rattle.cycles.specs.definitions.StateImage.{is-state, state-of}
 use Rattle.cycles.specs.contracts.HeaderReads.{column-number, backwards}
-use Rattle.cycles.specs.contracts.RowMemory.{In-front}
-use Rattle.days.specs.contracts.Advancing.{Resolved-bench}
+use Rattle.senders.specs.definitions.Fingerprint.{fingerprint}
+use Rattle.senders.specs.definitions.StateImage.{is-state, state-of}
+use Rattle.senders.specs.contracts.Advancing.{Resolved-bench}
 use Rattle.engine.specs.declared.line.Taken.{Taken}
 use Rattle.engine.specs.declared.line.Taken.the-variants.{Refused, Row}
 use Rattle.engine.specs.definitions.Calls.{ROW, After-line, line-in-state}
@@ -30,24 +27,20 @@ Short-row (Row n) = n ≤ ROW
 abbrev pub after-line : Taken → List ℕ → List ℕ → After-line
 after-line r state row = record { answer = taken-answer r; state = state; row = row }
 
--- the row of a state, at the front of memory
-pub record Shown (classes d state before after : List ℕ) (r : ℕ) : Type 0 where
-  pub short : r ≤ ROW
-  pub is : (text offsets lengths : List ℕ) (w : Bench text classes offsets lengths d) → Few (w .file)
-      → (s : State) → state-of (w .file) state ≡ some s → In-front (row (w .file) s) before after r
+-- the line on memory lent for a state of the text's bench
+abbrev pub line-in-memory : (text : List ℕ) → File → (state names values row : List ℕ) → After-line
+line-in-memory text f state names values row = line-in-state (fingerprint text) f (state-of (fingerprint text) f state) state names values row
 
 -- a record under a header, whose columns' numbers stand in memory, on memory that is a state
 pub record Record-taken (classes literals d refs scopes columns : List ℕ) (count : ℕ) (values state row new-state new-row : List ℕ) (r : Taken) : Type 0 where
   pub short : Short-row r
   pub is : (text offsets lengths : List ℕ) (b : Resolved-bench text classes offsets lengths literals d refs scopes)
-      → is-state (b .checked .bench .file) state ≡ true
+      → is-state (fingerprint text) (b .checked .bench .file) state ≡ true
       → (names : List ℕ) (cs : List Column) → header (b .checked .bench .file) names ≡ some cs → map column-number cs ≡ backwards count columns
-      → after-line r new-state new-row
-      ≡ line-in-state (b .checked .bench .file) (state-of (b .checked .bench .file) state) state names values row
+      → after-line r new-state new-row ≡ line-in-memory text (b .checked .bench .file) state names values row
 
 -- a header and a record, on any memory
 pub record Line-taken (text classes offsets lengths literals d refs scopes names values state row new-state new-row : List ℕ) (r : Taken) : Type 0 where
   pub short : Short-row r
   pub is : (b : Resolved-bench text classes offsets lengths literals d refs scopes)
-      → after-line r new-state new-row
-      ≡ line-in-state (b .checked .bench .file) (state-of (b .checked .bench .file) state) state names values row
+      → after-line r new-state new-row ≡ line-in-memory text (b .checked .bench .file) state names values row

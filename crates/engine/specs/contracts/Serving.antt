@@ -7,7 +7,8 @@ use lib.ListN.{length}
 use Rattle.checking.specs.definitions.Verdict.{verdict, accepted-file}
 use Rattle.checking.specs.declared.check.Checked.the-variants.{Refused as Refused-at}
 use Rattle.checking.specs.contracts.CheckedBench.{checked-answer, Checked-bench}
-use Rattle.cycles.specs.definitions.StateImage.{STATE}
+use Rattle.senders.specs.definitions.Fingerprint.{fingerprint}
+use Rattle.senders.specs.definitions.StateImage.{STATE}
 use Rattle.days.specs.definitions.DaySheet.{sheet-size}
 use Rattle.days.specs.declared.sheet.Sheeted.{Sheeted}
 use Rattle.days.specs.declared.sheet.Sheeted.the-variants.{Refused, Length}
@@ -51,16 +52,16 @@ served-row r state = record { answer = r .answer; state = state; out = r .row }
 abbrev pub served-sheet : After-sheet → List ℕ → Served
 served-sheet r state = record { answer = r .answer; state = state; out = r .sheet }
 
--- a text, a state that changes, one that is only shown, a header, a record, and memory to fill; a sheet has a text of readings for the header
--- and chosen cells for the record
+-- a text, a state that changes, one that is only shown, a header, a record, and memory to fill; a row has a sender for the header, a sheet a text
+-- of readings for the header and chosen cells for the record
 unfoldable pub served : Call → List ℕ → List ℕ → List ℕ → List ℕ → List ℕ → List ℕ → Served
-unfolding checked verdict freshened accepted-file line-on-bench header-on-bench row-on-bench sheet-on-bench
+unfolding checked verdict freshened fingerprint accepted-file line-on-bench header-on-bench row-on-bench sheet-on-bench
 served Check text state shown names values out = served-check (checked (verdict text) text out) state
-served Fresh text state shown names values out = served-fresh (freshened (accepted-file text) state) out
-served Line text state shown names values out = served-line (line-on-bench (accepted-file text) state names values out)
+served Fresh text state shown names values out = served-fresh (freshened (fingerprint text) (accepted-file text) state) out
+served Line text state shown names values out = served-line (line-on-bench (fingerprint text) (accepted-file text) state names values out)
 served Header text state shown names values out = served-row (header-on-bench (accepted-file text) out) state
-served Row text state shown names values out = served-row (row-on-bench (accepted-file text) shown out) state
-served Sheet text state shown names values out = served-sheet (sheet-on-bench (accepted-file text) shown names values out) state
+served Row text state shown names values out = served-row (row-on-bench (fingerprint text) (accepted-file text) shown names out) state
+served Sheet text state shown names values out = served-sheet (sheet-on-bench (fingerprint text) (accepted-file text) shown names values out) state
 
 -- the answer of a sheet on a bench in columns
 unfoldable pub sheeted-answer : Sheeted → ℕ

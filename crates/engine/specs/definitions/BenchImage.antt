@@ -8,7 +8,7 @@ use lib.ListN.{length, take, drop}
 use Rattle.values.specs.definitions.Bytes.{word-at, low-first}
 use Rattle.text.specs.definitions.Syntax.{File}
 use Rattle.checking.specs.definitions.Verdict.{MOST-BYTES, accepted-file}
-use Rattle.cycles.specs.definitions.StateImage.{NUMBER-BYTES}
+use Rattle.cycles.specs.definitions.Planes.{NUMBER-BYTES}
 
 -- the stated size
 abbrev pub BENCH : ℕ

@@ -4,22 +4,24 @@
 use Prim.Native.Nat.{ℕ, _*_, _%_}
 use mathlib.Core.Path.{_≡_}
 use mathlib.Core.List.{List, _++_}
-use mathlib.Core.Bool.{true, false, _||_}
+use mathlib.Core.Bool.{Bool, true, false, _||_}
 use mathlib.Core.Option.{Option, none, some}
-use lib.Dec.{ltb, eqb}
+use lib.Dec.{ltb}
 use lib.ListN.{length, drop}
 use Rattle.text.specs.definitions.Syntax.{File}
 use Rattle.text.specs.definitions.ByteClass.{byte-class}
 use Rattle.checking.specs.definitions.Verdict.{Verdict, verdict, verdict-answer}
-use Rattle.cycles.specs.definitions.Store.{State, Line}
-use Rattle.cycles.specs.definitions.Cycle.{fresh}
-use Rattle.cycles.specs.contracts.TotalMachine.{cycle}
-use Rattle.cycles.specs.definitions.Line.{Answer, refused, accepted, line}
-use Rattle.cycles.specs.definitions.Row.{row-header, row}
-use Rattle.cycles.specs.definitions.StateImage.{STATE, state-of, with-state}
-use Rattle.cycles.specs.definitions.Row.{MOST-ROW-BYTES}
+use Rattle.cycles.specs.definitions.Row.{MOST-ROW-BYTES, row-header}
+use Rattle.senders.specs.definitions.Sender.{State, is-sender}
+use Rattle.senders.specs.definitions.Answer.{Answer, refused, accepted}
+use Rattle.senders.specs.definitions.Line.{Accepted, new, resent, its-line, line}
+use Rattle.senders.specs.definitions.Follow.{fresh}
+use Rattle.senders.specs.contracts.TotalFollow.{follow}
+use Rattle.senders.specs.definitions.Row.{sender-row}
+use Rattle.senders.specs.definitions.Fingerprint.{fingerprint}
+use Rattle.senders.specs.definitions.StateImage.{STATE, state-of, with-state}
 use Rattle.days.specs.definitions.DaySheet.{sheet-if-state, sheet-size}
-use Rattle.engine.specs.definitions.BenchImage.{BENCH, with-bench, bench-of}
+use Rattle.engine.specs.definitions.BenchImage.{BENCH, with-bench, bench-of, text-in}
 
 -- the stated size of memory for a row
 abbrev pub ROW : ℕ
@@ -31,6 +33,11 @@ with-row r m = r ++ drop (length r) m
 
 abbrev pub row-answer : List ℕ → ℕ
 row-answer r = 256 * length r
+
+-- the fingerprint of the text that a bench's memory holds: a state belongs to its bench's text
+unfoldable pub print-of : List ℕ → ℕ
+unfolding fingerprint text-in
+print-of bench = fingerprint (text-in bench)
 
 -- check: the text lent, and memory for a bench
 pub record After-check : Type 0 where
@@ -54,16 +61,16 @@ pub record After-fresh : Type 0 where
   pub answer : ℕ
   pub state : List ℕ
 
-unfoldable pub freshened : Option File → List ℕ → After-fresh
+unfoldable pub freshened : ℕ → Option File → List ℕ → After-fresh
 unfolding with-state fresh
-freshened none state = record { answer = 32; state = state }
-freshened (some f) state = record { answer = 0; state = with-state f (fresh f) state }
+freshened print none state = record { answer = 32; state = state }
+freshened print (some f) state = record { answer = 0; state = with-state print f (fresh f) state }
 
 unfoldable pub fresh-call : List ℕ → List ℕ → After-fresh
-unfolding freshened bench-of
+unfolding freshened print-of bench-of
 fresh-call bench state = elim (ltb (length bench) BENCH || ltb (length state) STATE) [
   | true ↦ record { answer = 31; state = state }
-  | false ↦ freshened (bench-of bench) state
+  | false ↦ freshened (print-of bench) (bench-of bench) state
 ]
 
 -- line: a bench, a state, a header, a record, and memory for a row
@@ -75,37 +82,45 @@ pub record After-line : Type 0 where
 unfoldable pub line-refused : ℕ → List ℕ → List ℕ → After-line
 line-refused code state r = record { answer = code; state = state; row = r }
 
--- "then it is resent, the state stays, the fired actions are given again"
-unfoldable pub line-accepted : File → State → Line → List ℕ → List ℕ → After-line
-unfolding with-state with-row cycle row
-line-accepted f s l state r = elim (eqb (l .number) (s .last)) [
-  | true ↦ record { answer = row-answer (row f s); state = state; row = with-row (row f s) r }
-  | false ↦ record { answer = row-answer (row f (cycle f s l)); state = with-state f (cycle f s l) state; row = with-row (row f (cycle f s l)) r }
-]
+-- the memory of the state after an accepted line: "then it is resent, the state stays"
+unfoldable pub followed : ℕ → File → State → Accepted → List ℕ → List ℕ
+unfolding with-state follow
+followed print f s (resent l) state = state
+followed print f s (new l) state = with-state print f (follow f s (new l)) state
 
-unfoldable pub line-answered : File → State → Answer Line → List ℕ → List ℕ → After-line
+-- its row is its sender's: "a resent line gives that sender's row, even after lines of others"
+unfoldable pub line-row : File → State → Accepted → List ℕ
+unfolding sender-row follow its-line
+line-row f s a = sender-row f (follow f s a) (its-line a .sender)
+
+unfoldable pub line-accepted : ℕ → File → State → Accepted → List ℕ → List ℕ → After-line
+unfolding followed with-row line-row
+line-accepted print f s a state r =
+    record { answer = row-answer (line-row f s a); state = followed print f s a state; row = with-row (line-row f s a) r }
+
+unfoldable pub line-answered : ℕ → File → State → Answer Accepted → List ℕ → List ℕ → After-line
 unfolding line-refused line-accepted
-line-answered f s (refused code) state r = line-refused code state r
-line-answered f s (accepted l) state r = line-accepted f s l state r
+line-answered print f s (refused code) state r = line-refused code state r
+line-answered print f s (accepted a) state r = line-accepted print f s a state r
 
-unfoldable pub line-in-state : File → Option State → List ℕ → List ℕ → List ℕ → List ℕ → After-line
+unfoldable pub line-in-state : ℕ → File → Option State → List ℕ → List ℕ → List ℕ → List ℕ → After-line
 unfolding line-refused line-answered line
-line-in-state f none state names values r = line-refused 33 state r
-line-in-state f (some s) state names values r = line-answered f s (line f s names values) state r
+line-in-state print f none state names values r = line-refused 33 state r
+line-in-state print f (some s) state names values r = line-answered print f s (line f s names values) state r
 
-unfoldable pub line-on-bench : Option File → List ℕ → List ℕ → List ℕ → List ℕ → After-line
+unfoldable pub line-on-bench : ℕ → Option File → List ℕ → List ℕ → List ℕ → List ℕ → After-line
 unfolding line-refused line-in-state state-of
-line-on-bench none state names values r = line-refused 32 state r
-line-on-bench (some f) state names values r = line-in-state f (state-of f state) state names values r
+line-on-bench print none state names values r = line-refused 32 state r
+line-on-bench print (some f) state names values r = line-in-state print f (state-of print f state) state names values r
 
 unfoldable pub line-call : List ℕ → List ℕ → List ℕ → List ℕ → List ℕ → After-line
-unfolding line-refused line-on-bench bench-of
+unfolding line-refused line-on-bench print-of bench-of
 line-call bench state names values r = elim (ltb (length bench) BENCH || ltb (length state) STATE || ltb (length r) ROW) [
   | true ↦ line-refused 31 state r
-  | false ↦ line-on-bench (bench-of bench) state names values r
+  | false ↦ line-on-bench (print-of bench) (bench-of bench) state names values r
 ]
 
--- header and row: a bench, for a row a state too, and memory for a row
+-- header and row: a bench, for a row a state and a sender too, and memory for a row
 pub record After-row : Type 0 where
   pub answer : ℕ
   pub row : List ℕ
@@ -126,21 +141,27 @@ header-call bench r = elim (ltb (length bench) BENCH || ltb (length r) ROW) [
   | false ↦ header-on-bench (bench-of bench) r
 ]
 
-unfoldable pub row-in-state : File → Option State → List ℕ → After-row
-unfolding row-written row
-row-in-state f none r = record { answer = 33; row = r }
-row-in-state f (some s) r = row-written (row f s) r
+-- 43, after 33: "an ill-formed sender"
+unfoldable pub row-if-named : Bool → File → State → List ℕ → List ℕ → After-row
+unfolding row-written sender-row
+row-if-named false f s sender r = record { answer = 43; row = r }
+row-if-named true f s sender r = row-written (sender-row f s sender) r
 
-unfoldable pub row-on-bench : Option File → List ℕ → List ℕ → After-row
+unfoldable pub row-in-state : File → Option State → List ℕ → List ℕ → After-row
+unfolding row-if-named is-sender
+row-in-state f none sender r = record { answer = 33; row = r }
+row-in-state f (some s) sender r = row-if-named (is-sender sender) f s sender r
+
+unfoldable pub row-on-bench : ℕ → Option File → List ℕ → List ℕ → List ℕ → After-row
 unfolding row-in-state state-of
-row-on-bench none state r = record { answer = 32; row = r }
-row-on-bench (some f) state r = row-in-state f (state-of f state) r
+row-on-bench print none state sender r = record { answer = 32; row = r }
+row-on-bench print (some f) state sender r = row-in-state f (state-of print f state) sender r
 
-unfoldable pub row-call : List ℕ → List ℕ → List ℕ → After-row
-unfolding row-on-bench bench-of
-row-call bench state r = elim (ltb (length bench) BENCH || ltb (length state) STATE || ltb (length r) ROW) [
+unfoldable pub row-call : List ℕ → List ℕ → List ℕ → List ℕ → After-row
+unfolding row-on-bench print-of bench-of
+row-call bench state sender r = elim (ltb (length bench) BENCH || ltb (length state) STATE || ltb (length r) ROW) [
   | true ↦ record { answer = 31; row = r }
-  | false ↦ row-on-bench (bench-of bench) state r
+  | false ↦ row-on-bench (print-of bench) (bench-of bench) state sender r
 ]
 
 -- sheet: a bench, a state, a text of readings, the chosen cells, and memory for a sheet
@@ -160,16 +181,16 @@ unfolding with-row
 sheet-answered (refused code) m = record { answer = code; sheet = m }
 sheet-answered (accepted bytes) m = record { answer = length-answer (length bytes); sheet = with-row bytes m }
 
-unfoldable pub sheet-on-bench : Option File → List ℕ → List ℕ → List ℕ → List ℕ → After-sheet
+unfoldable pub sheet-on-bench : ℕ → Option File → List ℕ → List ℕ → List ℕ → List ℕ → After-sheet
 unfolding sheet-answered sheet-if-state state-of
-sheet-on-bench none state readings cells m = record { answer = 32; sheet = m }
-sheet-on-bench (some f) state readings cells m = sheet-answered (sheet-if-state f (state-of f state) readings cells) m
+sheet-on-bench print none state readings cells m = record { answer = 32; sheet = m }
+sheet-on-bench print (some f) state readings cells m = sheet-answered (sheet-if-state f (state-of print f state) readings cells) m
 
 unfoldable pub sheet-call : List ℕ → List ℕ → List ℕ → List ℕ → List ℕ → After-sheet
-unfolding sheet-on-bench bench-of sheet-size
+unfolding sheet-on-bench print-of bench-of sheet-size
 sheet-call bench state readings cells m = elim (ltb (length bench) BENCH || ltb (length state) STATE || ltb (length m) (sheet-size readings)) [
   | true ↦ record { answer = 31; sheet = m }
-  | false ↦ sheet-on-bench (bench-of bench) state readings cells m
+  | false ↦ sheet-on-bench (print-of bench) (bench-of bench) state readings cells m
 ]
 
 -- ---- the contracts: what a call answers, and the memory that it leaves, on all input
@@ -187,8 +208,8 @@ Line-contract bench state names values row new-state new-row r =
 abbrev pub Header-contract : (bench row new-row : List ℕ) → ℕ → Type 0
 Header-contract bench row new-row r = record { answer = r; row = new-row } ≡ header-call bench row
 
-abbrev pub Row-contract : (bench state row new-row : List ℕ) → ℕ → Type 0
-Row-contract bench state row new-row r = record { answer = r; row = new-row } ≡ row-call bench state row
+abbrev pub Row-contract : (bench state sender row new-row : List ℕ) → ℕ → Type 0
+Row-contract bench state sender row new-row r = record { answer = r; row = new-row } ≡ row-call bench state sender row
 
 abbrev pub Sheet-contract : (bench state readings cells sheet new-sheet : List ℕ) → ℕ → Type 0
 Sheet-contract bench state readings cells sheet new-sheet r =

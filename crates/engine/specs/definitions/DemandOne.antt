@@ -16,13 +16,13 @@ abbrev pub FRESH-NUMBERS : List ℕ
 FRESH-NUMBERS = 0 ∷ 31 ∷ 32 ∷ []
 
 abbrev pub LINE-NUMBERS : List ℕ
-LINE-NUMBERS = 0 ∷ 31 ∷ 32 ∷ 33 ∷ 22 ∷ 21 ∷ 23 ∷ 24 ∷ 25 ∷ []
+LINE-NUMBERS = 0 ∷ 31 ∷ 32 ∷ 33 ∷ 22 ∷ 21 ∷ 43 ∷ 42 ∷ 23 ∷ 24 ∷ 25 ∷ []
 
 abbrev pub HEADER-NUMBERS : List ℕ
 HEADER-NUMBERS = 0 ∷ 31 ∷ 32 ∷ []
 
 abbrev pub ROW-NUMBERS : List ℕ
-ROW-NUMBERS = 0 ∷ 31 ∷ 32 ∷ 33 ∷ []
+ROW-NUMBERS = 0 ∷ 31 ∷ 32 ∷ 33 ∷ 43 ∷ []
 
 abbrev pub SHEET-NUMBERS : List ℕ
 SHEET-NUMBERS = 0 ∷ 31 ∷ 32 ∷ 33 ∷ 41 ∷ 22 ∷ []

@@ -2,6 +2,7 @@
 use Prim.Native.Nat.{ℕ, suc}
 use mathlib.Core.Path.{_≡_}
 use mathlib.Core.List.{List, [], _∷_, map, List·Memᴰ}
+use mathlib.Core.Bool.{true}
 use mathlib.Core.Option.{some}
 use lib.ListN.{length, getElem?}
 use Rattle.values.specs.declared.Number.the-variants.{Is}
@@ -9,23 +10,26 @@ use Rattle.values.specs.definitions.Forms.{magnitude, event-field, read-back}
 use Rattle.text.specs.definitions.Syntax.{File}
 use Rattle.checking.specs.definitions.Verdict.{Verdict, verdict}
 use Rattle.cycles.specs.definitions.Outcome.{running}
-use Rattle.cycles.specs.definitions.Store.{State, Line}
 use Rattle.cycles.specs.definitions.Spots.{Spot}
-use Rattle.cycles.specs.definitions.Cycle.{fresh, ref-follow}
 use Rattle.cycles.specs.definitions.Fields.{fields}
 use Rattle.cycles.specs.definitions.Header.{Column, header}
-use Rattle.cycles.specs.definitions.Line.{accepted, line}
-use Rattle.cycles.specs.definitions.Readings.{lines, header-line, record-lines, Turn}
-use Rattle.cycles.specs.definitions.Row.{action-cells, row-header, row}
-use Rattle.cycles.specs.definitions.StateImage.{state-of}
+use Rattle.cycles.specs.definitions.Readings.{lines, header-line, record-lines}
+use Rattle.cycles.specs.definitions.Row.{action-cells, row-header}
 use Rattle.cycles.specs.definitions.ClosedSet.{Among}
+use Rattle.senders.specs.definitions.Sender.{Sender, State, is-sender}
+use Rattle.senders.specs.definitions.Answer.{accepted}
+use Rattle.senders.specs.definitions.Line.{Accepted, its-line, is-resent, line}
+use Rattle.senders.specs.definitions.Follow.{fresh, ref-follow}
+use Rattle.senders.specs.definitions.Row.{sender-row}
+use Rattle.senders.specs.definitions.Turns.{Turn}
+use Rattle.senders.specs.definitions.StateImage.{state-of}
 use Rattle.sheets.specs.definitions.Layout.{SHEET-COLUMNS}
 use Rattle.sheets.specs.definitions.Sheet.{sheet-rows}
 use Rattle.days.specs.definitions.Chosen.{chosen, is-real-spot}
 use Rattle.days.specs.definitions.DaySheet.{printed-lines, day-sheet}
 use Rattle.days.specs.definitions.ReferenceDay.{ref-turns}
 use Rattle.engine.specs.definitions.BenchImage.{bench-of}
-use Rattle.engine.specs.definitions.Calls.{with-row, length-answer, After-line}
+use Rattle.engine.specs.definitions.Calls.{with-row, print-of, length-answer, After-line}
 use Rattle.engine.specs.definitions.Runs.{given, given-by, Taken}
 
 -- ---- what is lent
@@ -40,15 +44,20 @@ pub record State-lent (bench state : List ℕ) : Type 0 where
   pub file : File
   pub before : State
   pub is-bench : bench-of bench ≡ some file
-  pub is-state : state-of file state ≡ some before
+  pub is-state : state-of (print-of bench) file state ≡ some before
 
--- and in this state document 01 accepts the line
+-- and the sender is well formed
+pub record Row-lent (bench state sender : List ℕ) : Type 0 where
+  pub lent : State-lent bench state
+  pub is-named : is-sender sender ≡ true
+
+-- the memory stands for a bench file and a state of it, and in this state the documents accept the line
 pub record Line-lent (bench state names values : List ℕ) : Type 0 where
   pub file : File
   pub before : State
-  pub taken : Line
+  pub taken : Accepted
   pub is-bench : bench-of bench ≡ some file
-  pub is-state : state-of file state ≡ some before
+  pub is-state : state-of (print-of bench) file state ≡ some before
   pub is-taken : line file before names values ≡ accepted taken
 
 -- the memory stands for a bench file and a state of it, the chosen cells are cells of the file, and the readings' first line is a header of it
@@ -58,7 +67,7 @@ pub record Sheet-lent (bench state readings cells : List ℕ) : Type 0 where
   pub spots : List Spot
   pub columns : List Column
   pub is-bench : bench-of bench ≡ some file
-  pub is-state : state-of file state ≡ some before
+  pub is-state : state-of (print-of bench) file state ≡ some before
   pub is-chosen : chosen file cells ≡ some spots
   pub is-header : header file (header-line (lines readings)) ≡ some columns
 
@@ -74,21 +83,21 @@ pub record Checks (text new-bench : List ℕ) : Type 0 where
 pub record Freshens (bench new-state : List ℕ) : Type 0 where
   pub file : File
   pub is-bench : bench-of bench ≡ some file
-  pub leaves : state-of file new-state ≡ some (fresh file)
+  pub leaves : state-of (print-of bench) file new-state ≡ some (fresh file)
 
 -- "each accepted line leaves the state and fires the actions that they define": the machine takes the line in the state lent and goes on, the
--- memory left stands for its state, and the call gave its row
+-- memory left stands for its state, and the call gave the row of the line's sender in it
 pub record Follows (bench state names values : List ℕ) (r : After-line) : Type 0 where
   pub file : File
   pub before : State
-  pub taken : Line
+  pub taken : Accepted
   pub after : State
   pub is-bench : bench-of bench ≡ some file
-  pub is-state : state-of file state ≡ some before
+  pub is-state : state-of (print-of bench) file state ≡ some before
   pub is-taken : line file before names values ≡ accepted taken
   pub runs : ref-follow file before taken ≡ running after
-  pub leaves : state-of file (r .state) ≡ some after
-  pub fires : given-by r ≡ row file after
+  pub leaves : state-of (print-of bench) file (r .state) ≡ some after
+  pub fires : given-by r ≡ sender-row file after (its-line taken .sender)
 
 -- the call gave the row of names
 pub record Names (bench : List ℕ) (answer : ℕ) (new-row : List ℕ) : Type 0 where
@@ -96,13 +105,13 @@ pub record Names (bench : List ℕ) (answer : ℕ) (new-row : List ℕ) : Type 0
   pub is-bench : bench-of bench ≡ some file
   pub gives : given answer new-row ≡ row-header file
 
--- the call gave the row of the state
-pub record Shows (bench state : List ℕ) (answer : ℕ) (new-row : List ℕ) : Type 0 where
+-- the call gave the row of the sender in the state
+pub record Shows (bench state sender : List ℕ) (answer : ℕ) (new-row : List ℕ) : Type 0 where
   pub file : File
   pub shown : State
   pub is-bench : bench-of bench ≡ some file
-  pub is-state : state-of file state ≡ some shown
-  pub gives : given answer new-row ≡ row file shown
+  pub is-state : state-of (print-of bench) file state ≡ some shown
+  pub gives : given answer new-row ≡ sender-row file shown sender
 
 -- the machine takes the records one after another from the state lent and is never stuck; the call wrote the sheet of these turns, rows of
 -- exactly 80 columns, and no other byte, and answered its length in the 56 bits that an answer has for it
@@ -112,7 +121,7 @@ pub record Sheets (bench state readings cells sheet : List ℕ) (answer : ℕ) (
   pub spots : List Spot
   pub turns : List Turn
   pub is-bench : bench-of bench ≡ some file
-  pub is-state : state-of file state ≡ some before
+  pub is-state : state-of (print-of bench) file state ≡ some before
   pub is-chosen : chosen file cells ≡ some spots
   pub runs : ref-turns file (header-line (lines readings)) before (record-lines (lines readings)) ≡ running turns
   pub rows : (r : List ℕ) → List·Memᴰ r (sheet-rows (map is-real-spot spots) (printed-lines spots turns)) → length r ≡ SHEET-COLUMNS
@@ -121,20 +130,36 @@ pub record Sheets (bench state readings cells sheet : List ℕ) (answer : ℕ) (
 
 -- ---- lines sent again, and rows
 
--- of two accepted lines of a run with one number: the later one leaves the state's bytes, and gives the row that the earlier one gave
+-- of two accepted lines of a run with one sender and number: the later one leaves the state's bytes, and gives the row that the earlier one gave
 pub record Given-again (x y : Taken) : Type 0 where
   pub stays : y .reply .state ≡ y .before
   pub again : given-by (y .reply) ≡ given-by (x .reply)
 
--- "then it is resent, the state stays, the fired actions are given again", at any later point of a run
+-- "a resent line gives that sender's row, even after lines of others", at any later point of a run
 abbrev pub Resent : List Taken → Type 0
 Resent [] = Unit {0}
-Resent (x ∷ xs) = ((y : Taken) → Among y xs → x .line .number ≡ y .line .number → Given-again x y) × Resent xs
+Resent (x ∷ xs) =
+    ((y : Taken) → Among y xs → x .line .sender ≡ y .line .sender → x .line .number ≡ y .line .number → Given-again x y) × Resent xs
 
--- "every printed value reads back as itself": a row has a field for the number and one for each action cell, and reading them as fields of a
--- record gives the state's number and values, and no reading where a cell is unset
-pub record Reads-back (f : File) (s : State) (r : List ℕ) : Type 0 where
-  pub count : length (fields r) ≡ suc (length (action-cells f))
-  pub number : (x : List ℕ) → getElem? (fields r) 0 ≡ some x → magnitude x ≡ Is (s .last)
-  pub fired : (i : ℕ) (p : Spot) (x : List ℕ) → getElem? (action-cells f) i ≡ some p → getElem? (fields r) (suc i) ≡ some x
-      → event-field (p .what .kind) x ≡ read-back (s .now .cell (p .entity) (p .member))
+-- among the lines so far, one of this line's sender and number
+pub record Sent-before (earlier : List Taken) (y : Taken) : Type 0 where
+  pub one : Taken
+  pub inside : Among one earlier
+  pub sender : one .line .sender ≡ y .line .sender
+  pub number : one .line .number ≡ y .line .number
+
+-- and each line that the state before it holds for resent has such an earlier one in its run
+abbrev pub All-sent-before : ℕ → File → List Taken → List Taken → Type 0
+All-sent-before print f earlier [] = Unit {0}
+All-sent-before print f earlier (y ∷ ys) =
+    ((s : State) → state-of print f (y .before) ≡ some s → is-resent f s (y .line) ≡ true → Sent-before earlier y)
+    × All-sent-before print f (y ∷ earlier) ys
+
+-- "every printed value reads back as itself": a row has a field for the sender, one for the number and one for each action cell, and reading them
+-- as fields of a record gives the sender, its number and the values kept for it, and no reading where nothing was fired
+pub record Reads-back (f : File) (x : Sender) (r : List ℕ) : Type 0 where
+  pub count : length (fields r) ≡ suc (suc (length (action-cells f)))
+  pub sender : getElem? (fields r) 0 ≡ some (x .name)
+  pub number : (t : List ℕ) → getElem? (fields r) 1 ≡ some t → magnitude t ≡ Is (x .last)
+  pub fired : (i : ℕ) (p : Spot) (t : List ℕ) → getElem? (action-cells f) i ≡ some p → getElem? (fields r) (suc (suc i)) ≡ some t
+      → event-field (p .what .kind) t ≡ read-back (x .fired (p .entity) (p .member))

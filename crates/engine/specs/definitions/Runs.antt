@@ -7,12 +7,13 @@ use lib.Dec.{ltb, eqb}
 use lib.ListN.{length, take}
 use Rattle.text.specs.definitions.Syntax.{File}
 use Rattle.cycles.specs.definitions.Outcome.{Outcome, running, proceed}
-use Rattle.cycles.specs.definitions.Store.{State, Line}
-use Rattle.cycles.specs.definitions.Cycle.{ref-follow}
 use Rattle.cycles.specs.definitions.Record.{inputs-of}
-use Rattle.cycles.specs.definitions.Line.{Answer, refused, accepted, Reading, reading, line-of, line}
-use Rattle.cycles.specs.definitions.Row.{row}
-use Rattle.cycles.specs.definitions.StateImage.{STATE, state-of}
+use Rattle.senders.specs.definitions.Sender.{State, Line}
+use Rattle.senders.specs.definitions.Answer.{Answer, refused, accepted}
+use Rattle.senders.specs.definitions.Line.{Reading, reading, line-of, Accepted, its-line, line}
+use Rattle.senders.specs.definitions.Follow.{ref-follow}
+use Rattle.senders.specs.definitions.Row.{sender-row}
+use Rattle.senders.specs.definitions.StateImage.{STATE, state-of}
 use Rattle.engine.specs.definitions.BenchImage.{BENCH}
 use Rattle.engine.specs.definitions.Calls.{ROW, with-row, row-answer, After-line, line-call, Check-contract, Fresh-contract, Line-contract}
 
@@ -55,28 +56,31 @@ pub record Sight : Type 0 where
   pub state : Option State
   pub row : List ℕ
 
-unfoldable pub sight : File → After-line → Sight
+-- by the fingerprint of the bench's text
+unfoldable pub sight : ℕ → File → After-line → Sight
 unfolding state-of
-sight f r = record { answer = r .answer; state = state-of f (r .state); row = r .row }
+sight print f r = record { answer = r .answer; state = state-of print f (r .state); row = r .row }
 
 -- "whether and how the table refuses a call follows from that call and the machine's state before it"
-unfoldable pub machine-answer : File → State → Request → Answer Line
+unfoldable pub machine-answer : File → State → Request → Answer Accepted
 unfolding line
 machine-answer f s q = elim (ltb (length (q .row)) ROW) [ true ↦ refused 31 | false ↦ line f s (q .names) (q .values) ]
 
 unfoldable pub refused-sight : ℕ → State → Request → Sight
 refused-sight code s q = record { answer = code; state = some s; row = q .row }
 
-unfoldable pub accepted-sight : File → State → Request → Sight
-unfolding row with-row
-accepted-sight f s q = record { answer = row-answer (row f s); state = some s; row = with-row (row f s) (q .row) }
+-- a sender's row, of the state after its line
+unfoldable pub accepted-sight : File → State → List ℕ → Request → Sight
+unfolding sender-row with-row
+accepted-sight f s sender q =
+    record { answer = row-answer (sender-row f s sender); state = some s; row = with-row (sender-row f s sender) (q .row) }
 
 -- one call, and then the others from the state after it: "A refused line isn't given to it; a resent one starts no cycle"
-unfoldable pub ref-answered : File → State → Request → Answer Line → (State → Outcome (List Sight)) → Outcome (List Sight)
-unfolding proceed ref-follow refused-sight accepted-sight
+unfoldable pub ref-answered : File → State → Request → Answer Accepted → (State → Outcome (List Sight)) → Outcome (List Sight)
+unfolding proceed ref-follow its-line refused-sight accepted-sight
 ref-answered f s q (refused code) others = proceed (others s) λ rest. running (refused-sight code s q ∷ rest)
-ref-answered f s q (accepted l) others =
-    proceed (ref-follow f s l) λ t. proceed (others t) λ rest. running (accepted-sight f t q ∷ rest)
+ref-answered f s q (accepted a) others =
+    proceed (ref-follow f s a) λ t. proceed (others t) λ rest. running (accepted-sight f t (its-line a .sender) q ∷ rest)
 
 -- the reference machine over the same requests
 unfoldable pub ref-run : File → State → List Request → Outcome (List Sight)
@@ -101,7 +105,7 @@ pub record Taken : Type 0 where
 -- what header and record say; of an accepted line they always say something
 unfoldable pub said-line : Answer Reading → Line
 unfolding line-of inputs-of
-said-line (refused code) = record { number = 0; inputs = inputs-of [] }
+said-line (refused code) = record { sender = []; number = 0; inputs = inputs-of [] }
 said-line (accepted r) = line-of r
 
 unfoldable pub taken-if : Bool → Line → List ℕ → After-line → List Taken

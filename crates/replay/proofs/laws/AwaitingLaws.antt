@@ -11,14 +11,16 @@ use lib.Seq.{length-take-le, take-all}
 use borrow.Author.Tests.{lt-leb, leb-true, leb-false}
 use Rattle.text.specs.definitions.Syntax.{File}
 use Rattle.checking.specs.definitions.Verdict.{Verdict, verdict, MOST-BYTES}
-use Rattle.cycles.specs.definitions.Store.{State}
-use Rattle.cycles.specs.definitions.Cycle.{fresh}
 use Rattle.cycles.specs.definitions.Header.{Column, header}
 use Rattle.cycles.specs.definitions.Record.{record-of}
-use Rattle.cycles.specs.definitions.Line.{or-refused, reading, line}
-use Rattle.cycles.specs.definitions.Readings.{lines, Part-of-line, state-after, header-line, record-lines, turns}
+use Rattle.cycles.specs.definitions.Readings.{lines, Part-of-line, header-line, record-lines}
 use Rattle.cycles.specs.definitions.Row.{row-header}
 use Rattle.cycles.proofs.laws.ReadingsLaws.{part-take, before, lines-after, before-line, before-none, lines-fed, lines-last}
+use Rattle.senders.specs.definitions.Sender.{State}
+use Rattle.senders.specs.definitions.Answer.{or-refused, if-accepted}
+use Rattle.senders.specs.definitions.Line.{addressed, line}
+use Rattle.senders.specs.definitions.Follow.{fresh}
+use Rattle.senders.specs.definitions.Turns.{state-after, turns}
 use Rattle.replay.specs.definitions.Replay.{refusal, row-for, rows, rows-under, rows-of, replay-by, replay}
 use Rattle.replay.specs.contracts.Awaiting.{
   Awaits,
@@ -113,12 +115,12 @@ unfolding header
 no-header f v h = rw (lt-leb (length v) 32768 h, header)
 
 same-line : (f : File) (s : State) (ns a b : List ℕ) → LONGEST < length a → LONGEST < length b → line f s ns a ≡ line f s ns b
-unfolding line reading or-refused
+unfolding line addressed or-refused if-accepted
 same-line f s ns a b h i = go (header f ns) refl
   where
     go : (o : Option (List Column)) → header f ns ≡ o → line f s ns a ≡ line f s ns b
-    go none e = rw (e, reading, line)
-    go (some cs) e = rw (e, reading, line, no-record (length cs) a h, no-record (length cs) b i)
+    go none e = rw (e, addressed, line)
+    go (some cs) e = rw (e, addressed, line, no-record (length cs) a h, no-record (length cs) b i)
 
 long-prints : (a : Awaits) (x y : List ℕ) → LONGEST < length x → LONGEST < length y → prints a x ≡ prints a y
 unfolding prints

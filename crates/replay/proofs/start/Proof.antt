@@ -9,8 +9,9 @@ use Rattle.replay.proofs.start.Reads as reads
 use Rattle.replay.proofs.start.Lts as lts
 use Rattle.checking.proofs.check.check.Reads as check-reads
 use Rattle.checking.proofs.resolve.Reads as resolve-reads
-use Rattle.cycles.proofs.put_fresh.Reads as put-fresh-reads
 use Rattle.replay.proofs.rows.put_bench_refusal.Reads as put-bench-refusal-reads
+use Rattle.senders.proofs.fingerprint.fingerprint.Reads as fingerprint-reads
+use Rattle.senders.proofs.put_fresh.Reads as put-fresh-reads
 
 check-requires : tie.Need-check-requires
 check-requires c κs = search needs
@@ -48,8 +49,11 @@ part-put-fresh-start c = search needs
 part-put-fresh-end : tie.Need-part-put-fresh-end
 part-put-fresh-end c = let rows = accepted-rows (c .before .before .before .before .before .before .before .before .before .before .before .before .before .before .before .before .before .before .before .before .before .before .before .before .before .before .check .ensures) (c .before .before .before .before .before .before .before .before .before .before .before .before .before .before .checked2 .given .1) in omega arith
 
+fingerprint-requires : tie.Need-fingerprint-requires
+fingerprint-requires c κs = search needs
+
 put-fresh-requires : tie.Need-put-fresh-requires
-put-fresh-requires c κs = c .before .before .before .before .before .before .before .before .before .before .before .before .before .before .before .before .before .before .before .before .before .before .before .before .before .before .before .before .before .before .before .before .before .before .before .before .before .before .before .before .before .before .before .before .before .before .before .before .pre .1 .1 .0
+put-fresh-requires c κs = c .before .before .before .before .before .before .before .before .before .before .before .before .before .before .before .before .before .before .before .before .before .before .before .before .before .before .before .before .before .before .before .before .before .before .before .before .before .before .before .before .before .before .before .before .before .before .before .before .before .pre .1 .1 .0
 
 same-length : tie.Need-same-length
 same-length c = search needs
@@ -91,7 +95,7 @@ returns-2 : tie.Need-returns-2
 returns-2 c = refused-starts (c .before .before .before .before .before .before .before .before .before .before .before .before .before .before .before .before .before .check .ensures) _ _ (c .before .before .before .before .before .checked .given .1) _ _ (c .before .before .before .before .before .before .before .before .before .before .before .before .before .before .before .before .before .before .before .before .before .before .before .before .before .before .before .before .before .before .before .before .before .pre .1 .1 .1) (c .before .before .put-bench-refusal .ensures)
 
 same-length-12 : tie.Need-same-length-12
-same-length-12 c = search needs
+same-length-12 c = c .before .before .before .before .before .before .before .before .before .before .before .before .before .before .before .before .before .before .before .before .before .before .before .before .before .before .before .before .before .before .before .before .before .before .before .before .check .kept .1 .0
 
 same-length-13 : tie.Need-same-length-13
 same-length-13 c = search needs
@@ -115,7 +119,7 @@ same-length-19 : tie.Need-same-length-19
 same-length-19 c = search needs
 
 returns-3 : tie.Need-returns-3
-returns-3 c = accepted-starts (c .before .before .before .before .before .before .before .before .before .before .before .before .before .before .before .before .before .before .before .before .before .before .before .before .before .before .before .before .before .before .before .before .before .before .before .check .ensures) _ _ (c .before .before .before .before .before .before .before .before .before .before .before .before .before .before .before .before .before .before .before .before .before .before .before .checked2 .given .1) (c .before .before .before .before .before .before .before .before .before .before .before .before .before .before .resolve .ensures) _ _ (c .before .before .before .before .before .before .before .before .before .before .before .before .before .before .before .before .before .before .before .before .before .before .before .before .before .before .before .before .before .before .before .before .before .before .before .before .before .before .before .before .before .before .before .before .before .before .before .before .before .before .before .pre .1 .1 .0) (c .before .before .put-fresh .ensures)
+returns-3 c = accepted-starts (c .before .before .before .before .before .before .before .before .before .before .before .before .before .before .before .before .before .before .before .before .before .before .before .before .before .before .before .before .before .before .before .before .before .before .before .before .check .ensures) _ _ (c .before .before .before .before .before .before .before .before .before .before .before .before .before .before .before .before .before .before .before .before .before .before .before .before .checked2 .given .1) (c .before .before .before .before .before .before .before .before .before .before .before .before .before .before .before .resolve .ensures) _ _ (c .before .before .before .before .fingerprint .ensures) (c .before .before .put-fresh .ensures)
 
 pub start-spec : {M : Type 1} → statement M
 start-spec =
@@ -133,6 +137,7 @@ start-spec =
     sub-put-fresh
     part-put-fresh-start
     part-put-fresh-end
+    fingerprint-requires
     put-fresh-requires
     same-length
     same-length-2

@@ -11,25 +11,23 @@ use Rattle.values.specs.definitions.Bytes.{overwritten}
 use Rattle.values.specs.definitions.Forms.{decimal}
 use Rattle.values.proofs.laws.ByteLaws.{overwritten-parts}
 use Rattle.text.specs.definitions.Syntax.{File}
-use Rattle.checking.specs.definitions.Verdict.{Verdict, file-verdict}
-use Rattle.checking.proofs.laws.VerdictLaws.{accepted-verdict}
-use Rattle.cycles.specs.definitions.Store.{State}
-use Rattle.cycles.specs.definitions.Cycle.{fresh}
-use Rattle.cycles.specs.contracts.TotalMachine.{follow}
 use Rattle.cycles.specs.definitions.Header.{Column, header}
 use Rattle.cycles.specs.contracts.HeaderReads.{MOST-COLUMNS, NO-COLUMN, column-number, backwards, Header-is, Header-read}
-use Rattle.cycles.specs.definitions.Line.{line}
-use Rattle.cycles.specs.definitions.Readings.{state-after}
-use Rattle.cycles.specs.definitions.Row.{row-header, row}
+use Rattle.cycles.specs.definitions.Row.{row-header}
 use Rattle.cycles.specs.contracts.RowMemory.{Header-put}
-use Rattle.cycles.specs.definitions.StateImage.{STATE, state-of}
 use Rattle.values.specs.contracts.Puts.{Put}
 use Rattle.values.proofs.laws.PutLaws.{put-said, put-next, put-same}
 use Rattle.values.proofs.laws.FormLaws.{decimal-most}
 use Rattle.cycles.proofs.laws.RowPuts.{short-names}
-use Rattle.cycles.proofs.laws.ImageLaws.{is-there}
-use Rattle.engine.specs.contracts.LineMemory.{Record-taken, Short-row, after-line}
-use Rattle.engine.specs.definitions.Calls.{line-in-state}
+use Rattle.senders.specs.definitions.Sender.{State}
+use Rattle.senders.specs.definitions.Line.{line}
+use Rattle.senders.specs.definitions.Follow.{fresh}
+use Rattle.senders.specs.definitions.Turns.{state-after}
+use Rattle.senders.specs.definitions.Fingerprint.{fingerprint}
+use Rattle.senders.specs.definitions.StateImage.{state-of}
+use Rattle.senders.proofs.laws.StateLaws.{is-there}
+use Rattle.engine.specs.contracts.LineMemory.{Short-row, after-line, line-in-memory, Record-taken}
+use Rattle.engine.specs.definitions.Calls.{line-row}
 use Rattle.engine.specs.declared.line.Taken.{Taken}
 use Rattle.engine.specs.declared.line.Taken.the-variants.{Refused, Row}
 use Rattle.replay.specs.definitions.Replay.{REFUSED, refusal, bench-refusal, row-for}
@@ -161,7 +159,7 @@ module _ (m : Bench-memory) (line columns state out : List ℕ) (used : ℕ) whe
       unfolding prints names-row awaited-after awaited-under
       names-taken h room after fits (names f) q = go (q .file-stands) (q .state-is)
         where
-          go : {f : File} → Stands-for m f → state-of f state ≡ some (fresh f)
+          go : {f : File} → Stands-for m f → state-of (fingerprint (m .text)) f state ≡ some (fresh f)
               → Takes m (names f) line out used new-columns state (set (take used out ++ (new ++ after)) (used + n) 10) (Values count) (used + n + 1)
           go (stands-for b) is =
               let k = header-some r h b in
@@ -198,14 +196,16 @@ values-known m count columns state s h = go (s .awaits) (s .stands)
     go : (a : Awaits) → Stands m a (Values count) columns state → (count ≤ length columns) × ((k : ℕ) → k < count → getD columns k 0 < NO-COLUMN)
     go (values f ns t) q = (omega (arith, q .few), q .known)
 
-module _ (m : Bench-memory) (count : ℕ) (line columns state out : List ℕ) (used : ℕ) (room : STATE ≤ length state)
+module _ (m : Bench-memory) (count : ℕ) (line columns state out : List ℕ) (used : ℕ)
     {lent new-state new-row : List ℕ} {r : Taken}
     (t : Record-taken (m .classes) (m .literals) (m .d) (m .refs) (m .scopes) columns count line state lent new-state new-row r) where
   module _ (b : Resolved m) (ns : List ℕ) (s : State) (q : At-values m (file-in b) ns s count columns state) where
-    is-answer : after-line r new-state new-row ≡ line-in-state (file-in b) (state-of (file-in b) state) state ns line lent
-    is-answer = t .is (m .text) (m .offsets) (m .lengths) b (is-there (file-in b) state (q .state-is)) ns (q .cs) (q .header-is) (q .columns-are)
+    is-answer : after-line r new-state new-row ≡ line-in-memory (m .text) (file-in b) state ns line lent
+    is-answer =
+        t .is (m .text) (m .offsets) (m .lengths) b (is-there (fingerprint (m .text)) (file-in b) state (q .state-is)) ns (q .cs) (q .header-is)
+        (q .columns-are)
 
-    still-there : {new : State} → state-of (file-in b) new-state ≡ some new → At-values m (file-in b) ns new count columns new-state
+    still-there : {new : State} → state-of (fingerprint (m .text)) (file-in b) new-state ≡ some new → At-values m (file-in b) ns new count columns new-state
     still-there e = record {
       file-stands = q .file-stands;
       state-is = e;
@@ -216,17 +216,14 @@ module _ (m : Bench-memory) (count : ℕ) (line columns state out : List ℕ) (u
       known = q .known;
     }
 
-    ok : file-verdict (file-in b) ≡ Verdict.accepted (file-in b)
-    ok = accepted-verdict (m .text) (b .checked .accepts)
-
     row-of-values : (rest : List ℕ) (n : ℕ) → r ≡ Row n → used ≤ length out → n < length new-row
         → Takes m (values (file-in b) ns s) line out used columns new-state (set (take used out ++ (new-row ++ rest)) (used + n) 10)
         (Values count) (used + n + 1)
-    unfolding prints awaited-after row-for state-after
+    unfolding prints awaited-after row-for state-after line-row
     row-of-values rest n e h i =
-        let g = taken-row (file-in b) ok ns s state (q .state-is) room line lent {new-state = new-state} {new-row = new-row} (rw e at is-answer) in
+        let g = taken-row b ns s state (q .state-is) line lent {new-state = new-state} {new-row = new-row} (rw e at is-answer) in
         record {
-          appended = rw (g .line-is) (row-appended out used (row (file-in b) (follow (file-in b) s (g .read))) new-row rest n h i (g .row-is));
+          appended = rw (g .line-is) (row-appended out used (line-row (file-in b) s (g .read)) new-row rest n h i (g .row-is));
           stands = rw (g .line-is) (still-there (g .state-is));
         }
 
@@ -235,7 +232,7 @@ module _ (m : Bench-memory) (count : ℕ) (line columns state out : List ℕ) (u
         → Takes m (values (file-in b) ns s) line out used columns new-state o2 (Values count) end
     unfolding prints awaited-after row-for state-after
     refusal-of-values rest code e small h i x =
-        let g = taken-refused (file-in b) ok ns s state (q .state-is) room line lent {new-state = new-state} {new-row = new-row} small (rw e at is-answer) in
+        let g = taken-refused b ns s state (q .state-is) line lent {new-state = new-state} {new-row = new-row} small (rw e at is-answer) in
         let k = refusal-most code in
         let l = length-append (refusal code) (10 ∷ []) in
         let same : take used (take used out ++ rest) ≡ take used out = take-at (take used out) rest used (length-take-le used out i) in

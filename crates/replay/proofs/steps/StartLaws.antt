@@ -1,29 +1,27 @@
 -- The start: a bench that is refused, and one that is accepted and stands in the columns with its fresh state.
-use Prim.Native.Nat.{ℕ, _+_, _-_, _≤_, _<_}
+use Prim.Native.Nat.{ℕ, _-_, _≤_}
 use native.Mathlib.Omega.{arith}
-use mathlib.Core.Path.{_≡_, refl, sym, ap, _∙_, subst}
+use mathlib.Core.Path.{_≡_, subst}
 use mathlib.Core.List.{List, [], _∷_, _++_}
-use mathlib.Core.Option.{some}
 use lib.ListN.{length, take, length-append}
-use Rattle.values.specs.definitions.Forms.{decimal}
 use Rattle.text.specs.contracts.TokenTable.{Token-columns, columns-of}
 use Rattle.checking.specs.declared.check.Checked.{Checked}
 use Rattle.checking.specs.declared.check.Checked.the-variants as checked-as
-use Rattle.checking.specs.definitions.Verdict.{Verdict, verdict}
 use Rattle.checking.specs.contracts.CheckedBench.{Checks}
 use Rattle.checking.specs.contracts.Resolution.{Resolves}
 use Rattle.checking.proofs.laws.VerdictLaws.{accepted-verdict}
 use Rattle.checking.proofs.laws.AcceptedLaws.{within-counts}
-use Rattle.cycles.specs.definitions.Cycle.{fresh}
-use Rattle.cycles.specs.contracts.FreshMemory.{Fresh-put}
-use Rattle.cycles.specs.definitions.StateImage.{STATE, state-of}
 use Rattle.values.specs.contracts.Puts.{Put}
-use Rattle.cycles.proofs.laws.ImageLaws.{state-written}
 use Rattle.values.proofs.laws.FormLaws.{decimal-most}
-use Rattle.cycles.proofs.laws.SoundCycle.{fresh-sound}
+use Rattle.senders.specs.definitions.Follow.{fresh}
+use Rattle.senders.specs.definitions.Fingerprint.{fingerprint}
+use Rattle.senders.specs.contracts.RowMemory.{Fresh-state-put}
+use Rattle.senders.proofs.laws.SoundFollow.{fresh-sound}
+use Rattle.senders.proofs.laws.StateLaws.{state-written}
+use Rattle.senders.proofs.laws.StandsLaws.{fingerprint-below}
 use Rattle.engine.proofs.laws.ServingLaws.{accepted-says, refused-says}
-use Rattle.replay.specs.definitions.Replay.{refusal, bench-refusal}
-use Rattle.replay.specs.contracts.Awaiting.{opening, awaited-first, Bench-memory, bench-memory, Resolved, file-in, Stands-for, At-names, Stands}
+use Rattle.replay.specs.definitions.Replay.{bench-refusal}
+use Rattle.replay.specs.contracts.Awaiting.{opening, awaited-first, bench-memory, Resolved}
 use Rattle.replay.specs.contracts.Awaiting.Stands-for.{stands-for}
 use Rattle.replay.specs.contracts.Feeding.{ROOM, Starts}
 use Rattle.replay.specs.declared.Stage.the-variants.{Names, Closed}
@@ -55,13 +53,14 @@ module _ {text d e classes offsets lengths literals : List ℕ} {t : Token-colum
   -- the rows as code lends them
   pub accepted-starts : {n : ℕ} → r ≡ checked-as.Accepted n → {old-refs old-scopes : List ℕ}
       → Resolves text (take (n - 0) classes) offsets lengths e old-refs old-scopes refs scopes
-      → (state out : List ℕ) → STATE ≤ length state → {new-state : List ℕ} → Fresh-put text (take (n - 0) classes) offsets lengths literals e state new-state
+      → (state out : List ℕ) {new-state : List ℕ} {print : ℕ} → print ≡ fingerprint text
+      → Fresh-state-put text (take (n - 0) classes) offsets lengths literals e print state new-state
       → Starts text classes offsets lengths literals e refs scopes new-state out (record { rows = n; stage = Names; used = 0 })
   unfolding opening awaited-first
-  accepted-starts {n} q {old-refs} {old-scopes} resolves0 state out room {new-state} fresh0 =
+  accepted-starts {n} q {old-refs} {old-scopes} resolves0 state out {new-state} {print} p fresh0 =
       let z : n - 0 ≡ n = omega arith in
       let resolves = subst (λ (x : ℕ). Resolves text (take x classes) offsets lengths e old-refs old-scopes refs scopes) z resolves0 in
-      let puts = subst (λ (x : ℕ). Fresh-put text (take x classes) offsets lengths literals e state new-state) z fresh0 in
+      let puts = subst (λ (x : ℕ). Fresh-state-put text (take x classes) offsets lengths literals e print state new-state) z fresh0 in
       let a = accepted-says {text = text} {d = e} {u = columns-of classes offsets lengths literals} q (checks .says) in
       let c = a .stands in
       let f = c .bench .file in
@@ -74,6 +73,8 @@ module _ {text d e classes offsets lengths literals : List ℕ} {t : Token-colum
         opened = rw (c .accepts);
         stands = λ columns. rw (c .accepts) (record {
           file-stands = stands-for b;
-          state-is = rw (puts .is (c .bench) (c .few) (c .valued)) (state-written f counts (fresh f) (fresh-sound text f (c .accepts)) state room);
+          state-is =
+              rw (puts .is (c .bench) (c .few) (c .valued), p)
+              (state-written f counts (fingerprint text) (fingerprint-below text) (fresh f) (fresh-sound text f (c .accepts)) state);
         });
       }

@@ -7,15 +7,17 @@ use mathlib.Core.Option.{Option, none, some}
 use lib.ListN.{getD}
 use Rattle.text.specs.definitions.Syntax.{File}
 use Rattle.checking.specs.definitions.Verdict.{Verdict}
-use Rattle.cycles.specs.definitions.Store.{State}
-use Rattle.cycles.specs.definitions.Cycle.{fresh}
 use Rattle.cycles.specs.definitions.Header.{Column, header}
 use Rattle.cycles.specs.contracts.HeaderReads.{MOST-COLUMNS, NO-COLUMN, column-number, backwards}
-use Rattle.cycles.specs.definitions.Line.{line}
-use Rattle.cycles.specs.definitions.Readings.{lines, state-after}
+use Rattle.cycles.specs.definitions.Readings.{lines}
 use Rattle.cycles.specs.definitions.Row.{row-header}
-use Rattle.cycles.specs.definitions.StateImage.{state-of}
-use Rattle.days.specs.contracts.Advancing.{Resolved-bench}
+use Rattle.senders.specs.definitions.Sender.{State}
+use Rattle.senders.specs.definitions.Line.{line}
+use Rattle.senders.specs.definitions.Follow.{fresh}
+use Rattle.senders.specs.definitions.Turns.{state-after}
+use Rattle.senders.specs.definitions.Fingerprint.{fingerprint}
+use Rattle.senders.specs.definitions.StateImage.{state-of}
+use Rattle.senders.specs.contracts.Advancing.{Resolved-bench}
 use Rattle.replay.specs.definitions.Replay.{refusal, bench-refusal, row-for}
 use Rattle.replay.specs.declared.Stage.{Stage}
 use Rattle.replay.specs.declared.Stage.the-variants.{Names, Values, Closed}
@@ -119,12 +121,12 @@ pub data Stands-for (m : Bench-memory) : File → Type 0 where
 
 pub record At-names (m : Bench-memory) (f : File) (state : List ℕ) : Type 0 where
   pub file-stands : Stands-for m f
-  pub state-is : state-of f state ≡ some (fresh f)
+  pub state-is : state-of (fingerprint (m .text)) f state ≡ some (fresh f)
 
 -- `columns` has the numbers of the header's columns
 pub record At-values (m : Bench-memory) (f : File) (ns : List ℕ) (s : State) (count : ℕ) (columns state : List ℕ) : Type 0 where
   pub file-stands : Stands-for m f
-  pub state-is : state-of f state ≡ some s
+  pub state-is : state-of (fingerprint (m .text)) f state ≡ some s
   pub cs : List Column
   pub header-is : header f ns ≡ some cs
   pub columns-are : map column-number cs ≡ backwards count columns

@@ -8,7 +8,7 @@ use lib.ListN.{length, getD, take, drop}
 use Rattle.checking.specs.definitions.Verdict.{verdict}
 use Rattle.cycles.specs.contracts.HeaderReads.{MOST-COLUMNS}
 use Rattle.cycles.specs.definitions.Readings.{Part-of-line}
-use Rattle.cycles.specs.definitions.StateImage.{STATE}
+use Rattle.senders.specs.definitions.StateImage.{STATE}
 use Rattle.cycles.specs.definitions.Header.{MOST-HEADER-BYTES}
 use Rattle.cycles.specs.definitions.Row.{MOST-ROW-BYTES}
 use Rattle.replay.specs.contracts.Awaiting.{

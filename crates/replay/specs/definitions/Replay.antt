@@ -6,12 +6,15 @@ use mathlib.Core.Option.{Option, none, some}
 use Rattle.values.specs.definitions.Forms.{decimal, decimal-digits, digit-byte}
 use Rattle.text.specs.definitions.Syntax.{File}
 use Rattle.checking.specs.definitions.Verdict.{Verdict, verdict}
-use Rattle.cycles.specs.definitions.Store.{State, Line}
-use Rattle.cycles.specs.definitions.Cycle.{fresh}
 use Rattle.cycles.specs.definitions.Header.{Column, header}
-use Rattle.cycles.specs.definitions.Line.{Answer, refused, accepted}
-use Rattle.cycles.specs.definitions.Readings.{lines, header-line, record-lines, Turn, turns}
-use Rattle.cycles.specs.definitions.Row.{row-header, row}
+use Rattle.cycles.specs.definitions.Readings.{lines, header-line, record-lines}
+use Rattle.cycles.specs.definitions.Row.{row-header}
+use Rattle.senders.specs.definitions.Sender.{State}
+use Rattle.senders.specs.definitions.Answer.{Answer, refused, accepted}
+use Rattle.senders.specs.definitions.Line.{Accepted, its-line}
+use Rattle.senders.specs.definitions.Follow.{fresh}
+use Rattle.senders.specs.definitions.Row.{sender-row}
+use Rattle.senders.specs.definitions.Turns.{Turn, turns}
 
 -- "refused "
 abbrev pub REFUSED : List ℕ
@@ -27,18 +30,19 @@ unfoldable pub bench-refusal : ℕ → ℕ → List ℕ
 unfolding refusal
 bench-refusal code at = refusal code ++ 32 ∷ decimal at
 
--- "per line the number and each fired value ..; a refused line prints `refused` and the refusal's number"
-unfoldable pub row-for : File → Answer Line → State → List ℕ
-unfolding refusal row
+-- "per line the number and each fired value ..; a refused line prints `refused` and the refusal's number"; "Rows begin with sender and number too"
+-- (document 02, order 5)
+unfoldable pub row-for : File → Answer Accepted → State → List ℕ
+unfolding refusal sender-row its-line
 row-for f (refused code) after = refusal code
-row-for f (accepted l) after = row f after
+row-for f (accepted a) after = sender-row f after (its-line a .sender)
 
 -- a row for each record, in its turn
 unfoldable pub rows : File → List Turn → List ℕ
 unfolding flatMap row-for
 rows f ts = flatMap (λ t. row-for f (t .answer) (t .after) ++ 10 ∷ []) ts
 
--- "It prints `n` and every action cell ..; a refused line of names `refused 22`; then nothing"; from a fresh state
+-- "It prints `by n` and every action cell ..; a refused line of names `refused 22`; then nothing"; from a fresh state
 unfoldable pub rows-under : File → List ℕ → Option (List Column) → List (List ℕ) → List ℕ
 unfolding refusal row-header rows turns fresh
 rows-under f names none values = refusal 22 ++ 10 ∷ []

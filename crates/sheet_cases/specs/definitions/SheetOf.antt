@@ -2,10 +2,11 @@
 use Prim.Native.Nat.{ℕ}
 use mathlib.Core.List.{List, [], _∷_}
 use Rattle.checking.specs.definitions.Verdict.{Verdict, verdict}
-use Rattle.cycles.specs.definitions.Store.{State}
-use Rattle.cycles.specs.definitions.Cycle.{fresh}
-use Rattle.cycles.specs.definitions.Line.{Answer, refused}
-use Rattle.cycles.specs.definitions.Readings.{lines, header-line, record-lines, Turn, turns}
+use Rattle.cycles.specs.definitions.Readings.{lines, header-line, record-lines}
+use Rattle.senders.specs.definitions.Sender.{State}
+use Rattle.senders.specs.definitions.Answer.{Answer, refused}
+use Rattle.senders.specs.definitions.Follow.{fresh}
+use Rattle.senders.specs.definitions.Turns.{Turn, turns}
 use Rattle.days.specs.definitions.DaySheet.{sheet-in}
 
 -- the state that records leave

@@ -4,7 +4,7 @@ use Prim.Native.String.{String}
 use mathlib.Core.List.{List, [], _∷_, _++_, map}
 use lib.ListN.{take, replicate}
 use Rattle.text.specs.definitions.Bytes.{ascii}
-use Rattle.cycles.specs.definitions.StateImage.{STATE}
+use Rattle.senders.specs.definitions.StateImage.{STATE}
 use Rattle.engine.specs.definitions.BenchImage.{BENCH}
 use Rattle.engine.specs.definitions.Calls.{ROW, check-call, fresh-call, header-call, row-call, After-check, After-fresh, After-line, After-row}
 use Rattle.engine.specs.definitions.Runs.{Request, replies}
@@ -72,12 +72,12 @@ unfoldable pub memory-after : List ℕ → List After-line → List ℕ
 memory-after m [] = m
 memory-after m (r ∷ rs) = memory-after (r .state) rs
 
--- the row call after these lines
-unfoldable pub row-call-printed : List ℕ → String → List String → Printed
+-- the row call for a sender after these lines
+unfoldable pub row-call-printed : List ℕ → String → List String → String → Printed
 unfolding printed-by row-call replies bench-memory state-memory memory-after asked ascii
-row-call-printed text names values =
+row-call-printed text names values sender =
     let rs = replies (bench-memory text) (state-memory text) (map (asked (ascii names)) values) in
-    let r = row-call (bench-memory text) (memory-after (state-memory text) rs) (replicate ROW 0) in
+    let r = row-call (bench-memory text) (memory-after (state-memory text) rs) (ascii sender) (replicate ROW 0) in
     printed-by (r .answer) (r .row)
 
 unfoldable pub row-printed : String → Printed

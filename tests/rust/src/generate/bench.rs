@@ -11,7 +11,7 @@ pub const KINDS: [Kind; 3] = [Kind::Whole, Kind::Bool, Kind::Real];
 const COMMENT_BYTES: usize = 14;
 
 /// Few short names for everything, so that names of different things often meet; some look like reserved words or numbers.
-const NAMES: [&str; 22] = [
+const NAMES: [&str; 23] = [
     "a",
     "b",
     "c",
@@ -21,6 +21,7 @@ const NAMES: [&str; 22] = [
     "g",
     "h",
     "n",
+    "by",
     "x",
     "y",
     "r",

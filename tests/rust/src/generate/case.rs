@@ -20,7 +20,9 @@ pub enum Call {
     Check,
     Fresh,
     Header,
-    Row,
+    Row {
+        sender: Vec<u8>,
+    },
     Line {
         names: Vec<u8>,
         values: Vec<u8>,

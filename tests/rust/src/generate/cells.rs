@@ -52,13 +52,13 @@ pub fn damaged(prng: &mut Prng, plan: &Plan, cells: &[PlanCell]) -> Vec<u8> {
     let mut names: Vec<String> = cells.iter().map(|&cell| name(plan, cell)).collect();
     let some = if names.is_empty() { "a.b".to_string() } else { prng.pick(&names).clone() };
     let at = prng.below(names.len() + 1);
-    match prng.below(15) {
+    match prng.below(16) {
         0 => names.clear(),
         1 => {
             let more = prng.weighted(&[70, 20, 10]) + 1;
             names.resize(MOST + more, some);
         }
-        2 => names.extend([String::new(), some]),
+        2 | 15 => names.extend([String::new(), some]),
         3 => names.insert(0, String::new()),
         4 => names.push(String::new()),
         5 => names.insert(at, prng.pick(&["nobody.x", "Nobody.y", "q.q"]).to_string()),

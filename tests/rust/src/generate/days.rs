@@ -5,7 +5,7 @@ use super::cells::PlanCell;
 use super::lines::{self, Column, Line};
 use super::prng::Prng;
 use super::run::Run;
-use super::states::last_line;
+use super::senders;
 use crate::interpreter::machine::State;
 use crate::interpreter::value::Kind;
 
@@ -37,13 +37,12 @@ struct Day<'p> {
     /// The entities whose presence is read.
     switchable: Vec<usize>,
     zeros: Option<&'static [f64]>,
-    /// The lent state's last line comes first.
+    /// The last line that the lent state keeps of some sender comes first.
     resent_first: bool,
 }
 
 impl<'p> Day<'p> {
     fn new(prng: &mut Prng, plan: &'p Plan, state: &State, cells: &[PlanCell]) -> Day<'p> {
-        let last = last_line(state);
         let mut columns = lines::some_columns(prng, plan);
         for &(entity, _) in cells {
             if prng.chance(60) {
@@ -54,15 +53,18 @@ impl<'p> Day<'p> {
                 columns.retain(|column| *column != Column::Presence(entity));
             }
         }
-        let resent_first = state.number > 0 && prng.chance(35);
+        let count = *prng.pick(&[1, 1, 2, 3]);
+        let mut run = Run::with(plan, Vec::new(), senders::some(prng, plan, count));
+        run.follow(state);
+        let resent_first = !run.known.is_empty() && prng.chance(45);
         if resent_first {
-            add_read_columns(prng, &last, &mut columns);
+            run.known.iter().for_each(|sent| add_read_columns(prng, &sent.last, &mut columns));
         }
-        let last = on_columns(&last, &columns);
+        run.known.iter_mut().for_each(|sent| sent.last = on_columns(&sent.last, &columns));
         let presence = |column: &Column| matches!(column, Column::Presence(_)).then(|| column.entity());
         let switchable = columns.iter().filter_map(presence).collect();
         let zeros = prng.chance(30).then(|| *prng.pick(&ZEROS));
-        let run = Run::resume(plan, columns, state.now.present.clone(), u64::from(state.number), last);
+        run.columns = columns;
         Day { run, switchable, zeros, resent_first }
     }
 
@@ -73,7 +75,7 @@ impl<'p> Day<'p> {
     fn records(&mut self, prng: &mut Prng, most: usize) -> Vec<Vec<u8>> {
         let mut records = Vec::new();
         if self.resent_first {
-            records.push(self.run.again());
+            records.push(self.run.again(prng));
         }
         let count = if prng.chance(7) { 0 } else { prng.between(1, most) };
         records.extend((0..count).map(|_| self.record(prng)));
@@ -82,13 +84,15 @@ impl<'p> Day<'p> {
 
     /// A valid line mostly, else a resent or damaged one.
     fn record(&mut self, prng: &mut Prng) -> Vec<u8> {
-        match prng.weighted(&[72, 8, 4, 4, 4, 5, 3]) {
+        self.run.pass(prng);
+        match prng.weighted(&[71, 9, 4, 4, 4, 4, 2, 2]) {
             0 => self.next(prng),
-            1 => self.run.again(),
+            1 => self.run.again(prng),
             2 => self.run.other_readings(prng).1,
             3 => self.run.other_number(prng).1,
             4 => self.run.bad_values(prng).1,
             5 => self.run.bad_field(prng).1,
+            6 => self.run.bad_sender(prng).1,
             _ => Vec::new(),
         }
     }
@@ -96,9 +100,10 @@ impl<'p> Day<'p> {
     fn next(&mut self, prng: &mut Prng) -> Vec<u8> {
         let switched =
             if prng.chance(12) { lines::to_switch(prng, self.run.plan, &self.run.present, self.switchable.clone()) } else { None };
-        let mut line = lines::line_switching(prng, self.run.plan, &self.run.columns, &mut self.run.present, switched);
+        let mut present = self.run.present.clone();
+        let mut line = lines::line_switching(prng, self.run.plan, &self.run.columns, &mut present, switched);
         self.put_zeros(prng, &mut line);
-        self.run.go_on(line)
+        self.run.go_on(line, present)
     }
 
     /// Where reals are read, reads those of `zeros`.

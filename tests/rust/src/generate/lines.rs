@@ -19,7 +19,7 @@ impl Column {
     }
 }
 
-/// A line as columns with their fields; the number stands apart.
+/// A line as columns with their fields; sender and number stand apart.
 #[derive(Clone, Debug, Default)]
 pub struct Line {
     pub columns: Vec<Column>,
@@ -28,7 +28,7 @@ pub struct Line {
 
 impl Line {
     pub fn names(&self, plan: &Plan) -> Vec<u8> {
-        let mut names = "n".to_string();
+        let mut names = "by n".to_string();
         for column in &self.columns {
             names.push(' ');
             match *column {
@@ -41,13 +41,14 @@ impl Line {
         names.into_bytes()
     }
 
-    pub fn values(&self, number: u64) -> Vec<u8> {
-        let mut values = number.to_string();
+    pub fn values(&self, sender: &[u8], number: u64) -> Vec<u8> {
+        let mut values = sender.to_vec();
+        values.extend_from_slice(format!(" {number}").as_bytes());
         for field in &self.fields {
-            values.push(' ');
-            values.push_str(field);
+            values.push(b' ');
+            values.extend_from_slice(field.as_bytes());
         }
-        values.into_bytes()
+        values
     }
 }
 
@@ -188,7 +189,7 @@ pub fn same_readings(prng: &mut Prng, plan: &Plan, line: &Line) -> Line {
 /// Ill formed names: 22, mostly.
 pub fn damage_names(prng: &mut Prng, plan: &Plan, names: &mut Vec<u8>) {
     let at = prng.below(names.len() + 1);
-    match prng.below(13) {
+    match prng.below(18) {
         0 => names.insert(at, b' '),
         1 => names.push(b' '),
         2 => names.extend_from_slice(b" nobody"),
@@ -197,15 +198,44 @@ pub fn damage_names(prng: &mut Prng, plan: &Plan, names: &mut Vec<u8>) {
         5 => names.insert(at, *prng.pick(b"\n\t\r.n\0#")),
         6 => double_field(prng, names),
         7 => *names = prng.bytes(at),
-        8 => names[0] = *prng.pick(b"N1m "),
-        9 => names.extend_from_slice(b" n"),
+        8 => names[0] = *prng.pick(b"B1m "),
+        9 => names.extend_from_slice(prng.pick(&[" n", " by", " by n"]).as_bytes()),
         10 => lengthen(prng, names, 32_768),
         11 => names.clear(),
-        _ => {
+        12 => {
             let byte = prng.below(names.len());
             names[byte] = prng.draw() as u8;
         }
+        _ => damage_head(prng, names),
     }
+}
+
+/// Ill formed names that do not begin `by n`, or that have it twice: 22, but for the one with a column `n` or `by`.
+pub fn damage_head(prng: &mut Prng, names: &mut Vec<u8>) {
+    const HEADS: [&str; 20] = [
+        "n",
+        "by",
+        "by",
+        "",
+        "n by",
+        "by by",
+        "n n",
+        "by by n",
+        "by n n",
+        "by n by",
+        "by n by n",
+        "By n",
+        "by N",
+        "by  n",
+        "byn",
+        "by\tn",
+        " by n",
+        "by m",
+        "b n",
+        "by. n",
+    ];
+    let end = if prng.chance(35) { names.len() } else { "by n".len().min(names.len()) };
+    names.splice(..end, prng.pick(&HEADS).bytes());
 }
 
 /// An attribute or action as a column, or a member of another entity.
@@ -240,19 +270,30 @@ fn lengthen(prng: &mut Prng, bytes: &mut Vec<u8>, most: usize) {
 /// Ill formed values: 21, mostly.
 pub fn damage_values(prng: &mut Prng, values: &mut Vec<u8>) {
     let at = prng.below(values.len() + 1);
-    match prng.below(12) {
+    // Sender and number are the first fields.
+    let number = values.iter().position(|&byte| byte == b' ').map_or(0, |space| space + 1);
+    let end = values[number..].iter().position(|&byte| byte == b' ').map_or(values.len(), |space| number + space);
+    match prng.below(16) {
         0 => values.insert(at, b' '),
         1 => values.push(b' '),
         2 => values.extend_from_slice(b" -"),
-        3 => values.insert(0, b'0'),
-        4 => values.insert(0, *prng.pick(b" +-xn")),
+        3 => values.insert(number, b'0'),
+        4 => values.insert(number, *prng.pick(b" +-xn")),
         5 => values.insert(at, *prng.pick(b"\n\t\r\0")),
         6 => values.truncate(at),
         7 => values.clear(),
         8 => lengthen(prng, values, 8_192),
         9 => *values = prng.bytes(at),
-        10 => drop(values.splice(0..0, *b"12345678901")),
-        _ => drop_byte(prng, values),
+        10 => drop(values.splice(number..number, *b"12345678901")),
+        11 => drop_byte(prng, values),
+        // No sender, an empty one, no number, the two in the other order.
+        12 => drop(values.drain(..number)),
+        13 => drop(values.drain(..number.saturating_sub(1))),
+        14 => drop(values.drain(number.saturating_sub(1)..end)),
+        _ => {
+            let swapped = [&values[number..end], b" ", &values[..number.saturating_sub(1)], &values[end..]].concat();
+            *values = swapped;
+        }
     }
 }
 

@@ -1,6 +1,8 @@
-//! Seeded cases: valid benches and readings, damage in every way of document 01's table, limits, random bytes; sheets in between. Texts
-//! with bytes put in are cases of their own.
+//! Seeded cases: valid benches and readings of several senders, damage in every way of document 01's table, limits, random bytes; in
+//! between sheets, and calls about senders that leave the state alone. Texts with bytes put in and states with a part spoilt are cases of
+//! their own.
 
+pub mod agains;
 pub mod bench;
 pub mod case;
 pub mod cells;
@@ -10,9 +12,12 @@ pub mod limits;
 pub mod lines;
 pub mod places;
 pub mod prng;
+pub mod probes;
 pub mod quotients;
 pub mod run;
+pub mod senders;
 pub mod sheets;
+pub mod spoils;
 pub mod states;
 
 use bench::{Size, LARGE, LOOSE, SMALL};
@@ -20,10 +25,16 @@ use case::{Call, Case, Lent, Step, EXACT, LONGER_MOST};
 use prng::Prng;
 use run::Run;
 
-use crate::image::BENCH_SIZE;
+use crate::image::{self, BENCH_SIZE};
+use crate::interpreter::accept;
+use crate::interpreter::grammar::Bench;
+use crate::interpreter::machine::State;
+use crate::interpreter::text::TEXT_MOST;
+use crate::memory::{Memory, OURS};
 
-/// Sheets are drawn from a source of their own, so that the other steps of a case stay what they are without them.
+/// Sheets and probes are drawn from sources of their own, so that the other steps of a case stay what they are without them.
 const SHEETS: u64 = 0x0073_6865_6574_0000;
+const PROBES: u64 = 0x7072_6f62_6500_0000;
 
 /// The case of this number.
 pub fn case(seed: u64, number: u64) -> Case {
@@ -34,9 +45,16 @@ pub fn case(seed: u64, number: u64) -> Case {
 
 /// The same case without its sheets.
 pub fn without_sheets(seed: u64, number: u64) -> Case {
+    let mut case = plain(seed, number);
+    probes::put_in(&mut Prng::for_case(seed ^ PROBES, number), &mut case);
+    case
+}
+
+/// The same case without its sheets and probes.
+pub fn plain(seed: u64, number: u64) -> Case {
     let mut prng = Prng::for_case(seed, number);
     let prng = &mut prng;
-    let (text, calls) = match prng.weighted(&[40, 22, 7, 5, 3, 5, 10, 4, 4]) {
+    let (text, calls) = match prng.weighted(&[40, 19, 6, 4, 3, 4, 14, 5, 5]) {
         0 => readings(prng, SMALL, 12),
         1 => damaged(prng),
         2 => from_words(prng, limits::counted),
@@ -75,22 +93,31 @@ fn sometimes_short(prng: &mut Prng, lent: Lent) -> Lent {
 
 type Made = (Vec<u8>, Vec<Call>);
 
+/// A run of so many senders has a line more for each.
+const MANY: usize = 4;
+
 /// A valid bench with a run of lines, most of them valid.
 fn readings(prng: &mut Prng, size: Size, lines: usize) -> Made {
     let plan = bench::bench(prng, size);
     let text = bench::render(prng, &plan.words);
     let mut calls = vec![Call::Check, Call::Fresh, Call::Header];
-    let count = prng.between(1, lines);
     let mut run = Run::new(&plan, prng);
+    // Many senders have many lines, as each shall send one.
+    let count = prng.between(1, lines) + if run.names.len() >= MANY { run.names.len() } else { 0 };
     calls.extend((0..count).map(|_| run.call(prng)));
-    calls.push(Call::Row);
+    calls.push(row(&run));
     (text, calls)
+}
+
+/// The row of who sent last.
+fn row(run: &Run) -> Call {
+    Call::Row { sender: run.sender().to_vec() }
 }
 
 /// Calls on a text that is likely refused: the memory before it stays.
 fn checks(text: Vec<u8>) -> Made {
-    let line = Call::Line { names: b"n".to_vec(), values: b"1".to_vec() };
-    (text, vec![Call::Check, Call::Fresh, Call::Header, line, Call::Row])
+    let line = Call::Line { names: b"by n".to_vec(), values: b"a 1".to_vec() };
+    (text, vec![Call::Check, Call::Fresh, Call::Header, line, Call::Row { sender: b"a".to_vec() }])
 }
 
 fn from_words(prng: &mut Prng, make: fn(&mut Prng) -> Vec<String>) -> Made {
@@ -151,31 +178,59 @@ fn random_text(prng: &mut Prng) -> Made {
     checks(text)
 }
 
+/// Calls with the memory that they are lent, as far as it can be told before their sizes are drawn.
+struct Told {
+    text: Vec<u8>,
+    calls: Vec<Call>,
+    memory: Memory,
+}
+
+impl Told {
+    fn new(text: Vec<u8>) -> Told {
+        Told { text, calls: Vec::new(), memory: Memory::new(0) }
+    }
+
+    fn push(&mut self, call: Call) {
+        let step = Step { call, lent: EXACT };
+        OURS.answer(&self.text, &step, &mut self.memory);
+        self.calls.push(step.call);
+    }
+
+    /// The state that the memory stands for, if it is one of this bench.
+    fn state(&self, bench: &Bench) -> Option<State> {
+        image::decode_state(bench, &self.memory.state)
+    }
+}
+
 /// A valid bench whose state memory is written by somebody else in between.
 fn odd_state(prng: &mut Prng) -> Made {
     let plan = bench::bench(prng, SMALL);
     let text = bench::render(prng, &plan.words);
-    let mut calls = vec![Call::Check, Call::Fresh];
+    let bench = accept(&text).expect("generated benches are valid");
+    let mut told = Told::new(text.clone());
+    [Call::Check, Call::Fresh].into_iter().for_each(|call| told.push(call));
     let mut run = Run::new(&plan, prng);
-    for _ in 0..prng.below(3) {
-        calls.push(run.call(prng));
+    for _ in 0..prng.below(5) {
+        told.push(run.call(prng));
     }
-    for _ in 0..prng.between(1, 3) {
-        calls.push(states::odd_state(prng, &text, plan.entities.len(), &mut run.number));
-        calls.push(Call::Row);
-        calls.extend(states::resend(prng, &plan, &text, calls.get(calls.len() - 2)));
-        for _ in 0..prng.between(1, 3) {
-            calls.push(run.call(prng));
+    for _ in 0..prng.between(2, 5) {
+        told.push(states::odd_state(prng, &bench, &told.memory.state));
+        if let Some(state) = told.state(&bench) {
+            run.follow(&state);
+        }
+        told.push(row(&run));
+        for _ in 0..prng.between(1, 2) {
+            told.push(run.call(prng));
         }
         if prng.chance(40) {
-            calls.push(Call::Fresh);
+            told.push(Call::Fresh);
             run.restart();
         }
     }
-    (text, calls)
+    (text, told.calls)
 }
 
-/// A valid bench whose image is then written over.
+/// A valid bench whose image is then written over, often by that of a text that is nearly the same.
 fn odd_bench(prng: &mut Prng) -> Made {
     let plan = bench::bench(prng, SMALL);
     let text = bench::render(prng, &plan.words);
@@ -183,10 +238,62 @@ fn odd_bench(prng: &mut Prng) -> Made {
     let mut run = Run::new(&plan, prng);
     calls.push(run.call(prng));
     for _ in 0..prng.between(1, 3) {
-        calls.push(odd_image(prng, &text));
-        calls.extend([Call::Header, run.call(prng), Call::Row, Call::Fresh, Call::Row]);
+        if prng.chance(50) {
+            calls.push(set_bench(&edited(prng, &plan, &text)));
+            let (names, values) = run.ahead(prng);
+            calls.extend([row(&run), Call::Line { names, values }]);
+            // The state is one of this text alone.
+            calls.push(set_bench(&text));
+        } else {
+            calls.push(odd_image(prng, &text));
+        }
+        calls.extend([Call::Header, run.call(prng), row(&run), Call::Fresh, row(&run)]);
     }
     (text, calls)
+}
+
+/// The image of a bench text, whether it is one or not.
+fn set_bench(text: &[u8]) -> Call {
+    let mut bytes = (text.len() as u32).to_le_bytes().to_vec();
+    bytes.extend_from_slice(text);
+    Call::SetBench { at: 0, bytes }
+}
+
+/// Another accepted text that is nearly this one: a name, a literal, a blank or a comment is another.
+fn edited(prng: &mut Prng, plan: &bench::Plan, text: &[u8]) -> Vec<u8> {
+    for _ in 0..20 {
+        let edited = match prng.below(5) {
+            0 => renamed(prng, plan),
+            1 => [text, prng.pick(&[" ", "\n", "#", "\t"]).as_bytes()].concat(),
+            2 => [prng.pick(&[" ", "\n", "#\n"]).as_bytes(), text].concat(),
+            3 => one_byte(prng, text, b" \n\t"),
+            _ => one_byte(prng, text, b"0123456789"),
+        };
+        if edited != text && edited.len() <= TEXT_MOST && accept(&edited).is_ok() {
+            return edited;
+        }
+    }
+    [b"\n", text].concat()
+}
+
+/// The words with one entity's name, wherever it stands for whatever, turned into another.
+fn renamed(prng: &mut Prng, plan: &bench::Plan) -> Vec<u8> {
+    let mut words = plan.words.clone();
+    if !plan.entities.is_empty() {
+        let name = &prng.pick(&plan.entities).name;
+        words.iter_mut().filter(|word| *word == name).for_each(|word| *word = "renamed".into());
+    }
+    words.join(" ").into_bytes()
+}
+
+/// Turns one of these bytes into another of them.
+fn one_byte(prng: &mut Prng, text: &[u8], bytes: &[u8]) -> Vec<u8> {
+    let places: Vec<usize> = (0..text.len()).filter(|&at| bytes.contains(&text[at])).collect();
+    let mut text = text.to_vec();
+    if !places.is_empty() {
+        text[*prng.pick(&places)] = *prng.pick(bytes);
+    }
+    text
 }
 
 fn odd_image(prng: &mut Prng, text: &[u8]) -> Call {
@@ -201,10 +308,7 @@ fn odd_image(prng: &mut Prng, text: &[u8]) -> Call {
         5 => {
             // Another bench, whose state this likely is not.
             let words = bench::bench(prng, SMALL).words;
-            let other = bench::render(prng, &words);
-            let mut bytes = (other.len() as u32).to_le_bytes().to_vec();
-            bytes.extend(other);
-            Call::SetBench { at: 0, bytes }
+            set_bench(&bench::render(prng, &words))
         }
         _ => Call::SetBench { at: 4 + text.len(), bytes: prng.bytes(1) },
     }

@@ -4,7 +4,7 @@ use super::bench::Plan;
 use super::case::{Call, Case, Step, EXACT, LONGER_MOST};
 use super::prng::Prng;
 use super::{cells, days, lent, sometimes_short};
-use crate::image::{self, SHEET_LEAST, SHEET_MORE};
+use crate::image::{self, sender_at, NUMBER_AT, SHEET_LEAST, SHEET_MORE};
 use crate::interpreter::accept;
 use crate::interpreter::grammar::Bench;
 use crate::interpreter::machine::{self, State};
@@ -12,8 +12,8 @@ use crate::memory::{Memory, OURS};
 
 /// So many of a hundred sheets for memory that holds no bench, or one without cells, are kept: all of them are refused by 32 or 41.
 const NO_CELL_PERCENT: usize = 10;
-/// So many of a hundred sheets start from a state whose last number is set to another.
-const OTHER_NUMBER_PERCENT: usize = 5;
+/// So many of a hundred sheets start from a state of which some sender's last number is set to another.
+const OTHER_NUMBER_PERCENT: usize = 8;
 /// The most lines of a day; of one with a great many; of one for a bench with many rules and entities.
 const LINES_MOST: usize = 12;
 const LINES_MOST_LONG: usize = 120;
@@ -54,16 +54,23 @@ fn places(prng: &mut Prng, steps: usize) -> Vec<usize> {
 
 /// A sheet for this memory, now and then with another last number; no step if it would only be one of too many refused ones.
 fn steps(prng: &mut Prng, text: &[u8], memory: &mut Memory) -> Vec<Step> {
-    if !prng.chance(OTHER_NUMBER_PERCENT) {
+    let Some(at) = number_place(prng, memory).filter(|_| prng.chance(OTHER_NUMBER_PERCENT)) else {
         return sheet(prng, text, memory).into_iter().collect();
-    }
-    let number = memory.state[..4].to_vec();
-    let set = |bytes: Vec<u8>| Step { call: Call::SetState { at: 0, bytes }, lent: EXACT };
+    };
+    let number = memory.state[at..at + 4].to_vec();
+    let set = |bytes: Vec<u8>| Step { call: Call::SetState { at, bytes }, lent: EXACT };
     let other = other_number(prng).to_le_bytes();
-    memory.state[..4].copy_from_slice(&other);
+    memory.state[at..at + 4].copy_from_slice(&other);
     let sheet = sheet(prng, text, memory);
-    memory.state[..4].copy_from_slice(&number);
+    memory.state[at..at + 4].copy_from_slice(&number);
     sheet.map_or(Vec::new(), |sheet| vec![set(other.to_vec()), sheet, set(number)])
+}
+
+/// Where the last number of some known sender stands, if there is one.
+fn number_place(prng: &mut Prng, memory: &Memory) -> Option<usize> {
+    let bench = image::decode_bench(&memory.bench).and_then(|text| accept(text).ok())?;
+    let senders = image::decode_state(&bench, &memory.state)?.senders.len();
+    (senders > 0).then(|| sender_at(bench.entities.len(), prng.below(senders)) + NUMBER_AT)
 }
 
 /// Numbers whose next ones have more digits, the last numbers, and any.
@@ -82,7 +89,7 @@ fn sheet(prng: &mut Prng, text: &[u8], memory: &Memory) -> Option<Step> {
     let state = held.as_ref().and_then(|bench| image::decode_state(bench, &memory.state));
     let call = match held.or_else(|| accept(text).ok()) {
         Some(bench) => call(prng, &bench, state),
-        None => Call::Sheet { readings: b"n\n1\n".to_vec(), cells: b"a.b".to_vec(), over: over(prng, 2) },
+        None => Call::Sheet { readings: b"by n\na 1\n".to_vec(), cells: b"a.b".to_vec(), over: over(prng, 2) },
     };
     let lent = lent(prng);
     Some(Step { call, lent: sometimes_short(prng, lent) })
@@ -95,7 +102,7 @@ fn call(prng: &mut Prng, bench: &Bench, state: Option<State>) -> Call {
     let chosen = cells::good(prng, &plan);
     let most = lines_most(prng, bench);
     let readings = days::text(prng, &plan, &state, &chosen, most);
-    let cells = if prng.chance(12) { cells::damaged(prng, &plan, &chosen) } else { cells::text(&plan, &chosen) };
+    let cells = if prng.chance(15) { cells::damaged(prng, &plan, &chosen) } else { cells::text(&plan, &chosen) };
     let feeds = readings.iter().filter(|&&byte| byte == b'\n').count();
     Call::Sheet { readings, cells, over: over(prng, feeds) }
 }

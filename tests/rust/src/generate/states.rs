@@ -4,49 +4,63 @@ use super::bench::Plan;
 use super::case::Call;
 use super::lines::{self, Column, Line};
 use super::prng::Prng;
-use crate::image::{self, state_bytes, STATE_SIZE};
-use crate::interpreter::accept;
+use super::{senders, spoils};
+use crate::image::{self, sender_at, state_bytes, COUNT_AT, NUMBER_AT, STATE_SIZE};
 use crate::interpreter::grammar::{Bench, Member, Sort};
-use crate::interpreter::machine::{Reading, Readings, State, Store};
+use crate::interpreter::line::SENDERS_MOST;
+use crate::interpreter::machine::{Reading, Readings, Sender, State, Store};
 use crate::interpreter::row::field;
 use crate::interpreter::value::{Cell, Kind, Value};
 
-/// Writes to the state's memory; `number` follows where the last number is set.
-pub fn odd_state(prng: &mut Prng, text: &[u8], entities: usize, number: &mut u64) -> Call {
-    let used = state_bytes(entities);
-    match prng.below(6) {
+/// Numbers that come near the last one, whose next ones have one more digit or byte, and the first.
+const NUMBERS: [u32; 11] = [1, 1, 2, 7, 9, 255, 256, 1_000, u32::MAX - 1, u32::MAX - 1, u32::MAX];
+
+/// Writes to the state's memory, which holds these bytes.
+pub fn odd_state(prng: &mut Prng, bench: &Bench, memory: &[u8]) -> Call {
+    let count = usize::from(memory[COUNT_AT]).min(SENDERS_MOST);
+    let used = state_bytes(bench.entities.len(), count);
+    match prng.weighted(&[5, 5, 15, 5, 30, 40]) {
         0 => Call::SetState { at: prng.below(used), bytes: prng.bytes(1) },
         1 => Call::SetState { at: prng.below(used), bytes: vec![prng.below(5) as u8] },
-        2 => {
-            let last = *prng.pick(&[u32::MAX, u32::MAX - 1, 0, 7, 255, 256]);
-            *number = u64::from(last);
-            Call::SetState { at: 0, bytes: last.to_le_bytes().to_vec() }
+        2 if count > 0 => {
+            let number = sender_at(bench.entities.len(), prng.below(count)) + NUMBER_AT;
+            Call::SetState { at: number, bytes: prng.pick(&NUMBERS).to_le_bytes().to_vec() }
         }
         3 => Call::SetState { at: 0, bytes: prng.bytes(STATE_SIZE) },
-        _ => any_state(prng, text, number),
+        4 if count > 0 && image::decode_state(bench, memory).is_some() => {
+            Call::SetState { at: 0, bytes: spoils::spoilt(prng, bench, memory[..used].to_vec()) }
+        }
+        _ => any_state(prng, bench),
     }
 }
 
-/// A random state of the bench, now and then with one cell spoilt or one attribute unset that had to be set one cycle before.
-fn any_state(prng: &mut Prng, text: &[u8], number: &mut u64) -> Call {
-    let Ok(bench) = accept(text) else { return Call::SetState { at: 0, bytes: prng.bytes(4) } };
-    let mut state = random_state(prng, &bench);
+/// A random state of the bench, often with something spoilt or one attribute unset that had to be set one cycle before.
+fn any_state(prng: &mut Prng, bench: &Bench) -> Call {
+    let mut state = random_state(prng, bench);
     let unset = prng.chance(20);
     if unset {
-        unset_before(prng, &bench, &mut state.before);
+        unset_before(prng, bench, &mut state.before);
     }
-    *number = u64::from(state.number);
-    let mut bytes = vec![0; state_bytes(bench.entities.len())];
-    image::encode_state(&state, &mut bytes);
-    if !unset && prng.chance(40) {
-        spoil(prng, bench.entities.len(), &mut bytes);
+    let mut bytes = image::state_image(bench, &state);
+    if !unset && prng.chance(50) {
+        bytes = spoils::spoilt(prng, bench, bytes);
     }
     Call::SetState { at: 0, bytes }
 }
 
-fn random_state(prng: &mut Prng, bench: &Bench) -> State {
-    let number = *prng.pick(&[0, 1, 2, 1000, u32::MAX - 1, u32::MAX]);
-    State { number, now: store(prng, bench, false), before: store(prng, bench, true), last: readings(prng, bench) }
+pub fn random_state(prng: &mut Prng, bench: &Bench) -> State {
+    let count = prng.weighted(&[8, 20, 16, 8, 5, 5, 5, 8, 25]);
+    let names = senders::some(prng, &Plan::of(bench), count);
+    let senders = names.iter().map(|name| sender(prng, bench, name)).collect();
+    State { now: store(prng, bench, false), before: store(prng, bench, true), senders }
+}
+
+fn sender(prng: &mut Prng, bench: &Bench, name: &[u8]) -> Sender {
+    let fired = |prng: &mut Prng, _: usize, member: &Member| {
+        let fires = member.sort == Sort::Action && prng.chance(50);
+        fires.then(|| value(prng, member.kind))
+    };
+    Sender { name: name.to_vec(), number: *prng.pick(&NUMBERS), last: readings(prng, bench), fired: each(prng, bench, fired) }
 }
 
 /// Gives `make` the number of the entity and its member.
@@ -103,69 +117,14 @@ fn readings(prng: &mut Prng, bench: &Bench) -> Readings {
     Readings { presence, cells: each(prng, bench, reading) }
 }
 
-/// Spoils one flag or one cell.
-fn spoil(prng: &mut Prng, entities: usize, bytes: &mut [u8]) {
-    if entities == 0 {
-        return;
-    }
-    if prng.chance(20) {
-        bytes[4 + prng.below(3 * entities)] = *prng.pick(&[2, 3, 4, 255]);
-        return;
-    }
-    // The first members mostly: few interfaces have more.
-    let member = if prng.chance(80) { prng.below(4) } else { prng.below(12) };
-    let cell = 4 + 3 * entities + 9 * (12 * prng.below(3 * entities) + member);
-    match prng.below(8) {
-        // An attribute's cell in the store now, often: it must not be unset.
-        7 => {
-            let first = 4 + 3 * entities + 9 * (12 * prng.below(entities) + prng.below(2));
-            bytes[first..first + 9].fill(0);
-        }
-        0 => bytes[cell] = prng.below(6) as u8,
-        1 => bytes[cell + 1] ^= 2,
-        2 => bytes[cell + 8] ^= 1,
-        _ => bytes[cell..cell + 9].copy_from_slice(&TROUBLE[prng.below(TROUBLE.len())]),
-    }
-}
-
-/// Cells at the edge of what is allowed: tag, then eight bytes, lowest first.
-const TROUBLE: [[u8; 9]; 13] = [
-    [1, 5, 0, 0, 128, 0, 0, 0, 0],
-    [2, 1, 0, 0, 0, 0, 0, 0, 0],
-    [3, 0, 0, 0, 0, 0, 0, 0, 0x80],
-    [1, 255, 255, 255, 255, 0, 0, 0, 0],
-    [1, 0, 0, 0, 0, 1, 0, 0, 0],
-    [2, 2, 0, 0, 0, 0, 0, 0, 0],
-    [3, 0, 0, 0, 0, 0, 0, 0xf0, 0x7f],
-    [3, 1, 0, 0, 0, 0, 0, 0xf8, 0xff],
-    [3, 255, 255, 255, 255, 255, 255, 0xef, 0x7f],
-    [0, 0, 0, 0, 0, 0, 0, 0, 1],
-    [4, 0, 0, 0, 0, 0, 0, 0, 0],
-    [4, 1, 0, 0, 0, 0, 0, 0, 0],
-    [0, 0, 0, 0, 0, 0, 0, 0, 0],
-];
-
-/// The line that a written state says was its last, sometimes.
-pub fn resend(prng: &mut Prng, plan: &Plan, text: &[u8], written: Option<&Call>) -> Option<Call> {
-    let Some(Call::SetState { at: 0, bytes }) = written else { return None };
-    let bench = accept(text).ok()?;
-    if bytes.len() < state_bytes(bench.entities.len()) {
-        return None;
-    }
-    let state = image::decode_state(&bench, bytes)?;
-    let line = last_line(&state);
-    let line = lines::same_readings(prng, plan, &line);
-    Some(Call::Line { names: line.names(plan), values: line.values(u64::from(state.number)) })
-}
-
-/// The line that a state says was its last.
-pub fn last_line(state: &State) -> Line {
+/// The line that a state says was the last of a sender.
+pub fn last_line(sender: &Sender) -> Line {
     let mut line = Line::default();
-    for (entity, presence) in state.last.presence.iter().enumerate() {
+    for (entity, presence) in sender.last.presence.iter().enumerate() {
         line.columns.push(Column::Presence(entity));
         line.fields.push(presence.map_or("-".into(), |present| present.to_string()));
     }
-    for (entity, cells) in state.last.cells.iter().enumerate() {
+    for (entity, cells) in sender.last.cells.iter().enumerate() {
         for (member, reading) in cells.iter().enumerate() {
             let text = match reading {
                 Reading::NotRead => continue,

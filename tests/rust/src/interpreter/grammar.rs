@@ -13,6 +13,8 @@ pub struct Name<'t> {
 
 #[derive(Debug)]
 pub struct Bench<'t> {
+    /// The whole file: a state belongs to it.
+    pub text: &'t [u8],
     pub interfaces: Vec<Interface<'t>>,
     pub entities: Vec<Entity<'t>>,
     pub rules: Vec<Rule<'t>>,
@@ -157,7 +159,7 @@ fn collect_clauses<'c, 't>(condition: &'c Condition<'t>, found: &mut Vec<&'c Cla
 /// Reads a text: refusals 11, 12 and 13.
 pub fn read(text: &[u8]) -> Result<Bench<'_>, Refusal> {
     let words = words(text)?;
-    let mut reader = Reader { words: &words, at: 0, length: text.len() };
+    let mut reader = Reader { words: &words, at: 0, text };
     let bench = reader.file()?;
     match reader.words.get(reader.at) {
         None => Ok(bench),
@@ -168,7 +170,7 @@ pub fn read(text: &[u8]) -> Result<Bench<'_>, Refusal> {
 struct Reader<'w, 't> {
     words: &'w [Word<'t>],
     at: usize,
-    length: usize,
+    text: &'t [u8],
 }
 
 type Read<T> = Result<T, Refusal>;
@@ -180,7 +182,7 @@ impl<'t> Reader<'_, 't> {
 
     /// Where the next word stands, or the text's length if there is none.
     fn place(&self) -> usize {
-        self.words.get(self.at).map_or(self.length, |word| word.place)
+        self.words.get(self.at).map_or(self.text.len(), |word| word.place)
     }
 
     fn fail<T>(&self) -> Read<T> {
@@ -249,7 +251,7 @@ impl<'t> Reader<'_, 't> {
             rules.push(self.rule()?);
         }
         self.take("end")?;
-        Ok(Bench { interfaces, entities, rules })
+        Ok(Bench { text: self.text, interfaces, entities, rules })
     }
 
     fn interface(&mut self) -> Read<Interface<'t>> {

@@ -1,13 +1,15 @@
-//! Lines of readings: 22, 21, 23, 24, 25, or a line that is taken.
+//! Lines of readings, with senders as order 5 of document 02 has them: 22, 21, 43, 42, 23, 24, 25, or a line that is taken.
 
 use super::grammar::{Bench, Sort};
-use super::machine::{cycle, Reading, Readings, State};
-use super::text::TEXT_MOST;
+use super::machine::{cycle, Given, Reading, Readings, State};
+use super::text::{name_form, TEXT_MOST};
 use super::value::{Kind, Value};
 
 const NAMES_MOST: usize = TEXT_MOST;
 pub const VALUES_MOST: usize = 8_192;
 const NUMBER_DIGITS_MOST: usize = 10;
+/// "Up to eight senders are known".
+pub const SENDERS_MOST: usize = 8;
 
 #[derive(Clone, Copy, Debug, PartialEq, Eq)]
 pub enum Column {
@@ -17,9 +19,10 @@ pub enum Column {
 
 /// How an accepted line leaves the state.
 pub enum Taken {
-    /// The last line again: the state stays.
-    Resent,
-    Next(State),
+    /// The last line of the sender in this place, sent again: the state stays.
+    Resent(usize),
+    /// The state after the line, and the place of its sender.
+    Next(State, usize),
 }
 
 /// The lines of a file: a last line feed closes the last line and opens none.
@@ -35,17 +38,52 @@ pub fn take(bench: &Bench, state: &State, names: &[u8], values: &[u8]) -> Result
 
 /// Takes a line of values whose names are already read.
 pub fn take_values(bench: &Bench, state: &State, columns: &[Column], values: &[u8]) -> Result<Taken, u8> {
-    let (number, fields) = fields(values, columns.len()).ok_or(21)?;
-    let readings = readings(bench, state, columns, &fields).ok_or(23)?;
-    let number = u32::try_from(number).ok().filter(|&number| number != 0).ok_or(24)?;
-    if number == state.number {
-        return if readings.same_bits(&state.last) { Ok(Taken::Resent) } else { Err(25) };
+    let record = record(values, columns.len()).ok_or(21)?;
+    let known = known(state, record.sender)?;
+    let readings = readings(bench, columns, &record.fields).ok_or(23)?;
+    // "Being resent is tested before the check on absent entities, so the absent-entity part of refusal 23 then covers every other line."
+    if let Some(place) = known.filter(|&place| resent(state, place, record.number, &readings)) {
+        return Ok(Taken::Resent(place));
     }
-    if u64::from(number) != u64::from(state.number) + 1 {
+    if reads_absent(state, &readings) {
+        return Err(23);
+    }
+    let number = next_number(known.map_or(0, |place| state.senders[place].number), record.number)?;
+    let line = Given { sender: record.sender, number, readings: &readings };
+    let next = cycle(bench, state, line).expect("the machine never stops on an accepted bench");
+    let place = next.sender(record.sender).expect("a sender is known from its first taken line");
+    Ok(Taken::Next(next, place))
+}
+
+/// The place of a sender that is known. "A ninth is refused by 42, and an ill-formed sender by 43, both after 21 and before 23, with 43
+/// first."
+fn known(state: &State, sender: &[u8]) -> Result<Option<usize>, u8> {
+    if !name_form(sender) {
+        return Err(43);
+    }
+    let place = state.sender(sender);
+    if place.is_none() && state.senders.len() == SENDERS_MOST {
+        return Err(42);
+    }
+    Ok(place)
+}
+
+/// Whether a line is the last of a known sender.
+fn resent(state: &State, place: usize, number: u64, readings: &Readings) -> bool {
+    let sender = &state.senders[place];
+    number == u64::from(sender.number) && readings.same_bits(&sender.last)
+}
+
+/// The number of a line that is not resent, if it may come after the sender's last.
+fn next_number(last: u32, number: u64) -> Result<u32, u8> {
+    let number = u32::try_from(number).ok().filter(|&number| number != 0).ok_or(24)?;
+    if number == last {
+        return Err(25);
+    }
+    if u64::from(number) != u64::from(last) + 1 {
         return Err(24);
     }
-    let next = cycle(bench, state, number, &readings).expect("the machine never stops on an accepted bench");
-    Ok(Taken::Next(next))
+    Ok(number)
 }
 
 /// The columns of a line of names; `None` if it is ill formed.
@@ -54,7 +92,7 @@ pub fn columns(bench: &Bench, names: &[u8]) -> Option<Vec<Column>> {
         return None;
     }
     let mut fields = names.split(|&byte| byte == b' ');
-    if fields.next() != Some(b"n") {
+    if fields.next() != Some(b"by") || fields.next() != Some(b"n") {
         return None;
     }
     let mut columns = Vec::new();
@@ -78,20 +116,30 @@ fn column(bench: &Bench, field: &[u8]) -> Option<Column> {
     Some(Column::Event(entity, member))
 }
 
-/// The number and the fields after it; `None` for 21.
-fn fields(values: &[u8], columns: usize) -> Option<(u64, Vec<&[u8]>)> {
+/// A line of values, as far as 21 looks at it.
+pub struct Record<'v> {
+    /// Of any form, but not empty.
+    pub sender: &'v [u8],
+    pub number: u64,
+    /// One for each column.
+    pub fields: Vec<&'v [u8]>,
+}
+
+/// The parts of a line of values; `None` for 21.
+pub fn record(values: &[u8], columns: usize) -> Option<Record<'_>> {
     if values.len() > VALUES_MOST || values.contains(&b'\n') {
         return None;
     }
     let mut fields: Vec<&[u8]> = values.split(|&byte| byte == b' ').collect();
-    if fields.len() != columns + 1 || fields.iter().any(|field| field.is_empty()) {
+    if fields.len() != columns + 2 || fields.iter().any(|field| field.is_empty()) {
         return None;
     }
+    let sender = fields.remove(0);
     let number = line_number(fields.remove(0))?;
-    Some((number, fields))
+    Some(Record { sender, number, fields })
 }
 
-fn line_number(field: &[u8]) -> Option<u64> {
+pub fn line_number(field: &[u8]) -> Option<u64> {
     if field.len() > NUMBER_DIGITS_MOST {
         return None;
     }
@@ -107,8 +155,8 @@ fn digits(field: &[u8]) -> Option<u64> {
     Some(field.iter().fold(0, |sum, digit| sum * 10 + u64::from(digit - b'0')))
 }
 
-/// The readings of a line; `None` for 23.
-fn readings(bench: &Bench, state: &State, columns: &[Column], fields: &[&[u8]]) -> Option<Readings> {
+/// The readings of a line; `None` if a value is ill formed or of another kind.
+pub fn readings(bench: &Bench, columns: &[Column], fields: &[&[u8]]) -> Option<Readings> {
     let mut readings = Readings::none(bench);
     for (column, field) in columns.iter().zip(fields) {
         match *column {
@@ -116,13 +164,15 @@ fn readings(bench: &Bench, state: &State, columns: &[Column], fields: &[&[u8]]) 
             Column::Event(entity, member) => readings.cells[entity][member] = reading(bench.members_of(entity)[member].kind, field)?,
         }
     }
-    for (entity, cells) in readings.cells.iter().enumerate() {
-        let present = readings.presence[entity].unwrap_or(state.now.present[entity]);
-        if !present && cells.iter().any(|reading| !matches!(reading, Reading::NotRead)) {
-            return None;
-        }
-    }
     Some(readings)
+}
+
+/// Whether an entity that is absent after the line is read.
+pub fn reads_absent(state: &State, readings: &Readings) -> bool {
+    readings.cells.iter().enumerate().any(|(entity, cells)| {
+        let present = readings.presence[entity].unwrap_or(state.now.present[entity]);
+        !present && cells.iter().any(|reading| !matches!(reading, Reading::NotRead))
+    })
 }
 
 fn presence(field: &[u8]) -> Option<Option<bool>> {

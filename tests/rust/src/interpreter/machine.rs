@@ -1,5 +1,5 @@
-//! The bare machine of document 01, its clause filters as order 1 of document 02 has them, its whole `/` as order 2. It looks names up at
-//! each step and runs any grammatical bench, until it stops.
+//! The bare machine of document 01, its clause filters as order 1 of document 02 has them, its whole `/` as order 2, what it keeps of each
+//! sender as order 5. It looks names up at each step and runs any grammatical bench, until it stops.
 
 use super::check::READABLE;
 use super::grammar::{Bench, Call, Clause, Condition, Filter, Interface, Link, Name, Rule, Sort, Sum, Test};
@@ -28,13 +28,23 @@ pub struct Readings {
     pub cells: Vec<Vec<Reading>>,
 }
 
+/// What a state keeps of a sender: "its last number, last readings and the actions then fired".
+#[derive(Clone, Debug)]
+pub struct Sender {
+    pub name: Vec<u8>,
+    pub number: u32,
+    pub last: Readings,
+    /// For each entity a cell for each member, unset but for the fired actions.
+    pub fired: Vec<Vec<Cell>>,
+}
+
 #[derive(Clone, Debug)]
 pub struct State {
-    pub number: u32,
     pub now: Store,
     /// The store as the rules saw it one cycle before.
     pub before: Store,
-    pub last: Readings,
+    /// The known senders, in the order of their first taken lines.
+    pub senders: Vec<Sender>,
 }
 
 impl Store {
@@ -65,24 +75,47 @@ impl Readings {
     }
 
     pub fn same_bits(&self, other: &Readings) -> bool {
-        let pairs = self.cells.iter().flatten().zip(other.cells.iter().flatten());
-        self.presence == other.presence && pairs.into_iter().all(|(a, b)| a.same_bits(*b))
+        self.differing(other) == 0
+    }
+
+    /// In how many cells and presences they differ, bit by bit.
+    pub fn differing(&self, other: &Readings) -> usize {
+        let cells = self.cells.iter().flatten().zip(other.cells.iter().flatten());
+        let presence = self.presence.iter().zip(&other.presence);
+        cells.filter(|(a, b)| !a.same_bits(**b)).count() + presence.filter(|(a, b)| a != b).count()
     }
 }
 
-/// The fresh state: all present, attributes set, the rest unset; before it all absent.
+impl Sender {
+    /// A sender that has sent nothing.
+    pub fn new(bench: &Bench, name: &[u8]) -> Sender {
+        Sender { name: name.to_vec(), number: 0, last: Readings::none(bench), fired: unset_cells(bench) }
+    }
+}
+
+impl State {
+    /// The place of a known sender.
+    pub fn sender(&self, name: &[u8]) -> Option<usize> {
+        self.senders.iter().position(|sender| sender.name == name)
+    }
+}
+
+fn unset_cells(bench: &Bench) -> Vec<Vec<Cell>> {
+    (0..bench.entities.len()).map(|entity| vec![None; bench.members_of(entity).len()]).collect()
+}
+
+/// The fresh state: all present, attributes set, the rest unset; before it all absent; no sender known.
 pub fn fresh(bench: &Bench) -> Result<State, Stop> {
     let count = bench.entities.len();
-    let empty: Vec<Vec<Cell>> = (0..count).map(|entity| vec![None; bench.members_of(entity).len()]).collect();
+    let empty = unset_cells(bench);
     let mut cells = empty.clone();
     for (entity, row) in cells.iter_mut().enumerate() {
         set_attributes(bench, entity, row)?;
     }
     Ok(State {
-        number: 0,
         now: Store { present: vec![true; count], cells },
         before: Store { present: vec![false; count], cells: empty },
-        last: Readings::none(bench),
+        senders: Vec::new(),
     })
 }
 
@@ -121,23 +154,56 @@ pub struct Variant<'v> {
 /// The machine of the documents.
 pub const RIGHT: Variant<'static> = Variant { late: &|_| false, over: &|_, a, b| quotient(a, b) };
 
-/// One cycle: the state after a line of this number with these readings.
-pub fn cycle(bench: &Bench, state: &State, number: u32, readings: &Readings) -> Result<State, Stop> {
-    cycle_of(RIGHT, bench, state, number, readings)
+/// A line as the machine gets it.
+#[derive(Clone, Copy, Debug)]
+pub struct Given<'g> {
+    pub sender: &'g [u8],
+    pub number: u32,
+    pub readings: &'g Readings,
+}
+
+/// One cycle: the state after a line.
+pub fn cycle(bench: &Bench, state: &State, line: Given) -> Result<State, Stop> {
+    cycle_of(RIGHT, bench, state, line)
 }
 
 /// One cycle of a machine that may be wrong.
-pub fn cycle_of(variant: Variant, bench: &Bench, state: &State, number: u32, readings: &Readings) -> Result<State, Stop> {
+pub fn cycle_of(variant: Variant, bench: &Bench, state: &State, line: Given) -> Result<State, Stop> {
     let mut seen = state.now.clone();
-    apply_presence(bench, &mut seen, readings);
-    apply_readings(bench, &mut seen, readings)?;
+    apply_presence(bench, &mut seen, line.readings);
+    apply_readings(bench, &mut seen, line.readings)?;
     let writes = fire(variant, bench, &seen, &state.before)?;
     let mut now = seen.clone();
     unset(bench, &mut now, None, &[Sort::Action]);
     for write in writes {
         now.cells[write.entity][write.member] = Some(write.value);
     }
-    Ok(State { number, now, before: seen, last: readings.clone() })
+    let senders = keep(state, line, fired(bench, &now));
+    Ok(State { now, before: seen, senders })
+}
+
+/// The cells of a store that are actions; the others unset.
+fn fired(bench: &Bench, store: &Store) -> Vec<Vec<Cell>> {
+    let mut fired = unset_cells(bench);
+    for (entity, cells) in fired.iter_mut().enumerate() {
+        for ((cell, member), stored) in cells.iter_mut().zip(bench.members_of(entity)).zip(&store.cells[entity]) {
+            if member.sort == Sort::Action {
+                *cell = *stored;
+            }
+        }
+    }
+    fired
+}
+
+/// The senders after a line: its own is known from then on, in its place or as the last.
+fn keep(state: &State, line: Given, fired: Vec<Vec<Cell>>) -> Vec<Sender> {
+    let sent = Sender { name: line.sender.to_vec(), number: line.number, last: line.readings.clone(), fired };
+    let mut senders = state.senders.clone();
+    match state.sender(line.sender) {
+        Some(place) => senders[place] = sent,
+        None => senders.push(sent),
+    }
+    senders
 }
 
 fn apply_presence(bench: &Bench, store: &mut Store, readings: &Readings) {

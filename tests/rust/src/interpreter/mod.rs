@@ -1,5 +1,6 @@
 //! The interpreter: each file is one part of document 01. Order 1 of document 02 changes one of them, the machine; order 2 another, the
-//! values; order 3 adds one, the day sheet; order 4 one that parts the bytes into classes, by which the text is then read.
+//! values; order 3 adds one, the day sheet; order 4 one that parts the bytes into classes, by which the text is then read; order 5 changes
+//! the lines and the rows, which then name their senders, and what the machine keeps of them.
 
 pub mod bytes;
 pub mod check;

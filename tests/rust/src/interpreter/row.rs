@@ -1,7 +1,7 @@
-//! Rows: the row of names, and a line's number with every action cell.
+//! Rows: the row of names, and a line's sender and number with every action cell.
 
 use super::grammar::{Bench, Sort};
-use super::machine::State;
+use super::machine::{Sender, State};
 use super::value::{Cell, Value};
 
 /// All action cells, in entity and member order.
@@ -14,7 +14,7 @@ fn actions<'b>(bench: &'b Bench) -> impl Iterator<Item = (usize, usize)> + 'b {
 
 /// The row of names, without a line feed.
 pub fn header(bench: &Bench) -> Vec<u8> {
-    let mut row = b"n".to_vec();
+    let mut row = b"by n".to_vec();
     for (entity, member) in actions(bench) {
         row.push(b' ');
         row.extend_from_slice(bench.entities[entity].name.text);
@@ -24,14 +24,23 @@ pub fn header(bench: &Bench) -> Vec<u8> {
     row
 }
 
-/// The row of a state: its last number and its action cells, without a line feed.
-pub fn row(bench: &Bench, state: &State) -> Vec<u8> {
-    let mut row = state.number.to_string().into_bytes();
+/// The row of a sender's last line: its name, the number and the actions then fired, without a line feed.
+pub fn row(bench: &Bench, sender: &Sender) -> Vec<u8> {
+    let mut row = sender.name.clone();
+    row.extend_from_slice(format!(" {}", sender.number).as_bytes());
     for (entity, member) in actions(bench) {
         row.push(b' ');
-        row.extend(field(state.now.cells[entity][member]));
+        row.extend(field(sender.fired[entity][member]));
     }
     row
+}
+
+/// The row that a state keeps for a name: of one that is not known, number 0 and nothing fired.
+pub fn row_of(bench: &Bench, state: &State, name: &[u8]) -> Vec<u8> {
+    match state.sender(name) {
+        Some(place) => row(bench, &state.senders[place]),
+        None => row(bench, &Sender::new(bench, name)),
+    }
 }
 
 /// A cell in the form of readings, or `-`.

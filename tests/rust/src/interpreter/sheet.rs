@@ -1,4 +1,5 @@
-//! The day sheet of order 3 of document 02: the taken lines of a day on 80 columns, then what each real column showed.
+//! The day sheet of order 3 of document 02: the taken lines of a day on 80 columns, then what each real column showed. Order 5: "the day
+//! sheet shows the number alone", whoever sent the line.
 
 use super::grammar::Bench;
 use super::line::{self, Taken};
@@ -30,9 +31,10 @@ pub struct Chosen {
 pub enum Passed {
     /// By this number: it is passed over.
     Refused(u8),
-    /// "A resent line isn't printed."
-    Resent,
-    Printed,
+    /// "A resent line isn't printed." Its sender's place.
+    Resent(usize),
+    /// Its sender's place.
+    Printed(usize),
 }
 
 /// The sheet of a day that runs on from this state, or the number 41 or 22.
@@ -41,9 +43,9 @@ pub fn sheet(bench: &Bench, state: &State, readings: &[u8], cells: &[u8]) -> Res
     let mut sheet = Vec::new();
     let mut shown: Vec<Vec<Cell>> = vec![Vec::new(); chosen.len()];
     day(bench, state, readings, &mut |passed, after| {
-        if passed == Passed::Printed {
+        if let Passed::Printed(sender) = passed {
             let cells: Vec<Cell> = chosen.iter().map(|cell| after.now.read(cell.entity, cell.member)).collect();
-            print_line(&mut sheet, after.number, &cells);
+            print_line(&mut sheet, after.senders[sender].number, &cells);
             shown.iter_mut().zip(cells).for_each(|(column, cell)| column.push(cell));
         }
     })?;
@@ -77,10 +79,10 @@ pub fn day(bench: &Bench, state: &State, readings: &[u8], tell: &mut dyn FnMut(P
     for values in lines {
         let passed = match line::take_values(bench, &state, &columns, values) {
             Err(number) => Passed::Refused(number),
-            Ok(Taken::Resent) => Passed::Resent,
-            Ok(Taken::Next(next)) => {
+            Ok(Taken::Resent(sender)) => Passed::Resent(sender),
+            Ok(Taken::Next(next, sender)) => {
                 state = next;
-                Passed::Printed
+                Passed::Printed(sender)
             }
         };
         tell(passed, &state);

@@ -3,11 +3,11 @@
 use super::bytes::{class, Class};
 
 pub const TEXT_MOST: usize = 32_768;
-const NAME_MOST: usize = 24;
+pub const NAME_MOST: usize = 24;
 const DIGITS_MOST: usize = 10;
 const NUMBER_MOST: u64 = 2_147_483_647;
 
-const RESERVED: [&str; 21] = [
+pub const RESERVED: [&str; 21] = [
     "interface",
     "attribute",
     "event",
@@ -119,6 +119,12 @@ fn name(text: &[u8], at: usize) -> Result<(Token<'_>, usize), Refusal> {
         None => Token::Name(run),
     };
     Ok((token, end))
+}
+
+/// Whether bytes have the form of a name: "a letter, then letters, digits or `_`, 24 bytes at most". Reserved words have it too.
+pub fn name_form(bytes: &[u8]) -> bool {
+    let end = run_end(bytes, 0, &[Class::Letter, Class::Digit, Class::Underscore]);
+    bytes.first().is_some_and(|&byte| class(byte) == Class::Letter) && end == bytes.len() && end <= NAME_MOST
 }
 
 fn number(text: &[u8], at: usize) -> Result<(Token<'_>, usize), Refusal> {

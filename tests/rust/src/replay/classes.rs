@@ -5,9 +5,12 @@ use super::required::*;
 use super::{Folder, CHUNK, CHUNKS};
 use crate::interpreter::accept;
 use crate::interpreter::grammar::{Bench, Sort};
-use crate::interpreter::line::VALUES_MOST;
-use crate::interpreter::text::TEXT_MOST;
-use std::collections::BTreeSet;
+use crate::interpreter::line::{line_number, VALUES_MOST};
+use crate::interpreter::text::{name_form, NAME_MOST, RESERVED, TEXT_MOST};
+use std::collections::{BTreeMap, BTreeSet};
+
+/// The numbers that refuse lines of values.
+const REFUSALS: [&str; 6] = ["21", "43", "42", "23", "24", "25"];
 
 /// A line of the file and what is printed for it.
 struct Line<'a> {
@@ -28,9 +31,25 @@ impl Line<'_> {
         self.bytes[at - 1].is_ascii_digit() && self.bytes[at].is_ascii_digit()
     }
 
-    /// Whether a cut after so many of its bytes is in the first field.
-    fn in_first(&self, at: usize) -> bool {
-        !self.bytes[..at].contains(&b' ')
+    /// Whether a cut after so many of its bytes has bytes of a name on both sides.
+    fn in_name(&self, at: usize) -> bool {
+        let is = |byte: u8| byte.is_ascii_alphanumeric() || byte == b'_';
+        is(self.bytes[at - 1]) && is(self.bytes[at])
+    }
+
+    /// What a cut after so many of its bytes splits: the sender, the number or a value of digits.
+    fn split(&self, at: usize) -> Option<&'static str> {
+        match self.bytes[..at].iter().filter(|&&byte| byte == b' ').count() {
+            0 => self.in_name(at).then_some("sender"),
+            1 => self.in_digits(at).then_some("number"),
+            _ => self.in_digits(at).then_some("value"),
+        }
+    }
+
+    /// Sender and number, as far as they are there.
+    fn head(&self) -> (&[u8], &[u8]) {
+        let mut fields = self.bytes.split(|&byte| byte == b' ');
+        (fields.next().unwrap_or(b""), fields.next().unwrap_or(b""))
     }
 
     /// Those of the cuts that have a byte of the line on both sides.
@@ -38,8 +57,15 @@ impl Line<'_> {
         cuts.iter().copied().filter(|&cut| self.start < cut && cut < self.end()).collect()
     }
 
+    /// The number by which it is refused. Where there is no action, the row of somebody called `refused` can look like that.
+    fn refusal(&self) -> Option<&str> {
+        let number = std::str::from_utf8(self.row.strip_prefix(b"refused ")?).ok()?;
+        let known = if self.start == 0 { number == "22" } else { REFUSALS.contains(&number) };
+        known.then_some(number)
+    }
+
     fn taken(&self) -> bool {
-        !self.row.starts_with(b"refused")
+        self.refusal().is_none()
     }
 
     /// Whether the first byte of some chunk of this size stands in the line behind its first byte.
@@ -61,6 +87,7 @@ pub fn of(folder: &Folder, printed: &[u8]) -> BTreeSet<Class> {
             seen.readings(folder.readings_text(), &lines);
             seen.printed(printed);
             seen.rows(&bench, &lines);
+            seen.senders(&lines[1..]);
         }
     }
     if let Some(cuts) = &folder.cuts {
@@ -197,14 +224,42 @@ impl Seen {
         }
         for line in lines[1..].iter().filter(|line| line.taken() && line.across(chunk)) {
             let at = line.end().saturating_sub(1) / chunk * chunk - line.start;
-            self.note_if(line.in_digits(at) && line.in_first(at), ENDS, &end_name(chunk, "number split"));
-            self.note_if(line.in_digits(at) && !line.in_first(at), ENDS, &end_name(chunk, "value split"));
+            if let Some(what) = line.split(at) {
+                self.note(ENDS, end_name(chunk, &format!("{what} split")));
+            }
         }
+    }
+
+    /// Who sent, and what was sent again.
+    fn senders(&mut self, lines: &[Line]) {
+        // Of each sender the last new line, and which of the new lines it was.
+        let mut last: BTreeMap<&[u8], (&Line, usize)> = BTreeMap::new();
+        let mut count = 0;
+        for line in lines.iter().filter(|line| line.taken()) {
+            let (sender, number) = line.head();
+            match last.get(sender) {
+                Some((taken, place)) if taken.head().1 == number => self.resent(taken, line, count - place),
+                _ => {
+                    last.insert(sender, (line, count));
+                    count += 1;
+                }
+            }
+            self.note_if(sender.len() == NAME_MOST, SENDERS, "a name of 24 bytes");
+            self.note_if(RESERVED.iter().any(|word| word.as_bytes() == sender), SENDERS, "a reserved word");
+        }
+        self.note_if(!last.is_empty(), SENDERS, &format!("{} known", last.len()));
+    }
+
+    /// `ago`: 1 for the last new line, 2 for the one before.
+    fn resent(&mut self, taken: &Line, line: &Line, ago: usize) {
+        self.note(SENDERS, if ago == 1 { "the last new line again" } else { "an earlier line again" });
+        self.note_if(ago > 1 && line.start > taken.start + CHUNK, SENDERS, "an earlier line again, a chunk later");
+        self.note_if(ago > 1 && taken.across(CHUNK), SENDERS, "an earlier line again that lay across chunks");
     }
 
     fn record(&mut self, line: &Line, names: &[u8]) {
         let length = line.bytes.len();
-        let answer = std::str::from_utf8(line.row.strip_prefix(b"refused ").unwrap_or(b"taken")).unwrap_or("");
+        let answer = line.refusal().unwrap_or("taken");
         self.note(ANSWERS, answer);
         if length <= LONG {
             return;
@@ -301,10 +356,11 @@ impl Seen {
         if !line.taken() {
             return;
         }
-        let in_number = |cut: &usize| line.in_digits(cut - line.start) && line.in_first(cut - line.start);
+        let splits = |what: &str| inside.iter().any(|cut| line.split(cut - line.start) == Some(what));
         self.note_if(inside.len() >= 2, PIPES, "a line in three pieces or more");
         self.note_if(inside.contains(&(line.start + 1)), PIPES, "cut after a line's first byte");
-        self.note_if(inside.iter().any(in_number), PIPES, "cut within a line's number");
+        self.note_if(splits("sender"), PIPES, "cut within a line's sender");
+        self.note_if(splits("number"), PIPES, "cut within a line's number");
         self.note_if(line.feed && cuts.contains(&line.end()), PIPES, "cut right before a line feed");
         self.note_if(cuts.contains(&line.start), PIPES, "cut right after a line feed");
     }
@@ -337,10 +393,11 @@ fn lines_of(readings: &[u8]) -> usize {
     readings.strip_suffix(b"\n").unwrap_or(readings).split(|&byte| byte == b'\n').count()
 }
 
-/// The right count of fields, none empty, and a good number: only the length or a value can be bad.
+/// The right count of fields, none empty, a good sender and a good number: only the length or a value can be bad.
 fn regular(values: &[u8], names: &[u8]) -> bool {
     let fields = |bytes: &[u8]| bytes.split(|&byte| byte == b' ').count();
-    let number = values.split(|&byte| byte == b' ').next().unwrap_or(b"");
-    let good_number = (1..=10).contains(&number.len()) && number[0] != b'0' && number.iter().all(u8::is_ascii_digit);
-    good_number && fields(values) == fields(names) && values.split(|&byte| byte == b' ').all(|field| !field.is_empty())
+    let mut first = values.split(|&byte| byte == b' ');
+    let (sender, number) = (first.next().unwrap_or(b""), first.next().unwrap_or(b""));
+    let good_number = line_number(number).is_some_and(|number| number > 0);
+    name_form(sender) && good_number && fields(values) == fields(names) && first.all(|field| !field.is_empty())
 }

@@ -6,6 +6,7 @@ use crate::generate::bench::{render, Plan};
 use crate::generate::lines::{Column, Line};
 use crate::generate::prng::Prng;
 use crate::generate::run::Run;
+use crate::generate::senders;
 use crate::interpreter::accept;
 use crate::interpreter::grammar::Bench;
 use crate::interpreter::line::{self, Taken};
@@ -22,9 +23,12 @@ pub struct Draft<'p> {
     bench: &'p Bench<'p>,
     columns: Vec<line::Column>,
     state: State,
+    /// Who sends, and what comes next.
     pub run: Run<'p>,
-    /// The last line that was taken.
-    last: Vec<u8>,
+    /// For each known sender its last line.
+    lines: Vec<Vec<u8>>,
+    /// Whose line was the last that was new.
+    last: usize,
     /// Whether lines far from a chosen place are long.
     pub sparse: bool,
     pub bytes: Vec<u8>,
@@ -36,7 +40,8 @@ pub struct Draft<'p> {
 pub fn files(prng: &mut Prng, plan: &Plan, columns: Vec<Column>, write: impl FnOnce(&mut Prng, &mut Draft)) -> Files {
     let text = render(prng, &plan.words);
     let bench = accept(&text).expect("generated benches are accepted");
-    let mut draft = Draft::new(plan, &bench, columns);
+    let count = senders::count(prng);
+    let mut draft = Draft::new(plan, &bench, columns, senders::some(prng, plan, count));
     write(prng, &mut draft);
     let readings = draft.bytes;
     (Some(text), Some(readings))
@@ -44,14 +49,14 @@ pub fn files(prng: &mut Prng, plan: &Plan, columns: Vec<Column>, write: impl FnO
 
 impl<'p> Draft<'p> {
     /// Starts with the line of names.
-    pub fn new(plan: &'p Plan, bench: &'p Bench<'p>, columns: Vec<Column>) -> Draft<'p> {
+    pub fn new(plan: &'p Plan, bench: &'p Bench<'p>, columns: Vec<Column>, senders: Vec<Vec<u8>>) -> Draft<'p> {
         let mut bytes = Line { columns: columns.clone(), fields: Vec::new() }.names(plan);
         let known = line::columns(bench, &bytes).expect("the names are good");
         bytes.push(b'\n');
         let state = machine::fresh(bench).expect("the machine never stops on an accepted bench");
         let printed = rows::header(bench).len() + 1;
-        let run = Run::with(plan, columns);
-        Draft { bench, columns: known, state, run, last: Vec::new(), sparse: false, bytes, printed }
+        let run = Run::with(plan, columns, senders);
+        Draft { bench, columns: known, state, run, lines: Vec::new(), last: 0, sparse: false, bytes, printed }
     }
 
     /// Writes a line. A line feed inside it makes it two.
@@ -61,49 +66,81 @@ impl<'p> Draft<'p> {
         for line in values.split(|&byte| byte == b'\n') {
             self.printed += self.follow(line);
         }
-        // Damage can leave a line good, so the run goes by what was taken.
-        self.run.number = u64::from(self.state.number);
-        self.run.present.clone_from(&self.state.now.present);
     }
 
-    /// Follows a line and gives the length of what it prints.
+    /// Follows a line and gives the length of what it prints. Damage can leave a line good, so the run goes by what was taken.
     fn follow(&mut self, values: &[u8]) -> usize {
         match line::take_values(self.bench, &self.state, &self.columns, values) {
-            Err(_) => return REFUSED_LINE,
-            Ok(Taken::Resent) => {}
-            Ok(Taken::Next(next)) => {
+            Err(_) => REFUSED_LINE,
+            Ok(Taken::Resent(sender)) => self.row_length(sender),
+            Ok(Taken::Next(next, sender)) => {
                 self.state = next;
-                self.last = values.to_vec();
+                self.run.follow(&self.state);
+                self.lines.resize(self.state.senders.len(), Vec::new());
+                self.lines[sender] = values.to_vec();
+                self.last = sender;
+                self.row_length(sender)
             }
         }
-        self.row_length()
     }
 
-    /// Bytes of the last row with its line feed.
-    fn row_length(&self) -> usize {
-        rows::row(self.bench, &self.state).len() + 1
+    /// Bytes of a sender's row with its line feed.
+    fn row_length(&self, sender: usize) -> usize {
+        rows::row(self.bench, &self.state.senders[sender]).len() + 1
     }
 
-    /// The last line that was taken, for sending it again.
+    /// The last line that was new, for sending it again; none if there was none.
     pub fn resent(&self) -> Vec<u8> {
-        self.last.clone()
+        self.lines.get(self.last).cloned().unwrap_or_default()
+    }
+
+    /// The last line of any sender, for sending it again however long ago it was.
+    pub fn late(&self, prng: &mut Prng) -> Vec<u8> {
+        if self.lines.is_empty() {
+            return Vec::new();
+        }
+        prng.pick(&self.lines).clone()
     }
 
     /// A line that is taken next.
     pub fn good(&mut self, prng: &mut Prng) -> Vec<u8> {
-        self.run.next(prng).1
+        self.settle(prng);
+        self.run.values(&self.run.aside(prng))
     }
 
-    /// Any line: good ones mostly, but every refusal too.
+    /// Gives the turn to somebody whose next line can be taken.
+    pub fn settle(&mut self, prng: &mut Prng) {
+        if self.run.is_ninth() {
+            self.run.pass_to_known(prng);
+        }
+    }
+
+    /// Gives the turn to somebody whose next line can be taken and whose name can be split, if there is one.
+    pub fn settle_long(&mut self, prng: &mut Prng) {
+        for _ in 0..20 {
+            self.run.pass(prng);
+            self.settle(prng);
+            if self.run.sender().len() > 1 {
+                return;
+            }
+        }
+    }
+
+    /// Any line of anybody: good ones mostly, but every refusal too.
     pub fn any(&mut self, prng: &mut Prng) -> Vec<u8> {
-        match prng.weighted(&[55, 12, 5, 6, 7, 7, 4, 4]) {
+        self.run.pass(prng);
+        match prng.weighted(&[53, 6, 8, 5, 6, 7, 6, 3, 3, 3, 2]) {
             0 => self.good(prng),
             1 => self.resent(),
-            2 => self.run.other_readings(prng).1,
-            3 => self.run.other_number(prng).1,
-            4 => self.run.bad_values(prng).1,
-            5 => self.run.bad_field(prng).1,
-            6 => Vec::new(),
+            2 => self.late(prng),
+            3 => self.run.other_readings(prng).1,
+            4 => self.run.other_number(prng).1,
+            5 => self.run.bad_values(prng).1,
+            6 => self.run.bad_field(prng).1,
+            7 => self.run.bad_sender(prng).1,
+            // That of a ninth sender, perhaps.
+            8 => self.run.values(&self.run.aside(prng)),
+            9 => Vec::new(),
             _ => {
                 let length = prng.below(40);
                 exact::noise(prng, length)
@@ -141,6 +178,7 @@ impl<'p> Draft<'p> {
         while self.bytes.len() + near < offset {
             self.fill(prng, offset - self.bytes.len() - near / 2);
         }
+        self.settle(prng);
         while self.bytes.len() <= offset {
             let length = self.step_towards(prng, offset - self.bytes.len());
             let line = exact::good(prng, &self.run, length).unwrap_or_else(|| exact::bad(prng, &self.run, length));
@@ -174,9 +212,15 @@ impl<'p> Draft<'p> {
         }
     }
 
+    /// Bytes of the last new line's row with its line feed, or of the row of somebody who has sent nothing.
+    fn last_row_length(&self) -> usize {
+        let name = self.state.senders.get(self.last).map_or(self.run.sender(), |sender| &sender.name);
+        rows::row_of(self.bench, &self.state, name).len() + 1
+    }
+
     /// Writes lines until exactly this many bytes are printed, as far as the rows' lengths let it.
     pub fn print_up_to(&mut self, prng: &mut Prng, length: usize) {
-        while self.printed + 12 * self.row_length() + 200 < length {
+        while self.printed + 12 * self.last_row_length() + 200 < length {
             // A refused line of a byte or two prints eleven: without them the file would get far longer than what it prints.
             let line = if prng.chance(60) { exact::refused(prng) } else { self.any(prng) };
             self.push(&line);
@@ -194,8 +238,8 @@ impl<'p> Draft<'p> {
 
     /// How many refused and how many resent lines together print this many bytes.
     fn split(&self, rest: usize) -> Option<(usize, usize)> {
-        let row = self.row_length();
-        if self.last.is_empty() {
+        let row = self.last_row_length();
+        if self.lines.is_empty() {
             return (rest == 0).then_some((0, 0));
         }
         let refused = (0..row).find(|refused| refused * REFUSED_LINE <= rest && (rest - refused * REFUSED_LINE).is_multiple_of(row))?;

@@ -4,6 +4,9 @@ use super::draft::{self, Draft};
 use super::{benches, exact, Files, CHUNKS};
 use crate::generate::prng::Prng;
 
+/// Lines so near a chunk's end come from one sender.
+const NEAR: usize = 300;
+
 /// The most bytes of a file before its last chunk.
 const BYTES_MOST: usize = 340_000;
 
@@ -20,12 +23,21 @@ enum Edge {
     OneByteAfter,
     /// An empty line: the line feed before it is the last byte of the chunk before, its own the first of the chunk.
     EmptyLine,
+    SenderSplit,
     NumberSplit,
     ValueSplit,
 }
 
-const EDGES: [Edge; 7] =
-    [Edge::FeedLast, Edge::FeedFirst, Edge::OneByteBefore, Edge::OneByteAfter, Edge::EmptyLine, Edge::NumberSplit, Edge::ValueSplit];
+const EDGES: [Edge; 8] = [
+    Edge::FeedLast,
+    Edge::FeedFirst,
+    Edge::OneByteBefore,
+    Edge::OneByteAfter,
+    Edge::EmptyLine,
+    Edge::SenderSplit,
+    Edge::NumberSplit,
+    Edge::ValueSplit,
+];
 
 /// A file with an edge at each of some chunk ends; its size is a multiple of the chunk, one less or one more.
 pub fn edges(prng: &mut Prng, turn: usize) -> Files {
@@ -53,19 +65,38 @@ fn cross(prng: &mut Prng, draft: &mut Draft, first: usize, edge: Edge) {
             draft.reach(prng, first - 1);
             draft.push(b"");
         }
-        Edge::NumberSplit => split(prng, draft, first, false),
-        Edge::ValueSplit => split(prng, draft, first, true),
+        Edge::SenderSplit | Edge::NumberSplit | Edge::ValueSplit => split(prng, draft, first, edge),
     }
     // What comes after shows whether the line was read right.
+    if prng.chance(30) {
+        again(prng, draft);
+    }
     let line = exact::good(prng, &draft.run, exact::shortest(&draft.run)).unwrap_or_default();
     draft.push(&line);
 }
 
-/// Writes a good line across the first byte of a chunk, split in its number or in a value after it.
-fn split(prng: &mut Prng, draft: &mut Draft, first: usize, in_value: bool) {
-    // The number may get one more digit on the way.
-    let digits = (draft.run.number + 20).to_string().len();
-    let before = if in_value { digits + 1 + prng.between(1, 9) } else { prng.between(1, digits.max(2) - 1) };
+/// The last new line again, mostly after a line of somebody else.
+fn again(prng: &mut Prng, draft: &mut Draft) {
+    let line = draft.resent();
+    draft.run.pass(prng);
+    let next = draft.good(prng);
+    draft.push(&next);
+    draft.push(&line);
+}
+
+/// Writes a good line across the first byte of a chunk, split in its sender, in its number or in a value after them.
+fn split(prng: &mut Prng, draft: &mut Draft, first: usize, edge: Edge) {
+    // Whoever is near the chunk's end sends the lines up to it, so their names and numbers are known but for one digit more.
+    draft.reach(prng, first - NEAR.min(first - draft.bytes.len()));
+    if edge == Edge::SenderSplit {
+        draft.settle_long(prng);
+    }
+    let (name, digits) = (draft.run.sender().len(), (draft.run.number() + 20).to_string().len());
+    let before = match edge {
+        Edge::SenderSplit => prng.between(1, name.max(2) - 1),
+        Edge::NumberSplit => name + 1 + prng.between(1, digits.max(2) - 1),
+        _ => name + 1 + digits + 1 + prng.between(1, 9),
+    };
     draft.reach(prng, first - before - 1);
     let length = exact::shortest(&draft.run) + 10;
     let line = exact::good(prng, &draft.run, length).unwrap_or_else(|| draft.good(prng));

@@ -54,7 +54,7 @@ pub fn refused(prng: &mut Prng, turn: usize) -> Files {
         0 => None,
         1 => Some(Vec::new()),
         2 => Some(exact::noise(prng, 70_000)),
-        _ => Some(b"n\n1\n2\n".to_vec()),
+        _ => Some(b"by n\na 1\na 2\n".to_vec()),
     };
     (Some(text), readings)
 }
@@ -62,7 +62,7 @@ pub fn refused(prng: &mut Prng, turn: usize) -> Files {
 /// Each way in which a file or both are missing or empty, and files of one byte.
 pub fn missing(prng: &mut Prng, turn: usize) -> Files {
     let (text, readings) = good(prng);
-    let byte = *prng.pick(b"\n nr#\0");
+    let byte = *prng.pick(b"\n nbr#\0");
     let file = |state: usize, good: Vec<u8>| match state {
         0 => None,
         1 => Some(Vec::new()),
@@ -75,7 +75,7 @@ pub fn missing(prng: &mut Prng, turn: usize) -> Files {
 
 /// A good line of names, or none, and then bytes without sense; of a size at a chunk's end.
 pub fn noise(prng: &mut Prng, turn: usize) -> Files {
-    const ALPHABETS: [&[u8]; 4] = [b"", b"0123456789 -?\n", b"1 \n", b"\n\r\0 "];
+    const ALPHABETS: [&[u8]; 4] = [b"", b"ab0123456789 -?\n", b"a1 \n", b"\n\r\0 "];
     let (text, mut readings) = good(prng);
     if !readings.ends_with(b"\n") {
         readings.push(b'\n');

@@ -1,4 +1,4 @@
-//! Long lines of names. No good one has more than 20,001 bytes: 384 events at 50 bytes, 32 presences at 25, and the `n`.
+//! Long lines of names. No good one has more than 20,004 bytes: 384 events at 50 bytes, 32 presences at 25, and `by n`.
 
 use super::{benches, draft, exact, files, Files, CHUNKS};
 use crate::generate::bench::{render, Plan};
@@ -7,7 +7,10 @@ use crate::generate::prng::Prng;
 use benches::{Mirror, LONGEST_NAMES, LONG_NAMES};
 
 const GOOD_LENGTHS: [usize; 13] = [4_094, 4_095, 4_096, 4_097, 8_191, 8_192, 8_193, 12_288, 16_383, 16_384, 16_385, LONGEST, LONGEST];
-const LONGEST: usize = 20_001;
+const LONGEST: usize = 20_004;
+
+/// `by n`
+const HEAD: usize = 4;
 
 const BAD_LENGTHS: [usize; 13] =
     [32_767, 32_768, 32_769, 32_770, 65_535, 65_536, 65_537, 98_304, 131_071, 131_072, 131_073, 200_000, 300_000];
@@ -39,7 +42,7 @@ fn good(prng: &mut Prng, length: usize) -> Files {
 fn columns_of_length(prng: &mut Prng, plan: &Plan, length: usize) -> Option<Vec<Column>> {
     let mut columns = all_columns(plan);
     prng.shuffle(&mut columns);
-    let takes = |column: &Column| Line { columns: vec![*column], fields: Vec::new() }.names(plan).len() - 1;
+    let takes = |column: &Column| Line { columns: vec![*column], fields: Vec::new() }.names(plan).len() - HEAD;
     // For each length that some of the columns so far make: the last of them.
     let mut last: Vec<Option<usize>> = vec![None; length];
     for (number, column) in columns.iter().enumerate() {
@@ -51,7 +54,7 @@ fn columns_of_length(prng: &mut Prng, plan: &Plan, length: usize) -> Option<Vec<
         }
     }
     let mut chosen = Vec::new();
-    let mut sum = length - 1;
+    let mut sum = length - HEAD;
     while sum > 0 {
         let column = columns[last[sum]?];
         sum -= takes(&column);
@@ -96,7 +99,7 @@ fn good_parts(prng: &mut Prng) -> (Vec<u8>, Vec<u8>, Vec<u8>) {
 
 /// The names again and again, so that all are known but none new.
 fn repeated(names: &[u8], length: usize) -> Vec<u8> {
-    let columns = if names.len() > 1 { &names[1..] } else { b" n" };
+    let columns = if names.len() > HEAD { &names[HEAD..] } else { b" n" };
     let mut bytes = names.to_vec();
     while bytes.len() < length {
         bytes.extend_from_slice(columns);
@@ -106,7 +109,7 @@ fn repeated(names: &[u8], length: usize) -> Vec<u8> {
 
 /// A short line of names, good or damaged, often without anything after it.
 fn short(prng: &mut Prng, turn: usize) -> Files {
-    const ENDS: [&[u8]; 5] = [b"", b"\n", b"\n\n", b"\n1", b"\r\n1\r\n"];
+    const ENDS: [&[u8]; 5] = [b"", b"\n", b"\n\n", b"\na 1", b"\r\na 1\r\n"];
     let plan = benches::small(prng);
     let text = render(prng, &plan.words);
     let line = Line { columns: benches::columns(prng, &plan), fields: Vec::new() };

@@ -66,7 +66,7 @@ fn stretch(prng: &mut Prng, draft: &mut Draft, turn: usize) {
         0 => (0..count).for_each(|_| draft.push(&exact::refused(prng))),
         // More than a chunk of them, every other time.
         1 if turn % 8 == 1 => (0..CHUNK / draft.resent().len() + 2).for_each(|_| draft.push(&draft.resent())),
-        1 => (0..count).for_each(|_| draft.push(&draft.resent())),
+        1 => (0..count).for_each(|_| draft.push(&draft.late(prng))),
         // More than a chunk of empty lines.
         2 if turn % 8 == 2 => (0..CHUNK + 5).for_each(|_| draft.push(b"")),
         2 => (0..count).for_each(|_| draft.push(&exact::long_field(prng, &draft.run, 50))),

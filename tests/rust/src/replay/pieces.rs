@@ -2,6 +2,7 @@
 
 use crate::generate::prng::Prng;
 use crate::interpreter::line::VALUES_MOST;
+use crate::interpreter::text::NAME_MOST;
 
 /// The writer waits before each piece until the one before is read, so a file has at most so many.
 pub const PIECES_MOST: usize = 60;
@@ -51,8 +52,8 @@ fn step(prng: &mut Prng, rest: &[u8], at: usize) -> usize {
         5 => feed.max(1),
         6 => feed + 1,
         7 => feed + 2,
-        // In the next line's number, if it has as many digits.
-        8 => feed + 1 + prng.between(1, 4),
+        // In the next line's sender or number, if they have as many bytes.
+        8 => feed + 1 + prng.between(1, 6),
         _ => prng.between(1, rest.len()),
     }
 }
@@ -73,12 +74,12 @@ fn tails(prng: &mut Prng, readings: &[u8]) -> Vec<usize> {
     cuts
 }
 
-/// A place such that the rest has so many fields, the first of them a number if digits stand there.
+/// A place such that the rest has so many fields, the first of them a sender if letters stand there.
 fn tail(prng: &mut Prng, line: &[u8], fields: usize) -> Option<usize> {
     let mut ends = (0..line.len()).rev().filter(|&at| line[at] == b' ');
     let end = if fields == 1 { line.len() } else { ends.nth(fields - 2)? };
-    let digits = line[..end].iter().rev().take(10).take_while(|byte| byte.is_ascii_digit()).count();
-    end.checked_sub(prng.between(1, digits.max(1)))
+    let letters = line[..end].iter().rev().take(NAME_MOST).take_while(|byte| byte.is_ascii_alphabetic()).count();
+    end.checked_sub(prng.between(1, letters.max(1)))
 }
 
 /// The parts of some bytes between the cuts.

@@ -1,7 +1,8 @@
 //! Records about 8,192 bytes long and far longer ones, within a chunk and across its end; and long ones that are taken.
 //!
-//! No record of more than 6,698 bytes is taken: 32 entities have at most 384 events, a real takes 17 bytes with its space, a presence 5
-//! with its entity there, the number 10. So a record of 8,192 bytes can get 21 and 23, but neither 24 nor 25.
+//! No record of more than 6,723 bytes is taken: 32 entities have at most 384 events, a real takes 17 bytes with its space, a presence 5
+//! with its entity there, the sender 24, the number 11 with its space. So a record of 8,192 bytes can get 21, 43, 42 and 23, but neither 24
+//! nor 25.
 
 use super::draft::{self, Draft};
 use super::{benches, exact, Files, CHUNKS};
@@ -61,8 +62,12 @@ fn long_record(prng: &mut Prng, draft: &mut Draft, length: usize) {
     };
     let first = chunk_after(prng, draft, before + 1);
     draft.reach(prng, first - before - 1);
-    // Mostly with one bad field only, so that the length decides between 21 and 23.
-    let record = if prng.chance(60) { exact::long_field(prng, &draft.run, length) } else { exact::bad(prng, &draft.run, length) };
+    // Mostly with one bad field only, so that the length decides between 21 and 23, or 43.
+    let record = match prng.weighted(&[50, 15, 35]) {
+        0 => exact::long_field(prng, &draft.run, length),
+        1 => exact::long_sender(prng, &draft.run, length),
+        _ => exact::bad(prng, &draft.run, length),
+    };
     draft.push(&record);
 }
 
@@ -72,7 +77,7 @@ fn good_tail(prng: &mut Prng, draft: &mut Draft) {
     let first = chunk_after(prng, draft, before + 1);
     draft.reach(prng, first - before - 1);
     let mut record = exact::bad(prng, &draft.run, before);
-    record.extend(draft.run.aside(prng).values(draft.run.number + 1));
+    record.extend(draft.run.values(&draft.run.aside(prng)));
     draft.push(&record);
 }
 
@@ -86,7 +91,7 @@ fn long_line(prng: &mut Prng, draft: &mut Draft) {
         2 => draft.run.other_number(prng).1,
         3 => draft.run.other_readings(prng).1,
         4 => draft.run.bad_field(prng).1,
-        _ => draft.resent(),
+        _ => draft.late(prng),
     };
     draft.push(&line);
 }

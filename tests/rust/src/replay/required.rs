@@ -18,6 +18,7 @@ pub const BYTES: &str = "bytes in readings";
 pub const PRINTED: &str = "printed";
 pub const ROWS: &str = "rows";
 pub const STRETCHES: &str = "stretches";
+pub const SENDERS: &str = "senders";
 pub const PIPES: &str = "readings through a pipe";
 
 /// Lengths of records that are counted one by one.
@@ -75,7 +76,7 @@ pub fn piece_name(read: usize, off: isize) -> String {
 
 /// Every class that a run must have.
 pub fn required() -> Vec<Class> {
-    let groups: [(&'static str, Vec<String>); 13] = [
+    let groups: [(&'static str, Vec<String>); 14] = [
         (FILES, files()),
         (INPUT, input()),
         (TEXTS, texts()),
@@ -88,6 +89,7 @@ pub fn required() -> Vec<Class> {
         (PRINTED, printed()),
         (ROWS, words(&["no cell", "one cell", "a hundred cells or more", "more than 4096 bytes", "more than 16384 bytes"])),
         (STRETCHES, stretches()),
+        (SENDERS, senders()),
         (PIPES, pipes()),
     ];
     groups.into_iter().flat_map(|(group, names)| names.into_iter().map(move |name| (group, name))).collect()
@@ -134,7 +136,7 @@ fn names() -> Vec<String> {
 
 fn ends() -> Vec<String> {
     let feeds = ["line feed last", "line feed first", "empty line across"];
-    let bytes = ["one byte before", "one byte after", "number split", "value split"];
+    let bytes = ["one byte before", "one byte after", "sender split", "number split", "value split"];
     let kinds = feeds.iter().chain(&bytes);
     kinds.flat_map(|kind| CHUNKS.map(|chunk| end_name(chunk, kind))).collect()
 }
@@ -149,8 +151,8 @@ fn lengths() -> Vec<String> {
 }
 
 fn answers() -> Vec<String> {
-    let mut names = words(&["taken", "21", "23", "24", "25"]);
-    names.extend(words(&["8191 bytes: 23", "8192 bytes: 21", "8192 bytes: 23", "8193 bytes: 21", "8194 bytes: 21"]));
+    let mut names = words(&["taken", "21", "43", "42", "23", "24", "25"]);
+    names.extend(words(&["8191 bytes: 23", "8192 bytes: 21", "8192 bytes: 23", "8192 bytes: 43", "8193 bytes: 21", "8194 bytes: 21"]));
     names.extend(["taken", "23", "24", "25"].map(|answer| format!("4097 to 8191 bytes, regular: {answer}")));
     names.extend(words(&["8193 bytes, else regular: 21", "more than 8193 bytes, else regular: 21"]));
     names
@@ -173,9 +175,17 @@ fn stretches() -> Vec<String> {
     words(&["1000 lines refused", "1000 lines resent", "more than 65536 bytes refused", "more than 65536 bytes resent"])
 }
 
+fn senders() -> Vec<String> {
+    let mut names: Vec<String> = (1..=8).map(|count| format!("{count} known")).collect();
+    names.extend(words(&["a name of 24 bytes", "a reserved word", "the last new line again", "an earlier line again"]));
+    names.extend(words(&["an earlier line again, a chunk later", "an earlier line again that lay across chunks"]));
+    names
+}
+
 fn pipes() -> Vec<String> {
     let mut names = words(&[ANY_PIPE, "refused bench", "refused line of names", "cut inside a line of names", "a piece of one byte"]);
-    names.extend(words(&["cut after a line's first byte", "cut within a line's number", "a line in three pieces or more"]));
+    names.extend(words(&["cut after a line's first byte", "cut within a line's sender", "cut within a line's number"]));
+    names.push("a line in three pieces or more".into());
     names.extend(words(&["cut right before a line feed", "cut right after a line feed", "a record of more than 8192 bytes, cut"]));
     names.push("a record too long before a cut, regular after it".into());
     names.extend(READS.iter().flat_map(|&read| [-1, 1].map(|off| piece_name(read, off))));

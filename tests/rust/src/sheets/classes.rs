@@ -173,24 +173,40 @@ impl Seen {
         self.add_if((0..chosen.len()).any(|at| twice(at) && chosen[at].kind == Kind::Real), LISTS, "one real cell twice");
         let mut columns: Vec<Vec<Cell>> = vec![Vec::new(); chosen.len()];
         let mut first = true;
+        // The sender's place and the number of each printed line.
+        let mut numbers: Vec<(usize, u32)> = Vec::new();
         day(bench, state, readings, &mut |passed, after| {
-            self.line(passed, first);
+            self.line(passed, first, numbers.last().map(|(sender, _)| *sender));
             first = false;
-            if passed == Passed::Printed {
-                self.printed_line(bench, after, &chosen, &mut columns);
+            if let Passed::Printed(sender) = passed {
+                self.printed_line(bench, after, sender, &chosen, &mut columns);
+                numbers.push((sender, after.senders[sender].number));
             }
         })
         .expect("an accepted sheet's names are taken");
         self.day(state);
+        self.senders(&numbers);
         self.closing(&chosen, &columns);
     }
 
-    fn line(&mut self, passed: Passed, first: bool) {
+    /// `printed`: the sender of the last printed line.
+    fn line(&mut self, passed: Passed, first: bool, printed: Option<usize>) {
         match passed {
             Passed::Refused(number) => self.add(LINES, format!("refused by {number}")),
-            Passed::Resent => self.add(LINES, if first { "the lent state's line first" } else { "resent in the day" }),
-            Passed::Printed => self.printed += 1,
+            Passed::Resent(sender) => {
+                self.add(LINES, if first { "the lent state's line first" } else { "resent in the day" });
+                self.add_if(printed.is_some_and(|printed| printed != sender), LINES, "resent after a line of another");
+            }
+            Passed::Printed(_) => self.printed += 1,
         }
+    }
+
+    /// `numbers`: sender and number of each printed line.
+    fn senders(&mut self, numbers: &[(usize, u32)]) {
+        let several = numbers.iter().any(|(sender, _)| *sender != numbers[0].0);
+        self.add_if(several, LINES, "printed lines of several senders");
+        self.add_if(numbers.windows(2).any(|pair| pair[0].1 == pair[1].1), LINES, "one number twice, of two senders");
+        self.add_if(numbers.windows(2).any(|pair| pair[0].1 > pair[1].1), LINES, "a lesser number after a greater");
     }
 
     fn day(&mut self, state: &State) {
@@ -202,11 +218,12 @@ impl Seen {
             _ => "forty or more printed",
         };
         self.add(LINES, name);
-        self.add(LINES, if state.number == 0 { "from a fresh state" } else { "from a state in mid run" });
+        self.add(LINES, if state.senders.is_empty() { "from a state that knows nobody" } else { "from a state in mid run" });
+        self.add_if(state.senders.len() > 1, LINES, "from a state that knows several");
     }
 
-    fn printed_line(&mut self, bench: &Bench, after: &State, chosen: &[Chosen], columns: &mut [Vec<Cell>]) {
-        self.add_if(after.number >= 1_000_000_000, LINES, "a number of ten digits");
+    fn printed_line(&mut self, bench: &Bench, after: &State, sender: usize, chosen: &[Chosen], columns: &mut [Vec<Cell>]) {
+        self.add_if(after.senders[sender].number >= 1_000_000_000, LINES, "a number of ten digits");
         for (column, cell) in columns.iter_mut().zip(chosen) {
             let member = &bench.members_of(cell.entity)[cell.member];
             let read = after.now.read(cell.entity, cell.member);
@@ -332,20 +349,27 @@ const READINGS: [&str; 8] = [
     "two last line feeds",
 ];
 
-const DAYS: [&str; 17] = [
+const DAYS: [&str; 24] = [
     "refused by 21",
+    "refused by 43",
+    "refused by 42",
     "refused by 23",
     "refused by 24",
     "refused by 25",
     "the lent state's line first",
     "resent in the day",
+    "resent after a line of another",
+    "printed lines of several senders",
+    "one number twice, of two senders",
+    "a lesser number after a greater",
     "none printed",
     "one printed",
     "two to four printed",
     "five or more printed",
     "forty or more printed",
-    "from a fresh state",
+    "from a state that knows nobody",
     "from a state in mid run",
+    "from a state that knows several",
     "a number of ten digits",
     "a second row",
     "a second row in some lines",

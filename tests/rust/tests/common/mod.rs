@@ -50,6 +50,6 @@ pub fn keeping(kind: &str, sum: &str) -> String {
 
 /// What the sum gives, as a row prints it.
 pub fn sum(kind: &str, sum: &str) -> String {
-    let printed = printed(&keeping(kind, sum), "n x.go\n1 true");
-    printed.lines().nth(1).expect("a row").strip_prefix("1 ").expect("the number").to_string()
+    let printed = printed(&keeping(kind, sum), "by n x.go\na 1 true");
+    printed.lines().nth(1).expect("a row").strip_prefix("a 1 ").expect("sender and number").to_string()
 }

@@ -1,159 +1,143 @@
--- `cycle` meets its contract: the store that the rules see is put into arrays, with their writes, and the image is gathered.
+use borrow.Author.Needs.{needs}
 use native.Mathlib.Omega.{arith}
 use lib.ListN.{replicate}
 use Rattle.cycles.proofs.steps.CycleMemoryLaws.{zeros-blank, cycle-impossible, cycled}
-use borrow.Author.Needs.{needs}
 use Rattle.cycles.proofs.cycle.cycle.Statement.{statement}
 use Rattle.cycles.proofs.cycle.cycle.Tie as tie
+use Rattle.cycles.proofs.cycle.cycle.Reads as reads
+use Rattle.cycles.proofs.cycle.cycle.Lts as lts
+use Rattle.checking.proofs.row.Reads as row-reads
+use Rattle.cycles.proofs.bindings.all_rules.Reads as all-rules-reads
+use Rattle.cycles.proofs.cycle.put_next.Reads as put-next-reads
+use Rattle.cycles.proofs.cycle.see_cells.Reads as see-cells-reads
+use Rattle.cycles.proofs.cycle.see_flags.Reads as see-flags-reads
+use Rattle.cycles.proofs.planes.put_stores.Reads as put-stores-reads
 
+-- src/cycle.rt:176:9
 row-requires : tie.Need-row-requires
 row-requires c κs = search needs
 
+-- src/cycle.rt:178:9
 returns : tie.Need-returns
-returns c =
-    let row = c .before .row in
-    let if1 = c .if1 in
-    cycle-impossible (row .ensures .0) (if1 .taken)
+returns c = cycle-impossible (c .before .row .ensures .0) (c .if1 .taken)
 
-add-previous-flags : tie.Need-add-previous-flags
-add-previous-flags c = search needs
+-- src/cycle.rt:180:20
+mul-previous : tie.Need-mul-previous
+mul-previous c = search needs
 
-mul-now-cells : tie.Need-mul-now-cells
-mul-now-cells c = search needs
-
-add-now-cells : tie.Need-add-now-cells
-add-now-cells c = search needs
-
-mul-previous-cells : tie.Need-mul-previous-cells
-mul-previous-cells c = search needs
-
+-- src/cycle.rt:181:26
 add-previous-cells : tie.Need-add-previous-cells
 add-previous-cells c = search needs
 
-sub-see-flags : tie.Need-sub-see-flags
-sub-see-flags c = search needs
-
-part-see-flags-start : tie.Need-part-see-flags-start
-part-see-flags-start c = search needs
-
-part-see-flags-end : tie.Need-part-see-flags-end
-part-see-flags-end c = search needs
-
+-- src/cycle.rt:186:39
 slice-aggregate-see-flags : tie.Need-slice-aggregate-see-flags
 slice-aggregate-see-flags c = search needs
 
+-- src/cycle.rt:186:5
 see-flags-requires : tie.Need-see-flags-requires
 see-flags-requires c κs = search needs
 
-sub-see-cells : tie.Need-sub-see-cells
-sub-see-cells c = search needs
-
-part-see-cells-start : tie.Need-part-see-cells-start
-part-see-cells-start c = search needs
-
-part-see-cells-end : tie.Need-part-see-cells-end
-part-see-cells-end c = search needs
-
+-- src/cycle.rt:192:9
 slice-aggregate-see-cells : tie.Need-slice-aggregate-see-cells
 slice-aggregate-see-cells c = search needs
 
-sub-see-cells-2 : tie.Need-sub-see-cells-2
-sub-see-cells-2 c = search needs
+-- src/cycle.rt:193:9
+sub-see-cells : tie.Need-sub-see-cells
+sub-see-cells c = search needs
 
-part-see-cells-start-2 : tie.Need-part-see-cells-start-2
-part-see-cells-start-2 c = search needs
+-- src/cycle.rt:193:9
+part-see-cells-start : tie.Need-part-see-cells-start
+part-see-cells-start c = search needs
 
-part-see-cells-end-2 : tie.Need-part-see-cells-end-2
-part-see-cells-end-2 c = search needs
+-- src/cycle.rt:193:9
+part-see-cells-end : tie.Need-part-see-cells-end
+part-see-cells-end c = search needs
 
+-- src/cycle.rt:195:9
 slice-aggregate-see-cells-2 : tie.Need-slice-aggregate-see-cells-2
 slice-aggregate-see-cells-2 c = search needs
 
+-- src/cycle.rt:187:5
 see-cells-requires : tie.Need-see-cells-requires
-see-cells-requires c κs =
-    let see-flags = c .before .before .before .before .before .before .see-flags in
-    omega (arith, see-flags .kept .1 .1 .1 .0)
+see-cells-requires c κs = omega (arith, c .before .before .before .before .see-flags .kept .1 .1 .1 .0)
 
+-- src/cycle.rt:203:9
 slice-aggregate-all-rules : tie.Need-slice-aggregate-all-rules
 slice-aggregate-all-rules c = search needs
 
+-- src/cycle.rt:204:9
 slice-aggregate-all-rules-2 : tie.Need-slice-aggregate-all-rules-2
 slice-aggregate-all-rules-2 c = search needs
 
+-- src/cycle.rt:205:9
 sub-all-rules : tie.Need-sub-all-rules
 sub-all-rules c = search needs
 
+-- src/cycle.rt:205:9
 part-all-rules-start : tie.Need-part-all-rules-start
 part-all-rules-start c = search needs
 
+-- src/cycle.rt:205:9
 part-all-rules-end : tie.Need-part-all-rules-end
 part-all-rules-end c = search needs
 
+-- src/cycle.rt:206:9
 sub-all-rules-2 : tie.Need-sub-all-rules-2
 sub-all-rules-2 c = search needs
 
+-- src/cycle.rt:206:9
 part-all-rules-start-2 : tie.Need-part-all-rules-start-2
 part-all-rules-start-2 c = search needs
 
+-- src/cycle.rt:206:9
 part-all-rules-end-2 : tie.Need-part-all-rules-end-2
 part-all-rules-end-2 c = search needs
 
+-- src/cycle.rt:207:9
 slice-aggregate-all-rules-3 : tie.Need-slice-aggregate-all-rules-3
 slice-aggregate-all-rules-3 c = search needs
 
+-- src/cycle.rt:197:5
 all-rules-requires : tie.Need-all-rules-requires
 all-rules-requires c κs = search needs
 
+-- src/cycle.rt:209:29
 slice-aggregate-put-next : tie.Need-slice-aggregate-put-next
 slice-aggregate-put-next c = search needs
 
+-- src/cycle.rt:209:37
 slice-aggregate-put-next-2 : tie.Need-slice-aggregate-put-next-2
 slice-aggregate-put-next-2 c = search needs
 
+-- src/cycle.rt:209:5
 put-next-requires : tie.Need-put-next-requires
-put-next-requires c κs =
-    let if1 = c .before .before .before .before .before .before .before .before .before .before .before .before .before .before .before .before .before .before .before .before .before .before .if1 in
-    let see-cells = c .before .before .before .before .before .before .before .before .before .before .before .see-cells in
-    let all-rules = c .before .before .before .all-rules in
-    omega (arith, if1 .left, see-cells .kept .1 .1 .1 .1 .1 .1 .1 .0, all-rules .kept .1 .1 .1 .1 .1 .1 .1 .1 .1 .0)
+put-next-requires c κs = omega (arith, c .before .before .before .before .before .before .before .before .before .before .before .before .before .before .before .before .before .before .if1 .left, c .before .before .before .before .before .before .before .before .before .before .see-cells .kept .1 .1 .1 .1 .1 .1 .1 .0, c .before .before .before .all-rules .kept .1 .1 .1 .1 .1 .1 .1 .1 .1 .0)
 
-slice-aggregate-put-state : tie.Need-slice-aggregate-put-state
-slice-aggregate-put-state c = search needs
+-- src/cycle.rt:210:19
+slice-aggregate-put-stores : tie.Need-slice-aggregate-put-stores
+slice-aggregate-put-stores c = search needs
 
-slice-aggregate-put-state-2 : tie.Need-slice-aggregate-put-state-2
-slice-aggregate-put-state-2 c = search needs
+-- src/cycle.rt:210:27
+slice-aggregate-put-stores-2 : tie.Need-slice-aggregate-put-stores-2
+slice-aggregate-put-stores-2 c = search needs
 
-slice-aggregate-put-state-3 : tie.Need-slice-aggregate-put-state-3
-slice-aggregate-put-state-3 c = search needs
+-- src/cycle.rt:210:34
+slice-aggregate-put-stores-3 : tie.Need-slice-aggregate-put-stores-3
+slice-aggregate-put-stores-3 c = search needs
 
-slice-aggregate-put-state-4 : tie.Need-slice-aggregate-put-state-4
-slice-aggregate-put-state-4 c = search needs
+-- src/cycle.rt:210:5
+put-stores-requires : tie.Need-put-stores-requires
+put-stores-requires c κs = omega (arith, c .before .before .before .before .before .before .before .before .before .before .before .before .before .before .before .before .before .before .before .before .before .before .before .before .before .before .before .before .before .before .before .before .before .before .pre .0 .0, c .before .before .before .before .before .before .before .before .before .before .before .before .before .before .before .before .before .before .before .before .before .before .before .before .before .before .before .before .before .before .before .before .before .before .pre .0 .1, c .before .before .before .before .before .before .before .before .before .before .before .before .before .before .before .before .before .before .before .before .before .before .before .before .before .before .before .before .before .before .before .before .before .before .pre .1, c .before .before .before .before .before .before .before .before .before .before .before .before .before .before .before .before .before .before .before .before .before .see-flags .kept .1 .1 .1 .0, c .before .before .before .before .before .before .before .before .before .before .before .before .before .before .before .before .see-cells .kept .1 .1 .1 .1 .1 .1 .1 .0, c .before .before .before .before .before .before .before .before .before .all-rules .kept .1 .1 .1 .1 .1 .1 .1 .1 .1 .0, c .before .before .before .before .before .put-next .kept .1 .1 .1 .1 .0)
 
-put-state-requires : tie.Need-put-state-requires
-put-state-requires c κs =
-    let pre = c .before .before .before .before .before .before .before .before .before .before .before .before .before .before .before .before .before .before .before .before .before .before .before .before .before .before .before .before .before .before .before .before .before .before .before .before .before .before .before .pre in
-    let see-flags = c .before .before .before .before .before .before .before .before .before .before .before .before .before .before .before .before .before .before .before .before .before .before .before .before .before .see-flags in
-    let see-cells = c .before .before .before .before .before .before .before .before .before .before .before .before .before .before .before .before .before .before .see-cells in
-    let all-rules = c .before .before .before .before .before .before .before .before .before .before .all-rules in
-    let put-next = c .before .before .before .before .before .before .put-next in
-    omega (arith, pre .0 .0, pre .0 .1, pre .1, see-flags .kept .1 .1 .1 .0, see-cells .kept .1 .1 .1 .1 .1 .1 .1 .0, all-rules .kept .1 .1 .1 .1 .1 .1 .1 .1 .1 .0, put-next .kept .1 .1 .1 .1 .0)
-
+-- src/cycle.rt:160:1
 same-length : tie.Need-same-length
 same-length c = search needs
 
+-- src/cycle.rt:160:1
 returns-2 : tie.Need-returns-2
-returns-2 c =
-    let row = c .before .before .before .before .before .before .before .before .before .before .before .before .before .before .before .before .before .before .before .before .before .before .before .before .before .before .before .before .before .before .before .before .before .row in
-    let if1 = c .before .before .before .before .before .before .before .before .before .before .before .before .before .before .before .before .before .before .before .before .before .before .before .before .before .before .before .before .before .before .before .before .if1 in
-    let pre = c .before .before .before .before .before .before .before .before .before .before .before .before .before .before .before .before .before .before .before .before .before .before .before .before .before .before .before .before .before .before .before .before .before .before .before .before .before .before .before .before .before .before .pre in
-    let see-flags = c .before .before .before .before .before .before .before .before .before .before .before .before .before .before .before .before .before .before .before .before .before .before .before .before .before .before .before .before .see-flags in
-    let see-cells = c .before .before .before .before .before .before .before .before .before .before .before .before .before .before .before .before .before .before .before .before .before .see-cells in
-    let all-rules = c .before .before .before .before .before .before .before .before .before .before .before .before .before .all-rules in
-    let put-next = c .before .before .before .before .before .before .before .before .before .put-next in
-    let put-state = c .before .before .put-state in
-    cycled (row .ensures .0) (if1 .left) (pre .1) (replicate 32 0)
+returns-2 c = cycled (c .before .before .before .before .before .before .before .before .before .before .before .before .before .before .before .before .before .before .before .before .before .before .before .before .before .before .before .before .row .ensures .0) (c .before .before .before .before .before .before .before .before .before .before .before .before .before .before .before .before .before .before .before .before .before .before .before .before .before .before .before .if1 .left) (c .before .before .before .before .before .before .before .before .before .before .before .before .before .before .before .before .before .before .before .before .before .before .before .before .before .before .before .before .before .before .before .before .before .before .before .before .before .pre .1) (replicate 32 0)
     (zeros-blank 3456 (omega arith))
-    (see-flags .ensures) (see-cells .ensures) (all-rules .ensures) (put-next .ensures) (put-state .ensures)
+    (c .before .before .before .before .before .before .before .before .before .before .before .before .before .before .before .before .before .before .before .before .before .before .before .before .see-flags .ensures) (c .before .before .before .before .before .before .before .before .before .before .before .before .before .before .before .before .before .before .before .see-cells .ensures) (c .before .before .before .before .before .before .before .before .before .before .before .before .all-rules .ensures) (c .before .before .before .before .before .before .before .before .put-next .ensures) (c .before .before .put-stores .ensures)
 
 pub cycle-spec : {M : Type 1} → statement M
 cycle-spec =
@@ -161,23 +145,14 @@ cycle-spec =
     (tie.spec
     row-requires
     returns
-    add-previous-flags
-    mul-now-cells
-    add-now-cells
-    mul-previous-cells
+    mul-previous
     add-previous-cells
-    sub-see-flags
-    part-see-flags-start
-    part-see-flags-end
     slice-aggregate-see-flags
     see-flags-requires
+    slice-aggregate-see-cells
     sub-see-cells
     part-see-cells-start
     part-see-cells-end
-    slice-aggregate-see-cells
-    sub-see-cells-2
-    part-see-cells-start-2
-    part-see-cells-end-2
     slice-aggregate-see-cells-2
     see-cells-requires
     slice-aggregate-all-rules
@@ -193,10 +168,9 @@ cycle-spec =
     slice-aggregate-put-next
     slice-aggregate-put-next-2
     put-next-requires
-    slice-aggregate-put-state
-    slice-aggregate-put-state-2
-    slice-aggregate-put-state-3
-    slice-aggregate-put-state-4
-    put-state-requires
+    slice-aggregate-put-stores
+    slice-aggregate-put-stores-2
+    slice-aggregate-put-stores-3
+    put-stores-requires
     same-length
     returns-2)

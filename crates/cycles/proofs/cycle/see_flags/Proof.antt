@@ -4,7 +4,7 @@ use mathlib.Core.List.{[], _∷_, _++_}
 use Prim.Native.Nat.{ℕ, _-_, _≤_}
 use native.Mathlib.Omega.{arith}
 use lib.ListN.{length, drop, length-set}
-use Rattle.cycles.specs.definitions.StateImage.{table}
+use Rattle.cycles.specs.definitions.Planes.{table}
 use Rattle.cycles.specs.contracts.CycleMemory.{seen-flag}
 use Rattle.cycles.proofs.laws.TableLaws.{flag-fill}
 use borrow.Author.Needs.{needs}

@@ -5,7 +5,7 @@ use mathlib.Core.Path.{_≡_, refl}
 use Rattle.values.specs.contracts.Puts.{Put}
 use Rattle.cycles.specs.contracts.FreshMemory.{flags-of}
 use Rattle.values.proofs.laws.PutLaws.{put-length}
-use Rattle.cycles.proofs.steps.FreshImage.{flags-begin, flags-next}
+use Rattle.cycles.proofs.steps.FreshPlanes.{flags-begin, flags-next}
 use borrow.Author.Needs.{needs}
 use Rattle.cycles.proofs.fresh.put_flags.Statement.{statement}
 use Rattle.cycles.proofs.fresh.put_flags.Tie as tie

@@ -3,7 +3,7 @@ use Prim.Native.Nat.{_-_, _≤_}
 use native.Mathlib.Omega.{arith}
 use mathlib.Core.Path.{_≡_}
 use Rattle.cycles.specs.contracts.FreshMemory.{Fresh-cells-put}
-use Rattle.cycles.proofs.steps.FreshImage.{fresh-cells-begin, fresh-cells-next}
+use Rattle.cycles.proofs.steps.FreshPlanes.{fresh-cells-begin, fresh-cells-next}
 use borrow.Author.Needs.{needs}
 use Rattle.cycles.proofs.fresh.put_fresh_cells.Statement.{statement}
 use Rattle.cycles.proofs.fresh.put_fresh_cells.Tie as tie

@@ -56,8 +56,12 @@ add-if2-2 c =
     let cell-token = c .before .before .before .before .before .cell-token in
     let name2 = c .name2 in
     let a = args in
-    let entity = name-below (a .text .now) (a .offsets .now) (a .lengths .now) (row .result + 1) (name .ensures) (omega (arith, shared-slice-known4 .given (row .result + 1))) in
-    let member = name-below (a .text .now) (a .offsets .now) (a .lengths .now) (cell-token .result + 1) (name2 .ensures) (omega (arith, shared-slice-known4 .given (cell-token .result + 1))) in
+    let entity =
+    name-below (a .text .now) (a .offsets .now) (a .lengths .now) (row .result + 1) (name .ensures)
+    (omega (arith, shared-slice-known4 .given (row .result + 1))) in
+    let member =
+    name-below (a .text .now) (a .offsets .now) (a .lengths .now) (cell-token .result + 1) (name2 .ensures)
+    (omega (arith, shared-slice-known4 .given (cell-token .result + 1))) in
     omega arith
 
 returns-2 : tie.Need-returns-2
@@ -89,15 +93,21 @@ add-put-bytes-2 : tie.Need-add-put-bytes-2
 add-put-bytes-2 c =
     let put-bytes = c .before .before .before .put-bytes in
     let if2 = c .before .before .before .before .before .if2 in
-    let pre = c .before .before .before .before .before .before .before .before .before .before .before .before .before .before .before .before .before .before .pre in
-    let good = c .before .before .before .before .before .before .before .before .before .before .before .before .before .before .before .before .before .before .good in
+    let c₁ = c .before .before .before .before .before .before .before .before .before .before in
+    let pre = c₁ .before .before .before .before .before .before .before .before .pre in
+    let c₁ = c .before .before .before .before .before .before .before .before .before .before in
+    let good = c₁ .before .before .before .before .before .before .before .before .good in
     omega (arith, put-bytes .ensures .0, if2 .left, pre, good)
 
 put-bytes-requires-2 : tie.Need-put-bytes-requires-2
-put-bytes-requires-2 c κs = simp length-set (omega (arith, c .before .before .before .put-bytes .ensures .0, simp length-set at (c .before .before .before .put-bytes .kept .0)))
+put-bytes-requires-2 c κs =
+    let put-bytes = c .before .before .before .put-bytes in
+    simp length-set (omega (arith, put-bytes .ensures .0, simp length-set at (put-bytes .kept .0)))
 
 same-length : tie.Need-same-length
-same-length c = c .before .before .put-bytes2 .kept .0 ∙ simp length-set (simp length-set at (c .before .before .before .before .before .before .put-bytes .kept .0))
+same-length c =
+    c .before .before .put-bytes2 .kept .0
+    ∙ simp length-set (simp length-set at (c .before .before .before .before .before .before .put-bytes .kept .0))
 
 returns-3 : tie.Need-returns-3
 returns-3 c =
@@ -107,7 +117,8 @@ returns-3 c =
     let row = c .before .before .before .before .before .before .before .before .before .before .before .row in
     let name = c .before .before .before .before .before .before .before .before .before .before .name in
     let name2 = c .before .before .before .before .before .before .before .before .before .name2 in
-    let pre = c .before .before .before .before .before .before .before .before .before .before .before .before .before .before .before .before .before .before .before .before .before .pre in
+    let c₁ = c .before .before .before .before .before .before .before .before .before .before in
+    let pre = c₁ .before .before .before .before .before .before .before .before .before .before .before .pre in
     let if2 = c .before .before .before .before .before .before .before .before .if2 in
     let put-bytes = c .before .before .before .before .before .before .put-bytes in
     let put-bytes2 = c .before .before .put-bytes2 in

@@ -1,8 +1,7 @@
--- `put_row_header` meets its contract: the names of the cells before number i stand after the first byte.
+-- `put_row_header` meets its contract: the names of the cells before number i stand after `by n`.
 use Prim.Native.Nat.{_-_, _≤_}
 use native.Mathlib.Omega.{arith}
-use mathlib.Core.Path.{_∙_}
-use lib.ListN.{length-set}
+use mathlib.Core.Path.{refl, _∙_}
 use Rattle.cycles.proofs.laws.RowPuts.{Names-so-far, names-begin, names-next, header-impossible, header-end}
 use borrow.Author.Needs.{needs}
 use Rattle.cycles.proofs.rows.put_row_header.Statement.{statement}
@@ -23,11 +22,18 @@ returns c = header-impossible (c .before .row .ensures .0) (c .if1 .taken)
 mul-end : tie.Need-mul-end Inv-loop μ-loop
 mul-end c = search needs
 
-slice-write-row : tie.Need-slice-write-row Inv-loop μ-loop
-slice-write-row c = search needs
+slice-aggregate-put-bytes : tie.Need-slice-aggregate-put-bytes Inv-loop μ-loop
+slice-aggregate-put-bytes c = refl
+
+put-bytes-requires : tie.Need-put-bytes-requires Inv-loop μ-loop
+put-bytes-requires c κs = omega arith
 
 loop-holds : tie.Need-loop-holds Inv-loop μ-loop
-loop-holds c = (omega arith, names-begin _ _ (simp length-set (omega arith)))
+loop-holds c =
+    let put-bytes = c .before .before .put-bytes in
+    let e = put-bytes .ensures .0 in
+    let k = put-bytes .kept .0 in
+    (omega arith, names-begin _ _ (omega arith))
 
 put-name-requires : tie.Need-put-name-requires Inv-loop μ-loop
 put-name-requires c κs = c .before .before .loop .inv .1 .within
@@ -42,13 +48,19 @@ loop-again : tie.Need-loop-again Inv-loop μ-loop
 loop-again c =
     let loop = c .before .before .before .before .before .loop in
     let put-name = c .before .before .put-name in
-    (omega arith, names-next (loop .inv .1) (put-name .kept .1 .1 .1 .1 .1 .1 .0) (simp length-set (omega arith)) (put-name .ensures))
+    let put-bytes = c .before .before .before .before .before .before .before .before .put-bytes in
+    let e = put-bytes .ensures .0 in
+    let k = put-bytes .kept .0 in
+    (omega arith, names-next (loop .inv .1) (put-name .kept .1 .1 .1 .1 .1 .1 .0) (omega arith) (put-name .ensures))
 
 same-length : tie.Need-same-length Inv-loop μ-loop
-same-length c = c .before .loop .inv .1 .same ∙ simp length-set
+same-length c = c .before .loop .inv .1 .same ∙ c .before .before .before .before .put-bytes .kept .0
 
 returns-2 : tie.Need-returns-2 Inv-loop μ-loop
-returns-2 c = header-end (c .before .before .before .row .ensures .0) _ (c .before .loop .inv .1) (c .before .loop .inv .0) (c .loop-test .left)
+returns-2 c =
+    let row = c .before .before .before .before .before .before .before .before .row in
+    let put-bytes = c .before .before .before .before .put-bytes in
+    header-end (row .ensures .0) (put-bytes .ensures) (c .before .loop .inv .1) (c .before .loop .inv .0) (c .loop-test .left)
 
 pub put-row-header-spec : {M : Type 1} → statement M
 put-row-header-spec =
@@ -59,7 +71,8 @@ put-row-header-spec =
     row-requires
     returns
     mul-end
-    slice-write-row
+    slice-aggregate-put-bytes
+    put-bytes-requires
     loop-holds
     put-name-requires
     add-i

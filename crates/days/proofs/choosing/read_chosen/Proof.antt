@@ -3,7 +3,7 @@ use mathlib.Core.Path.{refl}
 use Prim.Native.Nat.{_-_}
 use native.Mathlib.Omega.{arith}
 use Rattle.values.specs.declared.Value.the-variants.{Unset}
-use Rattle.cycles.proofs.laws.StateTestLaws.{behind}
+use Rattle.cycles.proofs.laws.PlaneTestLaws.{behind}
 use Rattle.days.specs.contracts.Choosing.{Spot-value}
 use Rattle.days.proofs.laws.ChosenReads.{Back-read, back-begins, back-next, cells-impossible, cells-read}
 use borrow.Author.Needs.{needs}
@@ -11,7 +11,7 @@ use Rattle.days.proofs.choosing.read_chosen.Statement.{statement}
 use Rattle.days.proofs.choosing.read_chosen.Tie as tie
 
 abbrev Inv-loop : tie.InvT-loop
-Inv-loop d state spots count vs₀ n cells k₀ vs k = Back-read (Spot-value (behind 4 state) (behind cells state)) Unset spots count k vs
+Inv-loop d state spots count vs₀ n cells k₀ vs k = Back-read (Spot-value (behind 5 state) (behind cells state)) Unset spots count k vs
 
 abbrev μ-loop : tie.MeasureT-loop
 μ-loop d state spots count vs₀ n cells k₀ vs k = count - k
@@ -21,9 +21,6 @@ row-requires c κs = search needs
 
 returns : tie.Need-returns Inv-loop μ-loop
 returns c = cells-impossible (c .before .row .ensures .0) (c .if1 .taken) _
-
-mul-cells : tie.Need-mul-cells Inv-loop μ-loop
-mul-cells c = search needs
 
 add-cells : tie.Need-add-cells Inv-loop μ-loop
 add-cells c = search needs
@@ -105,7 +102,6 @@ read-chosen-spec =
     μ-loop
     row-requires
     returns
-    mul-cells
     add-cells
     loop-holds
     sub-i

@@ -21,7 +21,7 @@ part-put-bytes-end : tie.Need-part-put-bytes-end
 part-put-bytes-end c = search needs
 
 put-bytes-requires : tie.Need-put-bytes-requires
-put-bytes-requires c κs = let n = length-take 10468 (now (c .before .before .before .before .args .state)) in rw n (omega arith)
+put-bytes-requires c κs = let n = length-take 35117 (now (c .before .before .before .before .args .state)) in rw n (omega arith)
 
 same-length : tie.Need-same-length
 same-length c = search needs

@@ -4,14 +4,12 @@ use Prim.Native.Nat.{_-_}
 use native.Mathlib.Omega.{arith}
 use mathlib.Core.Path.{_∙_}
 use lib.ListN.{length}
-use borrow.Author.Tests.{not-true, not-false}
 use Rattle.values.proofs.laws.PutLaws.{put-length}
 use Rattle.days.proofs.steps.DaySteps.{Going, going-begin, room-for-line, going-passes, going-prints, room-for-closing, going-ends}
 use Rattle.days.proofs.sheet.put_day.Statement.{statement}
 use Rattle.days.proofs.sheet.put_day.Tie as tie
 use Rattle.days.proofs.sheet.put_day.Reads as reads
 use Rattle.days.proofs.sheet.put_day.Lts as lts
-use Rattle.cycles.proofs.number.Reads as number-reads
 use Rattle.days.proofs.choosing.read_chosen.Reads as read-chosen-reads
 use Rattle.days.proofs.choosing.real_cells.Reads as real-cells-reads
 use Rattle.days.proofs.sheet.line_end.Reads as line-end-reads
@@ -55,30 +53,27 @@ loop-less : tie.Need-loop-less Inv-loop μ-loop
 loop-less c = let after = c .before .before .before .before .before .before .line-end .ensures .after in omega arith
 
 loop-again : tie.Need-loop-again Inv-loop μ-loop
-loop-again c = going-passes _ _ _ _ _ _ _ _ _ _ _ _ _ (c .before .before .before .before .before .before .before .before .loop .inv) (c .before .before .before .before .before .before .before .loop-test .taken) (c .before .before .before .before .before .before .line-end .ensures) (c .before .before .before .step .kept .1 .1 .1 .1 .1 .1 .1 .1 .0) (c .before .before .before .step .ensures) (not-true _ (c .if1 .taken))
+loop-again c = going-passes _ _ _ _ _ _ _ _ _ _ _ _ _ (c .before .before .before .before .before .before .before .before .loop .inv) (c .before .before .before .before .before .before .before .loop-test .taken) (c .before .before .before .before .before .before .line-end .ensures) (c .before .before .before .step .kept .1 .1 .1 .1 .1 .1 .1 .1 .0) (c .before .before .before .step .ensures) (c .if1 .taken)
 
 read-chosen-requires : tie.Need-read-chosen-requires Inv-loop μ-loop
 read-chosen-requires c κs =
     let kept = c .before .before .before .before .step .kept .1 .1 .1 .1 .1 .1 .1 .1 .0 in let size = c .before .before .before .before .before .before .before .before .before .loop .inv .state-size in
     (omega arith, c .before .before .before .before .before .before .before .before .before .before .before .before .before .before .before .before .before .before .before .before .before .pre .1 .0)
 
-number-requires : tie.Need-number-requires Inv-loop μ-loop
-number-requires c κs = let kept = c .before .before .before .before .before .before .before .step .kept .1 .1 .1 .1 .1 .1 .1 .1 .0 in let size = c .before .before .before .before .before .before .before .before .before .before .before .before .loop .inv .state-size in omega arith
-
 cast-put-line : tie.Need-cast-put-line Inv-loop μ-loop
 cast-put-line c = search needs
 
 put-line-requires : tie.Need-put-line-requires Inv-loop μ-loop
-put-line-requires c κs = (c .before .before .before .before .before .before .before .before .before .before .before .before .before .before .before .before .before .before .before .before .before .before .before .before .before .pre .1 .0 .0, room-for-line _ _ _ _ _ _ _ _ _ _ _ _ _ (c .before .before .before .before .before .before .before .before .before .before .before .before .before .loop .inv) (c .before .before .before .before .before .before .before .before .before .before .before .before .loop-test .taken) (c .before .before .before .before .before .before .before .before .before .before .before .line-end .ensures))
+put-line-requires c κs = (c .before .before .before .before .before .before .before .before .before .before .before .before .before .before .before .before .before .before .before .before .before .before .before .pre .1 .0 .0, room-for-line _ _ _ _ _ _ _ _ _ _ _ _ _ (c .before .before .before .before .before .before .before .before .before .before .before .loop .inv) (c .before .before .before .before .before .before .before .before .before .before .loop-test .taken) (c .before .before .before .before .before .before .before .before .before .line-end .ensures))
 
 folded-values-requires : tie.Need-folded-values-requires Inv-loop μ-loop
-folded-values-requires c κs = c .before .before .before .before .before .before .before .before .before .before .before .before .before .before .before .before .before .before .before .before .before .before .before .before .before .before .before .before .pre .1 .0 .0
+folded-values-requires c κs = c .before .before .before .before .before .before .before .before .before .before .before .before .before .before .before .before .before .before .before .before .before .before .before .before .before .before .pre .1 .0 .0
 
 loop-less-2 : tie.Need-loop-less-2 Inv-loop μ-loop
-loop-less-2 c = let after = c .before .before .before .before .before .before .before .before .before .before .before .before .before .before .before .line-end .ensures .after in omega arith
+loop-less-2 c = let after = c .before .before .before .before .before .before .before .before .before .before .before .before .before .line-end .ensures .after in omega arith
 
 loop-again-2 : tie.Need-loop-again-2 Inv-loop μ-loop
-loop-again-2 c = going-prints _ _ _ _ _ _ _ _ _ _ _ _ _ (c .before .before .before .before .before .before .before .before .before .before .before .before .before .before .before .before .before .loop .inv) (c .before .before .before .before .before .before .before .before .before .before .before .before .before .before .before .before .loop-test .taken) (c .before .before .before .before .before .before .before .before .before .before .before .before .before .before .before .line-end .ensures) (c .before .before .before .before .before .before .before .before .before .before .before .before .step .kept .1 .1 .1 .1 .1 .1 .1 .1 .0) (c .before .before .before .before .before .before .before .before .before .before .before .before .step .ensures) (not-false _ (c .before .before .before .before .before .before .before .before .before .if1 .left)) (c .before .before .before .before .number .ensures) (c .before .before .before .before .before .before .before .read-chosen .ensures) (c .before .before .before .before .before .before .before .before .before .before .before .before .before .before .before .before .before .before .before .before .before .before .before .before .before .before .before .before .before .pre .1 .0 .0) (c .before .before .before .put-line .ensures) (c .folded-values .ensures)
+loop-again-2 c = going-prints _ _ _ _ _ _ _ _ _ _ _ _ _ (c .before .before .before .before .before .before .before .before .before .before .before .before .before .before .before .loop .inv) (c .before .before .before .before .before .before .before .before .before .before .before .before .before .before .loop-test .taken) (c .before .before .before .before .before .before .before .before .before .before .before .before .before .line-end .ensures) (c .before .before .before .before .before .before .before .before .before .before .step .kept .1 .1 .1 .1 .1 .1 .1 .1 .0) (c .before .before .before .before .before .before .before .before .before .before .step .ensures) (c .before .before .before .before .before .before .before .if1 .left) (c .before .before .before .before .before .read-chosen .ensures) (c .before .before .before .before .before .before .before .before .before .before .before .before .before .before .before .before .before .before .before .before .before .before .before .before .before .before .before .pre .1 .0 .0) (c .before .before .before .put-line .ensures) (c .folded-values .ensures)
 
 real-cells-requires : tie.Need-real-cells-requires Inv-loop μ-loop
 real-cells-requires c κs = (c .before .before .before .before .before .before .before .before .before .before .before .before .before .pre .1 .0 .0, c .before .before .before .before .before .before .before .before .before .before .before .before .before .pre .1 .0 .1)
@@ -112,7 +107,6 @@ put-day-spec =
     loop-less
     loop-again
     read-chosen-requires
-    number-requires
     cast-put-line
     put-line-requires
     folded-values-requires

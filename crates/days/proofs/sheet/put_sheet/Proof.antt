@@ -8,17 +8,21 @@ use Rattle.days.proofs.sheet.put_sheet.Tie as tie
 use Rattle.days.proofs.sheet.put_sheet.Reads as reads
 use Rattle.days.proofs.sheet.put_sheet.Lts as lts
 use Rattle.cycles.proofs.header.read_header.Reads as read-header-reads
-use Rattle.cycles.proofs.is_state.Reads as is-state-reads
 use Rattle.days.proofs.choosing.choose.Reads as choose-reads
 use Rattle.days.proofs.sheet.copy_state.Reads as copy-state-reads
 use Rattle.days.proofs.sheet.line_end.Reads as line-end-reads
 use Rattle.days.proofs.sheet.put_day.Reads as put-day-reads
+use Rattle.senders.proofs.fingerprint.fingerprint.Reads as fingerprint-reads
+use Rattle.senders.proofs.is_state.Reads as is-state-reads
+
+fingerprint-requires : tie.Need-fingerprint-requires
+fingerprint-requires c κs = search needs
 
 is-state-requires : tie.Need-is-state-requires
 is-state-requires c κs = search needs
 
 returns : tie.Need-returns
-returns c = sheet-no-state _ _ _ _ _ _ _ _ _ _ _ _ (c .before .is-state .ensures) (not-true _ (c .if1 .taken))
+returns c = sheet-no-state _ _ _ _ _ _ _ _ _ _ _ _ (c .before .before .fingerprint .ensures) (c .before .is-state .ensures) (not-true _ (c .if1 .taken))
 
 slice-aggregate-choose : tie.Need-slice-aggregate-choose
 slice-aggregate-choose c = search needs
@@ -27,7 +31,7 @@ choose-requires : tie.Need-choose-requires
 choose-requires c κs = search needs
 
 returns-2 : tie.Need-returns-2
-returns-2 c = sheet-none-chosen _ _ _ _ _ _ _ _ _ _ _ _ (c .before .before .before .before .before .is-state .ensures) (not-false _ (c .before .before .before .before .if1 .left)) (c .before .before .choose .ensures) (c .if2 .taken)
+returns-2 c = sheet-none-chosen _ _ _ _ _ _ _ _ _ _ _ _ (c .before .before .before .before .before .before .fingerprint .ensures) (c .before .before .before .before .before .is-state .ensures) (not-false _ (c .before .before .before .before .if1 .left)) (c .before .before .choose .ensures) (c .if2 .taken)
 
 line-end-requires : tie.Need-line-end-requires
 line-end-requires c κs = omega arith
@@ -48,7 +52,7 @@ read-header-requires : tie.Need-read-header-requires
 read-header-requires c κs = search needs
 
 returns-3 : tie.Need-returns-3
-returns-3 c = sheet-no-header _ _ _ _ _ _ _ _ _ _ _ _ (c .before .before .before .before .before .before .before .before .before .before .before .is-state .ensures) (not-false _ (c .before .before .before .before .before .before .before .before .before .before .if1 .left)) (c .before .before .before .before .before .before .before .before .choose .ensures) (c .before .before .before .before .before .before .if2 .left) (c .before .before .before .before .before .line-end .ensures) (c .before .before .read-header .ensures) (c .if3 .taken)
+returns-3 c = sheet-no-header _ _ _ _ _ _ _ _ _ _ _ _ (c .before .before .before .before .before .before .before .before .before .before .before .before .fingerprint .ensures) (c .before .before .before .before .before .before .before .before .before .before .before .is-state .ensures) (not-false _ (c .before .before .before .before .before .before .before .before .before .before .if1 .left)) (c .before .before .before .before .before .before .before .before .choose .ensures) (c .before .before .before .before .before .before .if2 .left) (c .before .before .before .before .before .line-end .ensures) (c .before .before .read-header .ensures) (c .if3 .taken)
 
 slice-aggregate-copy-state : tie.Need-slice-aggregate-copy-state
 slice-aggregate-copy-state c = search needs
@@ -63,7 +67,7 @@ slice-aggregate-put-day-2 : tie.Need-slice-aggregate-put-day-2
 slice-aggregate-put-day-2 c = search needs
 
 add-put-day : tie.Need-add-put-day
-add-put-day c = let inside = c .before .before .before .before .before .before .before .before .before .before .line-end .ensures .inside in omega (arith, c .before .before .before .before .before .before .before .before .before .before .before .before .before .before .before .before .before .before .before .before .before .before .before .before .before .before .before .before .before .good .1 .1 .1 .1 .1 .1 .1 .1 .1 .0 .1)
+add-put-day c = let inside = c .before .before .before .before .before .before .before .before .before .before .line-end .ensures .inside in omega (arith, c .before .before .before .before .before .before .before .before .before .before .before .before .before .before .before .before .before .before .before .before .before .before .before .before .before .before .before .before .before .before .good .1 .1 .1 .1 .1 .1 .1 .1 .1 .0 .1)
 
 slice-aggregate-put-day-3 : tie.Need-slice-aggregate-put-day-3
 slice-aggregate-put-day-3 c = search needs
@@ -75,7 +79,7 @@ put-day-requires c κs = let columns = c .before .before .before .before .before
       (omega arith, λ k h. c .before .before .before .before .before .before .before .before .before .read-header .ensures .known k h (c .before .before .before .before .before .before .before .if3 .left)),
       (
         (c .before .before .before .before .before .before .before .before .before .before .before .before .before .if2 .left, omega arith, λ k h. c .before .before .before .before .before .before .before .before .before .before .before .before .before .before .before .choose .ensures .known k h (c .before .before .before .before .before .before .before .before .before .before .before .before .before .if2 .left)),
-        (omega arith, room-for-day _ (c .before .before .before .before .before .before .before .before .before .before .before .before .line-end .ensures) (c .before .before .before .before .before .before .before .before .before .before .before .before .before .before .before .before .before .before .before .before .before .before .before .before .before .before .before .before .before .before .before .pre .1)),
+        (omega arith, room-for-day _ (c .before .before .before .before .before .before .before .before .before .before .before .before .line-end .ensures) (c .before .before .before .before .before .before .before .before .before .before .before .before .before .before .before .before .before .before .before .before .before .before .before .before .before .before .before .before .before .before .before .before .pre .1)),
       ),
     )
 
@@ -83,12 +87,13 @@ same-length : tie.Need-same-length
 same-length c = search needs
 
 returns-4 : tie.Need-returns-4
-returns-4 c = sheet-made _ _ _ _ _ _ _ _ _ _ _ _ (c .before .before .before .before .before .before .before .before .before .before .before .before .before .before .before .before .before .before .before .before .before .before .is-state .ensures) (not-false _ (c .before .before .before .before .before .before .before .before .before .before .before .before .before .before .before .before .before .before .before .before .before .if1 .left)) (c .before .before .before .before .before .before .before .before .before .before .before .before .before .before .before .before .before .before .before .choose .ensures) (c .before .before .before .before .before .before .before .before .before .before .before .before .before .before .before .before .before .if2 .left) (c .before .before .before .before .before .before .before .before .before .before .before .before .before .before .before .before .line-end .ensures) (c .before .before .before .before .before .before .before .before .before .before .before .before .before .read-header .ensures) (c .before .before .before .before .before .before .before .before .before .before .before .if3 .left) (c .before .before .before .before .before .before .before .before .before .before .before .before .before .before .before .before .before .before .before .before .before .before .before .before .before .before .before .before .before .before .before .before .before .before .before .pre .0) (c .before .before .before .before .before .before .before .before .before .before .before .before .before .before .before .before .before .before .before .before .before .before .before .before .before .before .before .before .before .before .before .before .before .before .before .pre .1) (c .before .before .before .before .before .before .before .before .before .copy-state .ensures) (c .before .before .before .put-day .ensures)
+returns-4 c = sheet-made _ _ _ _ _ _ _ _ _ _ _ _ (c .before .before .before .before .before .before .before .before .before .before .before .before .before .before .before .before .before .before .before .before .before .before .before .fingerprint .ensures) (c .before .before .before .before .before .before .before .before .before .before .before .before .before .before .before .before .before .before .before .before .before .before .is-state .ensures) (not-false _ (c .before .before .before .before .before .before .before .before .before .before .before .before .before .before .before .before .before .before .before .before .before .if1 .left)) (c .before .before .before .before .before .before .before .before .before .before .before .before .before .before .before .before .before .before .before .choose .ensures) (c .before .before .before .before .before .before .before .before .before .before .before .before .before .before .before .before .before .if2 .left) (c .before .before .before .before .before .before .before .before .before .before .before .before .before .before .before .before .line-end .ensures) (c .before .before .before .before .before .before .before .before .before .before .before .before .before .read-header .ensures) (c .before .before .before .before .before .before .before .before .before .before .before .if3 .left) (c .before .before .before .before .before .before .before .before .before .before .before .before .before .before .before .before .before .before .before .before .before .before .before .before .before .before .before .before .before .before .before .before .before .before .before .before .pre .0) (λ i. omega (arith, c .before .before .before .before .before .before .before .before .before .before .before .before .before .before .before .before .before .before .before .before .before .before .before .before .before .before .before .shared-slice-known9 .given i)) (c .before .before .before .before .before .before .before .before .before .before .before .before .before .before .before .before .before .before .before .before .before .before .before .before .before .before .before .before .before .before .before .before .before .before .before .before .pre .1) (c .before .before .before .before .before .before .before .before .before .copy-state .ensures) (c .before .before .before .put-day .ensures)
 
 pub put-sheet-spec : {M : Type 1} → statement M
 put-sheet-spec =
     tie.close
     (tie.spec
+    fingerprint-requires
     is-state-requires
     returns
     slice-aggregate-choose

@@ -5,7 +5,7 @@ use Rattle.days.proofs.sheet.step.Statement.{statement}
 use Rattle.days.proofs.sheet.step.Tie as tie
 use Rattle.days.proofs.sheet.step.Reads as reads
 use Rattle.days.proofs.sheet.step.Lts as lts
-use Rattle.days.proofs.record.advance.Reads as advance-reads
+use Rattle.senders.proofs.advance.Reads as advance-reads
 
 advance-requires : tie.Need-advance-requires
 advance-requires c κs = search needs
@@ -13,11 +13,11 @@ advance-requires c κs = search needs
 enum-told : tie.Need-enum-told
 enum-told c = search needs
 
+enum-known-judgement : tie.Need-enum-known-judgement
+enum-known-judgement c = search needs
+
 enum-told-2 : tie.Need-enum-told-2
 enum-told-2 c = search needs
-
-enum-told-3 : tie.Need-enum-told-3
-enum-told-3 c = search needs
 
 same-length : tie.Need-same-length
 same-length c = search needs
@@ -29,13 +29,13 @@ same-length-2 : tie.Need-same-length-2
 same-length-2 c = search needs
 
 returns-2 : tie.Need-returns-2
-returns-2 c = stepped-new (c .before .before .before .before .advance .ensures) (c .enum-told2 .given .1)
+returns-2 c = stepped-new (c .before .before .before .before .before .advance .ensures) (c .before .judgement .given .1)
 
 same-length-3 : tie.Need-same-length-3
 same-length-3 c = search needs
 
 returns-3 : tie.Need-returns-3
-returns-3 c = stepped-resent (c .before .before .before .before .advance .ensures) (c .enum-told3 .given .1)
+returns-3 c = stepped-resent (c .before .before .before .before .advance .ensures) (c .enum-told2 .given .1)
 
 pub step-spec : {M : Type 1} → statement M
 step-spec =
@@ -43,8 +43,8 @@ step-spec =
     (tie.spec
     advance-requires
     enum-told
+    enum-known-judgement
     enum-told-2
-    enum-told-3
     same-length
     returns
     same-length-2

@@ -1,21 +1,36 @@
+use mathlib.Core.Path.{sym, _∙_}
 use borrow.Author.Tests.{not-true, not-false}
-use Rattle.engine.proofs.laws.ServingLaws.{room-of, serves-as, check-served, fresh-served, line-served, header-served, row-no-state, row-served, sheet-served}
+use Rattle.engine.proofs.laws.ServingLaws.{
+  room-of,
+  serves-as,
+  check-served,
+  fresh-served,
+  line-served,
+  header-served,
+  sender-short,
+  row-no-state,
+  row-no-sender,
+  row-served,
+  sheet-served,
+}
 use borrow.Author.Needs.{needs}
 use Rattle.engine.proofs.serve.on_bench.Statement.{statement}
 use Rattle.engine.proofs.serve.on_bench.Tie as tie
 use Rattle.engine.proofs.serve.on_bench.Reads as reads
 use Rattle.engine.proofs.serve.on_bench.Lts as lts
 use Rattle.checking.proofs.resolve.Reads as resolve-reads
-use Rattle.cycles.proofs.put_fresh.Reads as put-fresh-reads
-use Rattle.cycles.proofs.is_state.Reads as is-state-reads
 use Rattle.cycles.proofs.put_row_header.Reads as put-row-header-reads
 use Rattle.days.proofs.sheet.put_sheet.Reads as put-sheet-reads
 use Rattle.engine.proofs.bench.put_bench.Reads as put-bench-reads
-use Rattle.engine.proofs.line.show.Reads as show-reads
 use Rattle.engine.proofs.line.take_line.Reads as take-line-reads
 use Rattle.engine.proofs.serve.answer.Reads as answer-reads
 use Rattle.engine.proofs.serve.row_answer.Reads as row-answer-reads
 use Rattle.engine.proofs.serve.sheet_answer.Reads as sheet-answer-reads
+use Rattle.senders.proofs.fingerprint.fingerprint.Reads as fingerprint-reads
+use Rattle.senders.proofs.is_sender.Reads as is-sender-reads
+use Rattle.senders.proofs.show.Reads as show-reads
+use Rattle.senders.proofs.is_state.Reads as is-state-reads
+use Rattle.senders.proofs.put_fresh.Reads as put-fresh-reads
 
 enum-told : tie.Need-enum-told
 enum-told c = search needs
@@ -29,10 +44,13 @@ put-bench-requires c κs =
 enum-told-2 : tie.Need-enum-told-2
 enum-told-2 c = search needs
 
+fingerprint-requires : tie.Need-fingerprint-requires
+fingerprint-requires c κs = search needs
+
 put-fresh-requires : tie.Need-put-fresh-requires
 put-fresh-requires c κs =
-    let enum-told2₀ = c .before .enum-told2 in
-    let pre₀ = c .before .before .before .before .before .before .before .before .before .before .before .before .before .before .before .before .pre in
+    let enum-told2₀ = c .before .before .enum-told2 in
+    let pre₀ = c .before .before .before .before .before .before .before .before .before .before .before .before .before .before .before .before .before .pre in
     room-of _ _ _ _ (enum-told2₀ .given .1) (pre₀ .1 .1)
 
 enum-told-3 : tie.Need-enum-told-3
@@ -67,24 +85,35 @@ row-answer-requires c κs = search needs
 enum-told-5 : tie.Need-enum-told-5
 enum-told-5 c = search needs
 
+fingerprint-requires-2 : tie.Need-fingerprint-requires-2
+fingerprint-requires-2 c κs = search needs
+
 is-state-requires : tie.Need-is-state-requires
 is-state-requires c κs =
-    let enum-told5₀ = c .enum-told5 in
-    let pre₀ = c .before .before .before .before .before .before .before .before .before .before .before .before .before .before .before .pre in
+    let enum-told5₀ = c .before .enum-told5 in
+    let pre₀ = c .before .before .before .before .before .before .before .before .before .before .before .before .before .before .before .before .pre in
     room-of _ _ _ _ (enum-told5₀ .given .1) (pre₀ .1 .1) .0
 
 returns : tie.Need-returns
 returns c =
-    let enum-told5₀ = c .before .before .enum-told5 in
+    let enum-told5₀ = c .before .before .before .enum-told5 in
     let is-state₀ = c .before .is-state in
     let if1₀ = c .if1 in
-    serves-as (enum-told5₀ .given .1) (row-no-state (is-state₀ .ensures) (not-true _ (if1₀ .taken)))
+    serves-as (enum-told5₀ .given .1) (row-no-state (c .before .before .fingerprint2 .ensures) (is-state₀ .ensures) (not-true _ (if1₀ .taken)))
+
+is-sender-requires : tie.Need-is-sender-requires
+is-sender-requires c κs = search needs
+
+returns-2 : tie.Need-returns-2
+returns-2 c =
+    serves-as (c .before .before .before .before .before .enum-told5 .given .1)
+    (row-no-sender (c .before .before .before .before .fingerprint2 .ensures) (c .before .before .before .is-state .ensures) (not-false _ (c .before .before .if1 .left)) (sym (c .before .is-sender .ensures) ∙ not-true _ (c .if2 .taken)))
 
 show-requires : tie.Need-show-requires
 show-requires c κs =
-    let enum-told5₀ = c .before .before .before .enum-told5 in
-    let pre₀ = c .before .before .before .before .before .before .before .before .before .before .before .before .before .before .before .before .before .before .pre in
-    room-of _ _ _ _ (enum-told5₀ .given .1) (pre₀ .1 .1)
+    let enum-told5₀ = c .before .before .before .before .before .before .enum-told5 in
+    let pre₀ = c .before .before .before .before .before .before .before .before .before .before .before .before .before .before .before .before .before .before .before .before .before .pre in
+    (sender-short _ (c .before .before .is-sender .ensures) (not-false _ (c .before .if2 .left)), room-of _ _ _ _ (enum-told5₀ .given .1) (pre₀ .1 .1))
 
 row-answer-requires-2 : tie.Need-row-answer-requires-2
 row-answer-requires-2 c κs = search needs
@@ -104,8 +133,8 @@ sheet-answer-requires c κs = search needs
 same-length : tie.Need-same-length
 same-length c = search needs
 
-returns-2 : tie.Need-returns-2
-returns-2 c =
+returns-3 : tie.Need-returns-3
+returns-3 c =
     let enum-told₀ = c .before .before .before .before .enum-told in
     let put-bench₀ = c .before .before .put-bench in
     serves-as (enum-told₀ .given .1) (check-served (put-bench₀ .ensures))
@@ -113,11 +142,11 @@ returns-2 c =
 same-length-2 : tie.Need-same-length-2
 same-length-2 c = search needs
 
-returns-3 : tie.Need-returns-3
-returns-3 c =
-    let enum-told2₀ = c .before .before .before .before .enum-told2 in
+returns-4 : tie.Need-returns-4
+returns-4 c =
+    let enum-told2₀ = c .before .before .before .before .before .enum-told2 in
     let put-fresh₀ = c .before .before .put-fresh in
-    serves-as (enum-told2₀ .given .1) (fresh-served (put-fresh₀ .ensures))
+    serves-as (enum-told2₀ .given .1) (fresh-served (c .before .before .before .before .fingerprint .ensures) (put-fresh₀ .ensures))
 
 same-length-3 : tie.Need-same-length-3
 same-length-3 c = search needs
@@ -131,8 +160,8 @@ same-length-5 c = search needs
 same-length-6 : tie.Need-same-length-6
 same-length-6 c = search needs
 
-returns-4 : tie.Need-returns-4
-returns-4 c =
+returns-5 : tie.Need-returns-5
+returns-5 c =
     let enum-told3₀ = c .before .before .before .before .before .before .before .before .before .before .before .before .before .before .before .before .before .enum-told3 in
     let resolve₀ = c .before .before .before .before .before .before .before .before .before .before .before .before .before .before .resolve in
     let take-line₀ = c .before .before .before .before .before .take-line in
@@ -142,8 +171,8 @@ returns-4 c =
 same-length-7 : tie.Need-same-length-7
 same-length-7 c = search needs
 
-returns-5 : tie.Need-returns-5
-returns-5 c =
+returns-6 : tie.Need-returns-6
+returns-6 c =
     let enum-told4₀ = c .before .before .before .before .before .enum-told4 in
     let put-row-header₀ = c .before .before .before .put-row-header in
     let row-answer₀ = c .row-answer in
@@ -152,14 +181,14 @@ returns-5 c =
 same-length-8 : tie.Need-same-length-8
 same-length-8 c = search needs
 
-returns-6 : tie.Need-returns-6
-returns-6 c =
-    let enum-told5₀ = c .before .before .before .before .before .before .before .enum-told5 in
-    let is-state₀ = c .before .before .before .before .before .before .is-state in
-    let if1₀ = c .before .before .before .before .before .if1 in
+returns-7 : tie.Need-returns-7
+returns-7 c =
+    let enum-told5₀ = c .before .before .before .before .before .before .before .before .before .before .enum-told5 in
+    let is-state₀ = c .before .before .before .before .before .before .before .before .is-state in
+    let if1₀ = c .before .before .before .before .before .before .before .if1 in
     let show₀ = c .before .before .before .show in
     let row-answer2₀ = c .row-answer2 in
-    serves-as (enum-told5₀ .given .1) (row-served (is-state₀ .ensures) (not-false _ (if1₀ .left)) (show₀ .ensures) (row-answer2₀ .ensures (show₀ .ensures .short)))
+    serves-as (enum-told5₀ .given .1) (row-served (c .before .before .before .before .before .before .before .before .before .fingerprint2 .ensures) (is-state₀ .ensures) (not-false _ (if1₀ .left)) (sym (c .before .before .before .before .before .before .is-sender .ensures) ∙ not-false _ (c .before .before .before .before .before .if2 .left)) (show₀ .ensures) (row-answer2₀ .ensures (show₀ .ensures .short)))
 
 same-length-9 : tie.Need-same-length-9
 same-length-9 c = search needs
@@ -170,8 +199,8 @@ same-length-10 c = search needs
 same-length-11 : tie.Need-same-length-11
 same-length-11 c = search needs
 
-returns-7 : tie.Need-returns-7
-returns-7 c = serves-as (c .before .before .before .before .before .before .before .before .before .before .before .before .before .before .enum-told6 .given .1) (sheet-served (c .before .before .before .before .before .before .before .before .before .before .before .resolve2 .ensures) (c .before .before .before .put-sheet .ensures) (c .sheet-answer .ensures))
+returns-8 : tie.Need-returns-8
+returns-8 c = serves-as (c .before .before .before .before .before .before .before .before .before .before .before .before .before .before .enum-told6 .given .1) (sheet-served (c .before .before .before .before .before .before .before .before .before .before .before .resolve2 .ensures) (c .before .before .before .put-sheet .ensures) (c .sheet-answer .ensures))
 
 pub on-bench-spec : {M : Type 1} → statement M
 on-bench-spec =
@@ -180,6 +209,7 @@ on-bench-spec =
     enum-told
     put-bench-requires
     enum-told-2
+    fingerprint-requires
     put-fresh-requires
     enum-told-3
     resolve-requires
@@ -189,8 +219,11 @@ on-bench-spec =
     put-row-header-requires
     row-answer-requires
     enum-told-5
+    fingerprint-requires-2
     is-state-requires
     returns
+    is-sender-requires
+    returns-2
     show-requires
     row-answer-requires-2
     enum-told-6
@@ -198,19 +231,19 @@ on-bench-spec =
     put-sheet-requires
     sheet-answer-requires
     same-length
-    returns-2
-    same-length-2
     returns-3
+    same-length-2
+    returns-4
     same-length-3
     same-length-4
     same-length-5
     same-length-6
-    returns-4
-    same-length-7
     returns-5
-    same-length-8
+    same-length-7
     returns-6
+    same-length-8
+    returns-7
     same-length-9
     same-length-10
     same-length-11
-    returns-7)
+    returns-8)

@@ -57,7 +57,7 @@ same-length-2 : tie.Need-same-length-2
 same-length-2 c = c .before .before .put-bytes .kept .0 ∙ c .before .before .before .before .before .before .before .put-refusal .kept .0 ∙ c .before .before .before .before .before .before .before .before .before .before .before .before .before .out .given .1
 
 returns : tie.Need-returns
-returns c = refused-put _ _ _ _ _ _ _ (c .before .before .before .before .before .before .before .before .before .before .before .before .before .before .before .before .before .before .before .before .before .before .before .before .before .before .before .before .before .before .before .pre .0 .1) (c .before .before .before .before .before .before .before .before .before .before .before .before .before .before .before .before .take-record .ensures) _ _ (c .before .before .before .before .before .before .before .before .before .before .taken .given .1) (omega (arith, c .before .before .before .before .before .before .before .before .before .known-told .given)) (omega (arith, c .before .before .before .before .before .before .before .before .before .before .before .before .before .before .before .before .before .before .before .before .before .before .before .before .before .before .before .before .before .before .before .pre .0 .2, c .before .before .before .before .before .before .before .before .before .before .before .before .before .out .given)) (omega (arith, c .before .before .before .before .before .before .before .before .before .before .before .before .before .before .before .before .before .before .before .before .before .before .before .before .before .before .before .before .before .before .before .pre .0 .2)) (put-next (c .before .before .before .before .before .before .before .put-refusal .ensures) (put-said (10 ∷ []) (c .before .before .put-bytes .ensures)))
+returns c = refused-put _ _ _ _ _ _ _ (c .before .before .before .before .before .before .before .before .before .before .before .before .before .before .before .before .take-record .ensures) _ _ (c .before .before .before .before .before .before .before .before .before .before .taken .given .1) (omega (arith, c .before .before .before .before .before .before .before .before .before .known-told .given)) (omega (arith, c .before .before .before .before .before .before .before .before .before .before .before .before .before .before .before .before .before .before .before .before .before .before .before .before .before .before .before .before .before .before .before .pre .0 .2, c .before .before .before .before .before .before .before .before .before .before .before .before .before .out .given)) (omega (arith, c .before .before .before .before .before .before .before .before .before .before .before .before .before .before .before .before .before .before .before .before .before .before .before .before .before .before .before .before .before .before .before .pre .0 .2)) (put-next (c .before .before .before .before .before .before .before .put-refusal .ensures) (put-said (10 ∷ []) (c .before .before .put-bytes .ensures)))
 
 same-length-3 : tie.Need-same-length-3
 same-length-3 c = search needs
@@ -66,7 +66,7 @@ same-length-4 : tie.Need-same-length-4
 same-length-4 c = simp length-set (c .before .before .before .before .out .given .1)
 
 returns-2 : tie.Need-returns-2
-returns-2 c = row-put _ _ _ _ _ _ _ (c .before .before .before .before .before .before .before .before .before .before .before .before .before .before .before .before .before .before .before .before .before .before .pre .0 .1) (c .before .before .before .before .before .before .before .take-record .ensures) _ _ (c .before .taken2 .given .1) (omega (arith, c .before .before .before .before .before .before .before .before .before .before .before .before .before .before .before .before .before .before .before .before .before .before .pre .0 .2)) (omega (arith, c .before .before .before .before .before .before .before .before .before .before .before .before .before .before .before .before .before .before .before .before .before .before .pre .0 .2, row-short (c .before .taken2 .given .0 .0) (c .before .before .before .before .before .before .before .take-record .ensures .short) (c .before .taken2 .given .1), c .before .before .before .before .out .given, c .before .before .before .before .before .before .before .take-record .kept .1 .1 .1 .1 .1 .1 .1 .1 .1 .0))
+returns-2 c = row-put _ _ _ _ _ _ _ (c .before .before .before .before .before .before .before .take-record .ensures) _ _ (c .before .taken2 .given .1) (omega (arith, c .before .before .before .before .before .before .before .before .before .before .before .before .before .before .before .before .before .before .before .before .before .before .pre .0 .2)) (omega (arith, c .before .before .before .before .before .before .before .before .before .before .before .before .before .before .before .before .before .before .before .before .before .before .pre .0 .2, row-short (c .before .taken2 .given .0 .0) (c .before .before .before .before .before .before .before .take-record .ensures .short) (c .before .taken2 .given .1), c .before .before .before .before .out .given, c .before .before .before .before .before .before .before .take-record .kept .1 .1 .1 .1 .1 .1 .1 .1 .1 .0))
 
 pub put-values-spec : {M : Type 1} → statement M
 put-values-spec =

@@ -53,13 +53,15 @@ fn line_calls(folder: &Path, name: &str, most: usize) {
         let from = microseconds();
         for values in &lines {
             let bench = accept(&text).ok().expect("accepted");
-            let taken = line::take(&bench, &state, names, values);
-            if let Ok(Taken::Next(next)) = taken {
-                state = next;
-            } else if taken.is_err() {
-                continue;
-            }
-            let row = row::row(&bench, &state);
+            let sender = match line::take(&bench, &state, names, values) {
+                Ok(Taken::Resent(sender)) => sender,
+                Ok(Taken::Next(next, sender)) => {
+                    state = next;
+                    sender
+                }
+                Err(_) => continue,
+            };
+            let row = row::row(&bench, &state.senders[sender]);
             if round == 0 {
                 sum = summed(sum, &row);
             }

@@ -1,0 +1,22 @@
+-- Laws about definitions and about the forms of memory that contracts speak of: crates above may cite them.
+pub mod ReadingLaws
+pub mod TakesLaws
+pub mod SenderLaws
+pub mod AnswerLaws
+pub mod WithSender
+pub mod SoundLine
+pub mod SoundFollow
+pub mod SenderImage
+pub mod StateLaws
+pub mod StateCanonical
+pub mod StandsLaws
+pub mod FollowMemory
+pub mod RecordLaws
+pub mod SentLaws
+pub mod Apart
+pub mod Again
+pub mod RowReads
+pub mod LentLaws
+pub mod TestLaws
+pub mod PartLaws
+pub mod SameInputsLaws

@@ -1,0 +1,57 @@
+-- `put_kept` meets its contract: cell after cell is put.
+use borrow.Author.Needs.{needs}
+use Prim.Native.Nat.{_-_, _*_, _≤_}
+use native.Mathlib.Omega.{arith}
+use mathlib.Core.Path.{_≡_, refl, _∙_}
+use lib.ListN.{length}
+use Rattle.senders.proofs.steps.KeptSteps.{Kept-so-far, none-kept, one-more-kept, all-kept}
+use Rattle.senders.proofs.parts.put_kept.Statement.{statement}
+use Rattle.senders.proofs.parts.put_kept.Tie as tie
+use Rattle.senders.proofs.parts.put_kept.Reads as reads
+use Rattle.senders.proofs.parts.put_kept.Lts as lts
+use Rattle.senders.proofs.parts.put_kept_cell.Reads as put-kept-cell-reads
+
+abbrev Inv-loop : tie.InvT-loop
+Inv-loop classes d n inputs fired out₀ end i₀ out i = (i ≤ 12 * n) × (length out ≡ length out₀) × Kept-so-far classes d inputs fired i out₀ out
+
+abbrev μ-loop : tie.MeasureT-loop
+μ-loop classes d n inputs fired out₀ end i₀ out i = 12 * n - i
+
+mul-end : tie.Need-mul-end Inv-loop μ-loop
+mul-end c = search needs
+
+loop-holds : tie.Need-loop-holds Inv-loop μ-loop
+loop-holds c = (omega arith, refl, none-kept)
+
+put-kept-cell-requires : tie.Need-put-kept-cell-requires Inv-loop μ-loop
+put-kept-cell-requires c κs = let l = c .before .before .loop .inv .1 in (omega arith, omega arith, omega arith)
+
+add-i : tie.Need-add-i Inv-loop μ-loop
+add-i c = search needs
+
+loop-less : tie.Need-loop-less Inv-loop μ-loop
+loop-less c = search needs
+
+loop-again : tie.Need-loop-again Inv-loop μ-loop
+loop-again c = (omega arith, c .before .before .put-kept-cell .kept .1 .1 .1 .1 .1 .0 ∙ c .before .before .before .before .before .loop .inv .1, one-more-kept (c .before .before .before .before .before .loop .inv .2) (omega arith) (c .before .before .put-kept-cell .ensures))
+
+same-length : tie.Need-same-length Inv-loop μ-loop
+same-length c = c .before .loop .inv .1
+
+returns : tie.Need-returns Inv-loop μ-loop
+returns c = all-kept (c .before .loop .inv .2) (12 * c .before .before .before .before .before .before .before .args .n) (omega arith) (omega arith)
+
+pub put-kept-spec : {M : Type 1} → statement M
+put-kept-spec =
+    tie.close
+    (tie.spec
+    Inv-loop
+    μ-loop
+    mul-end
+    loop-holds
+    put-kept-cell-requires
+    add-i
+    loop-less
+    loop-again
+    same-length
+    returns)

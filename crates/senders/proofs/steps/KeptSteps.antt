@@ -1,0 +1,112 @@
+-- What is kept of a line, as the code puts it: cell by cell, and then a sender's whole part.
+use Prim.Native.Nat.{ℕ, suc, _+_, _-_, _*_, _/_, _%_, _≤_, _<_}
+use native.Mathlib.Omega.{arith}
+use mathlib.Core.Path.{_≡_, refl, sym, ap, _∙_}
+use mathlib.Core.Bool.{Bool, true, false, cond}
+use mathlib.Core.List.{List, [], _∷_, _++_}
+use lib.ListN.{length, set, take, drop, replicate, length-drop, length-replicate}
+use lib.Seq.{length-take-le}
+use Rattle.values.specs.definitions.Bytes.{low-first, overwritten}
+use Rattle.values.specs.definitions.Cells.{cell-bytes, cell-at, with-cell}
+use Rattle.values.specs.contracts.Puts.{Put}
+use Rattle.values.proofs.laws.PutLaws.{put-said, put-byte, put-next, put-same}
+use Rattle.values.proofs.laws.StorableLaws.{length-cell-bytes}
+use Rattle.text.specs.definitions.Syntax.{File}
+use Rattle.checking.specs.definitions.Scope.{member-of, is-action}
+use Rattle.checking.specs.contracts.DirectoryReads.{Few}
+use Rattle.checking.specs.contracts.Directory.{Bench}
+use Rattle.cycles.specs.definitions.Cycle.{is-sort}
+use Rattle.cycles.specs.definitions.Planes.{table}
+use Rattle.cycles.specs.contracts.CellTokens.{Cell-token, Sort-test}
+use Rattle.cycles.specs.contracts.PlaneMemory.{gathered}
+use Rattle.cycles.proofs.laws.PlaneTestLaws.{behind}
+use Rattle.cycles.proofs.laws.CellTokenLaws.{action-class}
+use Rattle.cycles.proofs.laws.PutLaws.{put-piece, put-no-piece, put-in-front}
+use Rattle.senders.specs.definitions.StateImage.{sender-size, name-bytes}
+use Rattle.senders.specs.contracts.SenderMemory.{kept-at, Kept-cell-put, Kept-put, part-of}
+use Rattle.senders.proofs.laws.LentLaws.{with-behind, put-behind}
+
+-- ---- is a cell an action's?
+
+module _ {classes d : List ℕ} {i token : ℕ} {r : Bool} (t : Cell-token d i token) (s : Sort-test classes token 6 r) where
+  pub action-told : (text offsets lengths : List ℕ) (w : Bench text classes offsets lengths d) → Few (w .file)
+      → is-sort is-action (member-of (w .file) (i / 12) (i % 12)) ≡ r
+  action-told text offsets lengths w c =
+      sym (s .is text offsets lengths (member-of (w .file) (i / 12) (i % 12)) (t .is text classes offsets lengths w c) is-action action-class)
+
+  -- ---- one cell
+
+  module _ {inputs fired before after : List ℕ} where
+    pub fired-kept : r ≡ true → after ≡ with-cell before i (cell-at fired i) → Kept-cell-put classes d inputs fired i before after
+    unfolding kept-at
+    fired-kept e p = record { is = λ text offsets lengths w c. rw (action-told text offsets lengths w c, e) p }
+
+    pub reading-kept : r ≡ false → after ≡ overwritten before (i * 9) (take (i * 9 + 9 - i * 9) (drop (i * 9) inputs))
+        → Kept-cell-put classes d inputs fired i before after
+    unfolding kept-at
+    reading-kept e p = record {
+      is = λ text offsets lengths w c.
+          let n : i * 9 + 9 - i * 9 ≡ 9 = omega arith in
+          rw (action-told text offsets lengths w c, e) (p ∙ ap (λ (k : ℕ). overwritten before (i * 9) (take k (drop (i * 9) inputs))) n);
+    }
+
+-- ---- one cell after another
+
+length-kept-at : (inputs fired : List ℕ) (f : File) (i : ℕ) → i * 9 + 9 ≤ length inputs → length (kept-at inputs fired f i) ≡ 9
+unfolding kept-at
+length-kept-at inputs fired f i h = go (is-sort is-action (member-of f (i / 12) (i % 12)))
+  where
+    go : (b : Bool) → length (cond b (cell-bytes (cell-at fired i)) (take 9 (drop (i * 9) inputs))) ≡ 9
+    go true = length-cell-bytes (cell-at fired i)
+    go false = let l = length-drop (i * 9) inputs in length-take-le 9 (drop (i * 9) inputs) (omega arith)
+
+pub record Kept-so-far (classes d inputs fired : List ℕ) (i : ℕ) (before after : List ℕ) : Type 0 where
+  pub is : (text offsets lengths : List ℕ) (w : Bench text classes offsets lengths d) → Few (w .file)
+      → Put (table (kept-at inputs fired (w .file)) 0 i) before 0 after (i * 9)
+
+module _ {classes d inputs fired before : List ℕ} where
+  pub none-kept : Kept-so-far classes d inputs fired 0 before before
+  none-kept = record { is = λ text offsets lengths w c. put-no-piece (kept-at inputs fired (w .file)) before 0 }
+
+  module _ {i : ℕ} {now : List ℕ} (p : Kept-so-far classes d inputs fired i before now) where
+    pub one-more-kept : {after : List ℕ} → i * 9 + 9 ≤ length inputs → Kept-cell-put classes d inputs fired i now after
+        → Kept-so-far classes d inputs fired (i + 1) before after
+    one-more-kept h k = record {
+      is = λ text offsets lengths w c.
+          let l = length-kept-at inputs fired (w .file) i h in
+          put-piece (kept-at inputs fired (w .file)) i (p .is text offsets lengths w c)
+          (record { end = omega arith; is = k .is text offsets lengths w c });
+    }
+
+    pub all-kept : (n : ℕ) → i ≡ n → n * 9 ≤ length before → Kept-put classes d inputs fired n before now
+    all-kept n e h = record {
+      is = λ text offsets lengths w c. put-in-front (rw e at (p .is text offsets lengths w c)) h .is;
+    }
+
+-- ---- zeros
+
+pub zeros-step : (l : List ℕ) (i end : ℕ) → i < end → overwritten (set l i 0) (i + 1) (replicate (end - (i + 1)) 0) ≡ overwritten l i (replicate (end - i) 0)
+zeros-step l i end h = let n : end - i ≡ suc (end - (i + 1)) = omega arith in rw n
+
+pub zeros-put : {l before : List ℕ} {i at end : ℕ} → overwritten l i (replicate (end - i) 0) ≡ overwritten before at (replicate (end - at) 0) → at ≤ end
+    → end ≤ i → Put (replicate (end - at) 0) before at l end
+zeros-put {l} {before} {i} {at} {end} e h g =
+    let n : end - i ≡ 0 = omega arith in
+    record { end = rw (length-replicate {A = ℕ} (end - at) 0) (omega arith); is = rw n at e }
+
+-- ---- a sender's part
+
+pub sender-put : (n last : ℕ) (name flags cells m : List ℕ) {named padded part after : List ℕ} {end r : ℕ} → length name ≤ 24
+    → (end ≡ 1 + length name) × (named ≡ overwritten (set m 0 (length name)) 1 name) → Put (replicate (25 - end) 0) named end padded 25
+    → part ≡ overwritten (behind 25 padded) 0 (low-first 4 last)
+    → (r ≡ 29 + 109 * n) × Put (gathered n flags cells) (with-behind 25 padded part) 29 after r → sender-size n ≤ length m → 29 ≤ length padded
+    → after ≡ part-of n name last flags cells ++ drop (sender-size n) m
+unfolding part-of name-bytes
+sender-put n last name flags cells m {named} {padded} {part} {after} {end} {r} short put zeros number plane fits long =
+    let a : Put (length name ∷ name) m 0 named end = put-next (put-byte m 0 (length name)) (put-said name put) in
+    let k : 25 - end ≡ 24 - length name = let e = put .0 in omega arith in
+    let b : Put (name-bytes name) m 0 padded 25 = put-same (put-next a zeros) (ap (λ (j : ℕ). (length name ∷ name) ++ replicate j 0) k) in
+    let c : Put (low-first 4 last) padded 25 (with-behind 25 padded part) 29 = put-behind 25 padded (low-first 4 last) long number in
+    let e = plane .0 in
+    put-in-front (put-next (put-next b c) (plane .1)) (omega arith) .is
+    ∙ ap (λ (j : ℕ). part-of n name last flags cells ++ drop j m) e
