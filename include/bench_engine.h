@@ -31,8 +31,8 @@ extern "C" {
 /* Checks a bench file and writes its image to bench. 31; 11 to 18 with the offset of the fault; or 0. */
 uint64_t bench_check(const uint8_t *text, size_t text_length, uint8_t *bench, size_t bench_length);
 
-/* Writes the fresh state of a checked bench. A state belongs to the bench file's text: after any edit of the text begin with a fresh state, for
- * every call refuses the old one by 33. 31, 32 or 0. */
+/* Writes the fresh state of a checked bench. A state belongs to the bench file's text, by a fingerprint of 32 bits: after any edit of the text begin
+ * with a fresh state; calls refuse the old one by 33. 31, 32 or 0. */
 uint64_t state_fresh(const uint8_t *bench, size_t bench_length, uint8_t *state, size_t state_length);
 
 /* Takes one line: header (`by n`, then the columns) and record (the sender's name, that sender's number, then the values), without line
@@ -46,7 +46,7 @@ uint64_t bench_line(const uint8_t *bench, size_t bench_length, uint8_t *state, s
 /* Writes the row of names, without a line feed. 31, 32; or 0 with its length. */
 uint64_t bench_header(const uint8_t *bench, size_t bench_length, uint8_t *row, size_t row_length);
 
-/* Writes the row of a sender's last line; of a sender that has sent none, its name, 0 and nothing fired. 31, 32, 33, 43 (the sender is no
+/* Writes the row of a sender's last taken line; of a sender of whose lines none was taken, its name, 0 and nothing fired. 31, 32, 33, 43 (the sender is no
  * name); or 0 with the row's length. */
 uint64_t bench_row(const uint8_t *bench, size_t bench_length, const uint8_t *state, size_t state_length,
                    const uint8_t *sender, size_t sender_length, uint8_t *row, size_t row_length);
