@@ -1,5 +1,4 @@
--- The fingerprint of a bench text, by which a state image tells texts apart: a fold over the bytes modulo the greatest prime below 2 ^ 32. Texts of one
--- length that differ in one byte have different ones.
+-- The fingerprint of a bench text, by which a state image tells texts apart: a fold over the bytes modulo the greatest prime below 2 ^ 32.
 use Prim.Native.Nat.{ℕ, _+_, _*_, _%_}
 use mathlib.Core.List.{List, [], _∷_}
 
