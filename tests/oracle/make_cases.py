@@ -1473,21 +1473,8 @@ def make_names_of_senders():
         ("true 2 6", "true 2 6"),
     ])
     # one beginning with another, capitals, a sender told apart by its end alone
-    ran("run-senders-alike", PLAIN, [
-        ("by n s.e", "by n s.k"),
-        ("ab 1 1", "ab 1 1"),
-        ("a 1 2", "a 1 2"),
-        ("abc 1 3", "abc 1 3"),
-        ("aB 1 4", "aB 1 4"),
-        ("a_ 1 5", "a_ 1 5"),
-        ("a1 1 6", "a1 1 6"),
-        ("ab 1 1", "ab 1 1"),
-        ("a 1 2", "a 1 2"),
-        ("abc 1 3", "abc 1 3"),
-        ("aB 1 4", "aB 1 4"),
-        ("a_ 1 5", "a_ 1 5"),
-        ("a1 1 6", "a1 1 6"),
-    ])
+    alike = [(line, line) for line in ("ab 1 1", "a 1 2", "abc 1 3", "aB 1 4", "a_ 1 5", "a1 1 6")]
+    ran("run-senders-alike", PLAIN, [("by n s.e", "by n s.k"), *alike, *alike])
     # the columns begin after `by n`, so both may be entities too
     ran(
         "run-entities-by-and-n",

@@ -8,6 +8,7 @@ pub mod archive;
 pub mod calls;
 #[cfg(feature = "archive")]
 pub mod compare;
+pub mod counts;
 pub mod generate;
 pub mod image;
 pub mod interpreter;

@@ -87,32 +87,22 @@ impl Report {
 
     fn case(&mut self, seed: u64, number: u64) {
         let ran = if number % TWO_RUNS_EVERY == TWO_RUNS_EVERY - 1 { self.two_runs(seed, number) } else { self.one_run(seed, number) };
-        let passed = self.put_in(seed, number) && self.spoilt(seed, number) && ran;
+        // Each of these counts for what it is made for alone: the answers of the table are for the other cases to draw.
+        let put_in = self.compared(number, &generate::places::case(seed, number), |tally, of| tally.places.add(&of.places));
+        let spoilt = self.compared(number, &generate::spoils::case(seed, number), |tally, of| tally.senders.add(&of.senders));
+        let passed = put_in && spoilt && ran;
         self.passed += u64::from(passed);
         self.failed += u64::from(!passed);
     }
 
-    /// A text with bytes put in. It counts for them alone: the answers of the table are for the other cases to draw.
-    fn put_in(&mut self, seed: u64, number: u64) -> bool {
-        let case = generate::places::case(seed, number);
-        match compare::run(&case) {
+    /// Compares the two on a case, and counts what it showed.
+    fn compared(&mut self, number: u64, case: &Case, count: fn(&mut Tally, &Tally)) -> bool {
+        match compare::run(case) {
             Ok(tally) => {
-                self.tally.places.add(&tally.places);
+                count(&mut self.tally, &tally);
                 true
             }
-            Err(mismatch) => self.show(number, &case, &mismatch),
-        }
-    }
-
-    /// A state with one part spoilt. It counts for that alone.
-    fn spoilt(&mut self, seed: u64, number: u64) -> bool {
-        let case = generate::spoils::case(seed, number);
-        match compare::run(&case) {
-            Ok(tally) => {
-                self.tally.senders.add(&tally.senders);
-                true
-            }
-            Err(mismatch) => self.show(number, &case, &mismatch),
+            Err(mismatch) => self.show(number, case, &mismatch),
         }
     }
 
@@ -121,13 +111,7 @@ impl Report {
         if number.is_multiple_of(AGAIN_EVERY) {
             generate::agains::put_in(&mut case);
         }
-        match compare::run(&case) {
-            Ok(tally) => {
-                self.tally.add(&tally);
-                true
-            }
-            Err(mismatch) => self.show(number, &case, &mismatch),
-        }
+        self.compared(number, &case, Tally::add)
     }
 
     fn two_runs(&mut self, seed: u64, number: u64) -> bool {

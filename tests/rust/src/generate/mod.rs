@@ -71,6 +71,22 @@ pub fn plain(seed: u64, number: u64) -> Case {
     Case { text, fill: prng.draw(), steps }
 }
 
+/// Puts steps before those of a case at these places. Each is made for the memory that it finds there, and leaves it as it is.
+fn put_between<Made: IntoIterator<Item = Step>>(case: &mut Case, places: &[usize], mut made: impl FnMut(&[u8], &mut Memory) -> Made) {
+    let plain = std::mem::take(&mut case.steps);
+    let mut memory = Memory::new(case.fill);
+    for at in 0..=plain.len() {
+        for _ in places.iter().filter(|&&place| place == at) {
+            case.steps.extend(made(&case.text, &mut memory));
+        }
+        let Some(step) = plain.get(at) else { break };
+        if places.iter().any(|&place| place > at) {
+            OURS.answer(&case.text, step, &mut memory);
+        }
+        case.steps.push(step.clone());
+    }
+}
+
 fn lent(prng: &mut Prng) -> Lent {
     if prng.chance(50) {
         return EXACT;

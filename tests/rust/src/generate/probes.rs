@@ -7,13 +7,13 @@ use super::lines::{self, Column, Line};
 use super::prng::Prng;
 use super::run::Run;
 use super::states::last_line;
-use super::{lent, senders, sometimes_short};
+use super::{lent, put_between, senders, sometimes_short};
 use crate::image;
 use crate::interpreter::accept;
 use crate::interpreter::grammar::Bench;
 use crate::interpreter::line::{self, Taken, SENDERS_MOST};
 use crate::interpreter::machine::{Sender, State};
-use crate::memory::{Memory, OURS};
+use crate::memory::Memory;
 
 /// So many of a hundred probes of memory that holds no bench, or no state, are kept: they are refused by 32 or 33.
 const NO_STATE_PERCENT: usize = 25;
@@ -23,19 +23,8 @@ const ZEROS: [&str; 2] = ["0000000000000000", "8000000000000000"];
 
 /// None of the other steps changes.
 pub fn put_in(prng: &mut Prng, case: &mut Case) {
-    let plain = std::mem::take(&mut case.steps);
-    let places = places(prng, plain.len());
-    let mut memory = Memory::new(case.fill);
-    for at in 0..=plain.len() {
-        for _ in places.iter().filter(|&&place| place == at) {
-            case.steps.extend(step(prng, &memory));
-        }
-        let Some(step) = plain.get(at) else { break };
-        if places.iter().any(|&place| place > at) {
-            OURS.answer(&case.text, step, &mut memory);
-        }
-        case.steps.push(step.clone());
-    }
+    let places = places(prng, case.steps.len());
+    put_between(case, &places, |_, memory| step(prng, memory));
 }
 
 /// Before which of the steps probes come: after the first two, which are a check and a fresh state; often at the end.

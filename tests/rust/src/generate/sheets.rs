@@ -3,12 +3,12 @@
 use super::bench::Plan;
 use super::case::{Call, Case, Step, EXACT, LONGER_MOST};
 use super::prng::Prng;
-use super::{cells, days, lent, sometimes_short};
+use super::{cells, days, lent, put_between, sometimes_short};
 use crate::image::{self, sender_at, NUMBER_AT, SHEET_LEAST, SHEET_MORE};
 use crate::interpreter::accept;
 use crate::interpreter::grammar::Bench;
 use crate::interpreter::machine::{self, State};
-use crate::memory::{Memory, OURS};
+use crate::memory::Memory;
 
 /// So many of a hundred sheets for memory that holds no bench, or one without cells, are kept: all of them are refused by 32 or 41.
 const NO_CELL_PERCENT: usize = 10;
@@ -25,19 +25,8 @@ const LARGE: usize = 64;
 
 /// None of the other steps changes: a sheet leaves bench and state as they are, and a number that is set for it is set back.
 pub fn put_in(prng: &mut Prng, case: &mut Case) {
-    let plain = std::mem::take(&mut case.steps);
-    let places = places(prng, plain.len());
-    let mut memory = Memory::new(case.fill);
-    for at in 0..=plain.len() {
-        for _ in places.iter().filter(|&&place| place == at) {
-            case.steps.extend(steps(prng, &case.text, &mut memory));
-        }
-        let Some(step) = plain.get(at) else { break };
-        if places.iter().any(|&place| place > at) {
-            OURS.answer(&case.text, step, &mut memory);
-        }
-        case.steps.push(step.clone());
-    }
+    let places = places(prng, case.steps.len());
+    put_between(case, &places, |text, memory| steps(prng, text, memory));
 }
 
 /// Before which of the steps sheets come: right after the first two, which are a check and a fresh state, at the end, or anywhere.

@@ -3,6 +3,7 @@
 use super::pieces::READS;
 use super::required::*;
 use super::{Folder, CHUNK, CHUNKS};
+use crate::counts::Class;
 use crate::interpreter::accept;
 use crate::interpreter::grammar::{Bench, Sort};
 use crate::interpreter::line::{line_number, VALUES_MOST};

@@ -1,12 +1,13 @@
 //! What the folders of a run covered. It is measured on their bytes and on what is printed for them, not taken from how they were made.
 
-use super::required::{exactly, required, Class, ANY_PIPE, INPUT, PIPES, PRINTED, SIZES};
+use super::required::{exactly, required, ANY_PIPE, INPUT, PIPES, PRINTED, SIZES};
 use super::{classes, Folder, CHUNK};
+use crate::counts::{Class, Counts};
 use std::collections::BTreeMap;
 
 #[derive(Default)]
 pub struct Coverage {
-    counts: BTreeMap<Class, u64>,
+    counts: Counts,
     readings_bytes: usize,
     printed_bytes: usize,
     /// Those of all pipes together.
@@ -20,18 +21,16 @@ impl Coverage {
         self.printed_bytes += printed.len();
         self.pieces += folder.cuts.as_ref().map_or(0, |cuts| cuts.len() + 1);
         *self.recipes.entry(folder.recipe).or_default() += 1;
-        for class in classes::of(folder, printed) {
-            *self.counts.entry(class).or_default() += 1;
-        }
+        self.counts.take(classes::of(folder, printed));
     }
 
     pub fn count(&self, class: &Class) -> u64 {
-        self.counts.get(class).copied().unwrap_or(0)
+        self.counts.count(class)
     }
 
     /// The classes that a run must have and that this one has not.
     pub fn lacking(&self) -> Vec<Class> {
-        required().into_iter().filter(|class| self.count(class) == 0).collect()
+        self.counts.lacking(required(), 1)
     }
 
     pub fn print(&self) {
@@ -43,19 +42,9 @@ impl Coverage {
             count(PRINTED, &exactly(CHUNK))
         );
         println!("{} runs with readings through a pipe, in {} pieces together", count(PIPES, ANY_PIPE), self.pieces);
-        println!("folders by recipe: {}", list(&self.recipes));
-        let mut groups: BTreeMap<&'static str, BTreeMap<&str, u64>> = BTreeMap::new();
-        for ((group, name), &count) in &self.counts {
-            groups.entry(group).or_default().insert(name, count);
-        }
+        let recipes: Vec<String> = self.recipes.iter().map(|(name, count)| format!("{name}: {count}")).collect();
+        println!("folders by recipe: {}", recipes.join("; "));
         println!("folders by class, a folder being in many:");
-        for (group, counts) in &groups {
-            println!("- {group}: {}", list(counts));
-        }
+        self.counts.print();
     }
-}
-
-fn list(counts: &BTreeMap<&str, u64>) -> String {
-    let items: Vec<String> = counts.iter().map(|(name, count)| format!("{name}: {count}")).collect();
-    items.join("; ")
 }

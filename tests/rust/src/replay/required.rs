@@ -2,9 +2,7 @@
 
 use super::pieces::READS;
 use super::{CHUNK, CHUNKS};
-
-/// A group and a name.
-pub type Class = (&'static str, String);
+use crate::counts::Class;
 
 pub const FILES: &str = "missing and empty files";
 pub const INPUT: &str = "standard input";

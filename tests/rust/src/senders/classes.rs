@@ -2,6 +2,7 @@
 
 use super::faults::{self, Fault};
 use super::required::*;
+use crate::counts::Class;
 use crate::generate::case::{Call, Step};
 use crate::image::{decode_bench, decode_state};
 use crate::interpreter::accept;

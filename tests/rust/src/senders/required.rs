@@ -1,7 +1,6 @@
 //! The names of classes, and those that a run must have: without one of them it has not tried what it is there to try.
 
-/// A group and a name.
-pub type Class = (&'static str, String);
+use crate::counts::Class;
 
 pub const NAMES: &str = "lines of names";
 pub const RECORDS: &str = "records refused by 21";

@@ -1,5 +1,6 @@
 //! The classes of one sheet.
 
+use crate::counts::Class;
 use crate::generate::bench::{kind_word, KINDS};
 use crate::generate::case::{Call, Step};
 use crate::generate::cells::LONG;
@@ -11,9 +12,6 @@ use crate::interpreter::machine::State;
 use crate::interpreter::sheet::{chosen, day, Chosen, Passed};
 use crate::interpreter::value::{Cell, Kind, Value};
 use crate::memory::Memory;
-
-/// A group and a name.
-pub type Class = (&'static str, String);
 
 const ANSWERS: &str = "answers";
 const ORDER: &str = "first of several refusals";

@@ -1,9 +1,9 @@
 //! Counts of sheets by class, and the classes that a run must have: without one of them it has not tried what it is there to try.
 
-use super::classes::{self, Class, Seen};
+use super::classes::{self, Seen};
+use crate::counts::{Class, Counts};
 use crate::generate::case::Step;
 use crate::memory::Memory;
-use std::collections::BTreeMap;
 
 #[derive(Clone, Debug, Default)]
 pub struct Coverage {
@@ -12,7 +12,7 @@ pub struct Coverage {
     /// Those with several printed lines and closing rows.
     pub full: u64,
     pub printed_lines: u64,
-    counts: BTreeMap<Class, u64>,
+    counts: Counts,
 }
 
 impl Coverage {
@@ -23,9 +23,7 @@ impl Coverage {
         self.accepted += u64::from(answer & 255 == 0);
         self.full += u64::from(full);
         self.printed_lines += printed;
-        for class in classes {
-            *self.counts.entry(class).or_default() += 1;
-        }
+        self.counts.take(classes);
     }
 
     pub fn add(&mut self, other: &Coverage) {
@@ -33,13 +31,11 @@ impl Coverage {
         self.accepted += other.accepted;
         self.full += other.full;
         self.printed_lines += other.printed_lines;
-        for (class, &count) in &other.counts {
-            *self.counts.entry(class.clone()).or_default() += count;
-        }
+        self.counts.add(&other.counts);
     }
 
     pub fn count(&self, class: &Class) -> u64 {
-        self.counts.get(class).copied().unwrap_or(0)
+        self.counts.count(class)
     }
 
     /// What a run of sheets lacks: too few that are accepted or full, and the classes that came up less than `least` times.
@@ -51,7 +47,7 @@ impl Coverage {
         if self.full * 5 < self.compared || self.full == 0 {
             lacking.push(format!("only {} of {} sheets had several printed lines and closing rows", self.full, self.compared));
         }
-        for class in classes::required().iter().filter(|class| self.count(class) < least) {
+        for class in self.counts.lacking(classes::required(), least) {
             lacking.push(format!("sheets, {}: {}: less than {least}", class.0, class.1));
         }
         lacking
@@ -62,13 +58,7 @@ impl Coverage {
             "sheets: {} compared, {} accepted, {} printed lines; {} with several printed lines and closing rows",
             self.compared, self.accepted, self.printed_lines, self.full
         );
-        let mut groups: BTreeMap<&str, Vec<String>> = BTreeMap::new();
-        for ((group, name), count) in &self.counts {
-            groups.entry(group).or_default().push(format!("{name}: {count}"));
-        }
         println!("sheets by class, a sheet being in many:");
-        for (group, counts) in &groups {
-            println!("- {group}: {}", counts.join("; "));
-        }
+        self.counts.print();
     }
 }
