@@ -31,14 +31,17 @@ extern "C" {
 /* Checks a bench file and writes its image to bench. 31; 11 to 18 with the offset of the fault; or 0. */
 uint64_t bench_check(const uint8_t *text, size_t text_length, uint8_t *bench, size_t bench_length);
 
-/* Writes the fresh state of a checked bench. A state belongs to the bench file's text, by a fingerprint of 32 bits: after any edit of the text begin
- * with a fresh state; calls refuse the old one by 33. 31, 32 or 0. */
+/* Writes the fresh state of a checked bench. A state belongs to the bench file's text: after any edit of the text begin with a fresh state. Calls tell
+ * another text by a fingerprint of 32 bits and refuse its state by 33: always if one byte was replaced by another, and but for one in four thousand
+ * million else. 31, 32 or 0. */
 uint64_t state_fresh(const uint8_t *bench, size_t bench_length, uint8_t *state, size_t state_length);
 
 /* Takes one line: header (`by n`, then the columns) and record (the sender's name, that sender's number, then the values), without line
  * feeds. Moves the state on and writes the line's row, sender and number first, without a line feed. Each of up to eight senders numbers its own
- * lines. A line that its sender sends again, its last number with the same readings, leaves the state and gives its row again, even after lines
- * of others. 31, 32, 33, 22, 21, 43 (the sender is no name), 42 (a ninth sender), 23, 24, 25; or 0 with the row's length. */
+ * lines, from 1 on. A sender's name is a letter and then letters, digits or _, 24 bytes at most; reserved words of bench files are names too. A line that
+ * its sender sends again, its last number with the same readings, leaves the state and gives its row again, even after lines of others. 31, 32, 33,
+ * 22 (the line of names), 21 (the record's form), 43 (the sender is no name), 42 (a ninth sender), 23 (a value ill formed, of another kind, or for an
+ * absent entity), 24 (the number is neither its last one nor the next), 25 (the last number with other readings); or 0 with the row's length. */
 uint64_t bench_line(const uint8_t *bench, size_t bench_length, uint8_t *state, size_t state_length,
                     const uint8_t *names, size_t names_length, const uint8_t *values, size_t values_length,
                     uint8_t *row, size_t row_length);
@@ -46,8 +49,8 @@ uint64_t bench_line(const uint8_t *bench, size_t bench_length, uint8_t *state, s
 /* Writes the row of names, without a line feed. 31, 32; or 0 with its length. */
 uint64_t bench_header(const uint8_t *bench, size_t bench_length, uint8_t *row, size_t row_length);
 
-/* Writes the row of a sender's last taken line; of a sender of whose lines none was taken, its name, 0 and nothing fired. 31, 32, 33, 43 (the sender is no
- * name); or 0 with the row's length. */
+/* Writes the row of a sender's last taken line; of a sender of whose lines none was taken, its name, 0 and nothing fired. 31, 32, 33, 43 (the sender
+ * is no name); or 0 with the row's length. */
 uint64_t bench_row(const uint8_t *bench, size_t bench_length, const uint8_t *state, size_t state_length,
                    const uint8_t *sender, size_t sender_length, uint8_t *row, size_t row_length);
 

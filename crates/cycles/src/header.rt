@@ -7,6 +7,7 @@ ghost use Rattle.cycles.specs.definitions.Fields.{split};
 ghost use Rattle.cycles.specs.definitions.Header.{column-of-entity, column};
 ghost use Rattle.cycles.specs.contracts.HeaderReads.{Column-read, backwards, is-number-among, Columns-read, Header-read, MOST-COLUMNS};
 use crate::fields::field_start;
+use crate::layout::BY_BYTES;
 use crate::layout::ENTITY_COLUMNS;
 use crate::layout::MOST_HEADER_BYTES;
 use crate::layout::NO_COLUMN;
@@ -161,11 +162,19 @@ pub fn read_header(
     if MOST_HEADER_BYTES < names.len() {
         return NO_HEADER;
     }
-    if names.len() < 3 {
+    if names.len() < BY_BYTES {
         return NO_HEADER;
     }
-    if !same_bytes(&names[0..3], b"by ") {
+    if !same_bytes(&names[0..BY_BYTES], b"by ") {
         return NO_HEADER;
     }
-    read_columns(text, classes, offsets, lengths, d, &names[3..], columns)
+    read_columns(
+        text,
+        classes,
+        offsets,
+        lengths,
+        d,
+        &names[BY_BYTES..],
+        columns,
+    )
 }

@@ -28,6 +28,11 @@ pub const NUMBER_BYTES: usize = 4;
 // An entity's bytes in a plane: its flag and its cells.
 pub const ENTITY_BYTES: usize = 1 + ENTITY_CELL_BYTES;
 
+// A store's flags say absent or present; those of a line's readings may also say nothing.
+pub const STORE_FLAGS: u8 = 2;
+
+pub const KEPT_FLAGS: u8 = 3;
+
 // The two stores of as many entities as a file may have.
 pub const MOST_STORES_BYTES: usize = 2 * ENTITY_BYTES * MOST_ENTITIES;
 
@@ -35,6 +40,9 @@ pub const MOST_STORES_BYTES: usize = 2 * ENTITY_BYTES * MOST_ENTITIES;
 
 // "A line of names: .., at most 32,768 bytes"
 pub const MOST_HEADER_BYTES: usize = 32768;
+
+// A line of names begins `by `.
+pub const BY_BYTES: usize = 3;
 
 // "lines of values in that order, at most 8,192 bytes"
 pub const MOST_RECORD_BYTES: usize = 8192;

@@ -15,7 +15,9 @@ use crate::layout::CELL_BYTES;
 use crate::layout::ENTITY_BYTES;
 use crate::layout::ENTITY_CELL_BYTES;
 use crate::layout::ENTITY_CELLS;
+use crate::layout::KEPT_FLAGS;
 use crate::layout::NO_READING;
+use crate::layout::STORE_FLAGS;
 use checking::layout::ENTITY_COUNT_ROW;
 use checking::layout::ENTITY_INTERFACE_ROWS;
 use checking::layout::INTERFACE_COUNT_ROW;
@@ -204,9 +206,9 @@ fn flag_bound(plane: Plane) -> u8
     ensures { λ r. ⌜ r ≡ bound-of plane ⌝ }
 {
     match plane {
-        Plane::Now => 2,
-        Plane::Previous => 2,
-        Plane::Kept => 3,
+        Plane::Now => STORE_FLAGS,
+        Plane::Previous => STORE_FLAGS,
+        Plane::Kept => KEPT_FLAGS,
     }
 }
 
@@ -293,10 +295,11 @@ pub fn put_stores(
     previous_cells: &[u8],
     memory: &mut [u8],
 )
-    requires { ⌜ (MOST-ENTITIES ≤ length (now flags)) × (MOST-CELL-BYTES ≤ length (now «now_cells»)) × (MOST-CELL-BYTES ≤ length (now «previous_cells»)) ⌝ }
+    requires { ⌜ (MOST-ENTITIES ≤ length (now flags)) × (MOST-CELL-BYTES ≤ length (now «now_cells»))
+        × (MOST-CELL-BYTES ≤ length (now «previous_cells»)) ⌝ }
     requires { ⌜ MOST-STORES-BYTES ≤ length (now memory) ⌝ }
-    ensures { λ _. ⌜ Stores-gathered (getD (now (d .entry)) ENTITY-COUNT-ROW 0) (now (flags .entry)) (now («now_cells» .entry)) (now («previous_cells» .entry))
-        (now (memory .entry)) (now (memory .exit)) ⌝ }
+    ensures { λ _. ⌜ Stores-gathered (getD (now (d .entry)) ENTITY-COUNT-ROW 0) (now (flags .entry))
+        (now («now_cells» .entry)) (now («previous_cells» .entry)) (now (memory .entry)) (now (memory .exit)) ⌝ }
 {
     let n = checking::row(d, ENTITY_COUNT_ROW);
     if MOST_ENTITIES < n {

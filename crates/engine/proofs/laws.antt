@@ -4,6 +4,7 @@ pub mod LeavesLaws
 pub mod Replies
 pub mod CallLaws
 pub mod RunLaws
+pub mod SentAgainLaws
 pub mod NumberLaws
 pub mod CheckLaws
 pub mod FollowsLaws

@@ -39,14 +39,14 @@ const LENGTHS: usize = 72057594037927936;
 // The most bytes of a short text.
 const SHORT_TEXT: usize = 4096;
 
-// The public calls.
+// The public calls. In what serves them all, `names` and `values` have the two texts that a call is lent, or none:
 pub enum Call {
     Check,
     Fresh,
-    Line,
+    Line, // a line of names and a line of values
     Header,
-    Row,
-    Sheet,
+    Row, // a sender's name
+    Sheet, // readings and chosen cells
 }
 
 // The answer of a call that is accepted and writes a row of that length.

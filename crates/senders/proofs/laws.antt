@@ -3,7 +3,6 @@ pub mod ReadingLaws
 pub mod TakesLaws
 pub mod SenderLaws
 pub mod AnswerLaws
-pub mod WithSender
 pub mod SoundLine
 pub mod SoundFollow
 pub mod SenderImage
@@ -18,5 +17,5 @@ pub mod Again
 pub mod RowReads
 pub mod LentLaws
 pub mod TestLaws
-pub mod PartLaws
 pub mod SameInputsLaws
+pub mod SentAgain

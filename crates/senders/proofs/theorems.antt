@@ -1,2 +1,3 @@
 -- What is promised, proved.
 pub mod AcceptedSound
+pub mod EditedText

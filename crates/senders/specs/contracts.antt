@@ -4,3 +4,4 @@ pub mod SenderMemory
 pub mod Judging
 pub mod Advancing
 pub mod RowMemory
+pub mod PrintSums

@@ -6,7 +6,7 @@ ghost use Rattle.checking.specs.contracts.Directory.{ENTITY-COUNT-ROW};
 ghost use Rattle.cycles.specs.definitions.Planes.{CELL-BYTES, ENTITY-BYTES, ENTITY-CELLS, ENTITY-CELL-BYTES, each};
 ghost use Rattle.senders.specs.definitions.Line.{in-turn};
 ghost use Rattle.senders.specs.contracts.Judging.{takes-cell, Same-reading, Same-read};
-use crate::layout::MOST_LINES;
+use crate::layout::GREATEST_NUMBER;
 use checking::layout::ENTITY_COUNT_ROW;
 use cycles::cell_token;
 use cycles::cycle::present_after;
@@ -60,7 +60,7 @@ pub fn in_turn(last: u32, number: u64) -> bool
     if number == 0 {
         return false;
     }
-    if MOST_LINES < number {
+    if GREATEST_NUMBER < number {
         return false;
     }
     if number == before {

@@ -26,7 +26,23 @@ pub const MOST_SENDER_BYTES: usize = SENDER_HEAD_BYTES + ENTITY_BYTES * MOST_ENT
 pub const STATE: usize = HEAD_BYTES + MOST_STORES_BYTES + MOST_SENDERS * MOST_SENDER_BYTES;
 
 // "It never exceeds 4,294,967,295"
-pub const MOST_LINES: u64 = 4294967295;
+pub const GREATEST_NUMBER: u64 = 4294967295;
 
-// The greatest prime below 2 ^ 32.
+// What 4 bytes say is below it.
+pub const NUMBERS_BELOW: u64 = 4294967296;
+
+// The greatest prime below 2 ^ 32, and what 2 ^ 32 leaves modulo it.
 pub const PRIME: u64 = 4294967291;
+
+pub const HALF: u64 = 4294967296;
+
+pub const HALF_LEAVES: u64 = HALF - PRIME;
+
+// The fingerprint's base, its square and its cube, and what three bytes add by their number alone.
+pub const BASE: u64 = 257;
+
+pub const BASE_SQUARED: u64 = BASE * BASE;
+
+pub const BASE_CUBED: u64 = BASE * BASE_SQUARED;
+
+pub const THREE_ONES: u64 = BASE_SQUARED + BASE + 1;

@@ -7,9 +7,9 @@ ghost use Rattle.values.specs.contracts.Puts.{Put};
 ghost use Rattle.values.specs.definitions.Bytes.{same-bytes};
 ghost use Rattle.checking.specs.definitions.CountFaults.{MOST-ENTITIES};
 ghost use Rattle.checking.specs.contracts.Directory.{ENTITY-COUNT-ROW};
-ghost use Rattle.cycles.specs.definitions.Planes.{CELL-BYTES, ENTITY-CELLS, ENTITY-CELL-BYTES, ENTITY-BYTES};
+ghost use Rattle.cycles.specs.definitions.Planes.{CELL-BYTES, ENTITY-CELLS, ENTITY-CELL-BYTES};
 ghost use Rattle.senders.specs.definitions.Sender.{MOST-NAME-BYTES, MOST-SENDERS};
-ghost use Rattle.senders.specs.definitions.StateImage.{NAME-PLACE, SENDER-HEAD-BYTES, sender-size, image-size, name-in, is-padded, is-sender-head};
+ghost use Rattle.senders.specs.definitions.StateImage.{NAME-PLACE, SENDER-HEAD-BYTES, sender-size, image-size, part-name, is-padded, is-sender-head};
 ghost use Rattle.senders.specs.contracts.SenderMemory.{Place-read, Part-test, Parts-test, Kept-cell-put, Kept-put, part-of};
 use crate::layout::HEAD_BYTES;
 use crate::layout::MOST_NAME_BYTES;
@@ -47,7 +47,7 @@ pub fn part_at(n: usize, place: usize) -> usize
 pub fn name_of(part: &[u8]) -> &[u8]
     requires { ⌜ NAME-PLACE ≤ length (now part) ⌝ }
     ensures { λ r. ⌜
-        (length (now r) ≤ MOST-NAME-BYTES) × (getD (now (part .entry)) 0 0 ≤ MOST-NAME-BYTES → now r ≡ name-in (now (part .entry))) ⌝ }
+        (length (now r) ≤ MOST-NAME-BYTES) × (getD (now (part .entry)) 0 0 ≤ MOST-NAME-BYTES → now r ≡ part-name (now (part .entry))) ⌝ }
 {
     let size = part[0] as usize;
     if MOST_NAME_BYTES < size {
@@ -60,7 +60,7 @@ pub fn name_of(part: &[u8]) -> &[u8]
 // Is this the part of the sender of that name?
 fn has_name(part: &[u8], name: &[u8]) -> bool
     requires { ⌜ (SENDER-HEAD-BYTES ≤ length (now part)) × (length (now name) ≤ MOST-NAME-BYTES) ⌝ }
-    ensures { λ r. ⌜ r ≡ same-bytes (now (name .entry)) (name-in (now (part .entry))) ⌝ }
+    ensures { λ r. ⌜ r ≡ same-bytes (now (name .entry)) (part-name (now (part .entry))) ⌝ }
 {
     let size = name.len();
     if part[0] as usize != size {
@@ -156,36 +156,29 @@ pub fn are_senders(classes: &[u8], d: &[u16], parts: &[u8], count: usize) -> boo
 
 // ---- writing
 
-// Puts cell number i of what is kept of a line: of an action what was fired, of any other cell its reading.
-fn put_kept_cell(classes: &[u8], d: &[u16], inputs: &[u8], fired: &[u8], i: usize, out: &mut [u8])
-    requires { ⌜
-        (i * CELL-BYTES + CELL-BYTES ≤ length (now inputs)) × (i * CELL-BYTES + CELL-BYTES ≤ length (now fired))
-        × (i * CELL-BYTES + CELL-BYTES ≤ length (now out)) ⌝ }
+// Makes of a line's input number i what is kept of it: of an action what was fired, of any other cell its reading, which stands there.
+fn put_kept_cell(classes: &[u8], d: &[u16], fired: &[u8], i: usize, inputs: &mut [u8])
+    requires { ⌜ (i * CELL-BYTES + CELL-BYTES ≤ length (now fired)) × (i * CELL-BYTES + CELL-BYTES ≤ length (now inputs)) ⌝ }
     ensures { λ _. ⌜
-        Kept-cell-put (now (classes .entry)) (now (d .entry)) (now (inputs .entry)) (now (fired .entry)) i (now (out .entry)) (now (out .exit)) ⌝ }
+        Kept-cell-put (now (classes .entry)) (now (d .entry)) (now (inputs .entry)) (now (fired .entry)) i (now (inputs .entry))
+        (now (inputs .exit)) ⌝ }
 {
     if is_sort(classes, cell_token(d, i), ACTION) {
-        put_cell(out, i, cell(fired, i));
-        return;
+        put_cell(inputs, i, cell(fired, i));
     }
-    let at = i * CELL_BYTES;
-    let end = at + CELL_BYTES;
-    put_bytes(out, at, &inputs[at..end]);
 }
 
-// Puts those of n entities.
-pub fn put_kept(classes: &[u8], d: &[u16], n: usize, inputs: &[u8], fired: &[u8], out: &mut [u8])
-    requires { ⌜
-        (ENTITY-CELL-BYTES * n ≤ length (now inputs)) × (ENTITY-CELL-BYTES * n ≤ length (now fired))
-        × (ENTITY-CELL-BYTES * n ≤ length (now out)) ⌝ }
+// Those of n entities.
+pub fn put_kept(classes: &[u8], d: &[u16], n: usize, fired: &[u8], inputs: &mut [u8])
+    requires { ⌜ (ENTITY-CELL-BYTES * n ≤ length (now fired)) × (ENTITY-CELL-BYTES * n ≤ length (now inputs)) ⌝ }
     ensures { λ _. ⌜
-        Kept-put (now (classes .entry)) (now (d .entry)) (now (inputs .entry)) (now (fired .entry)) (ENTITY-CELLS * n) (now (out .entry))
-        (now (out .exit)) ⌝ }
+        Kept-put (now (classes .entry)) (now (d .entry)) (now (inputs .entry)) (now (fired .entry)) (ENTITY-CELLS * n) (now (inputs .entry))
+        (now (inputs .exit)) ⌝ }
 {
     let end = ENTITY_CELLS * n;
     let mut i = 0;
     while i < end {
-        put_kept_cell(classes, d, inputs, fired, i, out);
+        put_kept_cell(classes, d, fired, i, inputs);
         i += 1;
     }
 }

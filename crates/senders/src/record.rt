@@ -16,6 +16,7 @@ use crate::layout::COUNT_AT;
 use crate::layout::HEAD_BYTES;
 use crate::layout::MOST_SENDERS;
 use crate::layout::NAME_PLACE;
+use crate::layout::NUMBERS_BELOW;
 use crate::layout::SENDER_HEAD_BYTES;
 use crate::names::is_sender;
 use crate::parts::part_at;
@@ -73,7 +74,7 @@ fn is_resent(
     same_readings(classes, d, &state[plane..], flags, cells)
 }
 
-// A new line: the cycle, and the entry of its sender.
+// A new line: the cycle, and the entry of its sender. The memory of its inputs is made to what is kept.
 fn follow(
     classes: &[u8],
     literals: &[u32],
@@ -84,7 +85,7 @@ fn follow(
     place: usize,
     last: u32,
     flags: &[u8],
-    cells: &[u8],
+    cells: &mut [u8],
     state: &mut [u8],
 )
     requires { ⌜ (getD (now d) ENTITY-COUNT-ROW 0 ≤ MOST-ENTITIES) × (place < MOST-SENDERS) × (length (now name) ≤ MOST-NAME-BYTES) ⌝ }
@@ -97,7 +98,6 @@ fn follow(
     let known = state[COUNT_AT] as usize;
     let now = HEAD_BYTES + n;
     let part = part_at(n, place);
-    let mut kept = [0u8; MOST_CELL_BYTES];
     cycle(
         classes,
         literals,
@@ -108,8 +108,8 @@ fn follow(
         cells,
         &mut state[HEAD_BYTES..],
     );
-    put_kept(classes, d, n, cells, &state[now..], &mut kept);
-    put_sender(&mut state[part..], n, name, last, flags, &kept);
+    put_kept(classes, d, n, &state[now..], cells);
+    put_sender(&mut state[part..], n, name, last, flags, cells);
     if known == place {
         state[COUNT_AT] = (place + 1) as u8;
     }
@@ -126,7 +126,7 @@ fn settle(
     place: usize,
     line: u64,
     flags: &[u8],
-    cells: &[u8],
+    cells: &mut [u8],
     state: &mut [u8],
 ) -> Judgement
     requires { ⌜ (getD (now d) ENTITY-COUNT-ROW 0 ≤ MOST-ENTITIES) × (place < MOST-SENDERS) × (length (now name) ≤ MOST-NAME-BYTES) ⌝ }
@@ -149,7 +149,7 @@ fn settle(
     if line == last as u64 {
         return Judgement::Refused(25);
     }
-    let number = (line % 4294967296) as u32;
+    let number = (line % NUMBERS_BELOW) as u32;
     follow(
         classes,
         literals,
@@ -225,7 +225,7 @@ fn take_sent(
         place,
         line,
         &flags,
-        &cells,
+        &mut cells,
         state,
     )
 }

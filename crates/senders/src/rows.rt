@@ -25,7 +25,8 @@ use values::put_decimal;
 // The row of a sender with this name, this last number and these fired actions: writes it to the front and answers its length.
 fn put_row(classes: &[u8], d: &[u16], name: &[u8], last: u32, cells: &[u8], row: &mut [u8]) -> usize
     requires { ⌜ (length (now name) ≤ MOST-NAME-BYTES) × (MOST-CELL-BYTES ≤ length (now cells)) × (MOST-ROW-BYTES ≤ length (now row)) ⌝ }
-    ensures { λ r. ⌜ Row-put (now (classes .entry)) (now (d .entry)) (now (name .entry)) last (now (cells .entry)) (now (row .entry)) (now (row .exit)) r ⌝ }
+    ensures { λ r. ⌜ Row-put (now (classes .entry)) (now (d .entry)) (now (name .entry)) last (now (cells .entry))
+        (now (row .entry)) (now (row .exit)) r ⌝ }
 {
     let space = put_bytes(row, 0, name);
     row[space] = 32;

@@ -13,7 +13,7 @@ use lib.IntN.{subℕ}
 use lib.Ieee.{Float, nan, inf, fin, binary64, ofBits, isNan}
 use lib.Ieee.Bits.{is-true, toBits-ofBits}
 use lib.Ieee.Fits.{and-l, and-r}
-use lib.ListN.{length, getD, take, drop, length-drop, take-append-drop}
+use lib.ListN.{length, getD, take, drop, length-drop}
 use lib.Seq.{drop-cons, take-add, drop-drop, getD-drop}
 use borrow.Author.Tests.{lt-ltb, ltb-true, ltb-false, eqb-true, eqb-false}
 use Rattle.values.specs.declared.Value.the-variants.{Truth, Unset}
@@ -26,36 +26,10 @@ use Rattle.values.proofs.laws.RealLaws.{finite-of-bits}
 use Rattle.text.specs.definitions.Syntax.{Sort, attribute, event, action, Member, File}
 use Rattle.checking.specs.definitions.Scope.{member-of, is-attribute, is-action}
 use Rattle.cycles.specs.definitions.Cycle.{is-sort}
-use Rattle.cycles.specs.definitions.Planes.{
-  plane-size,
-  stores-size,
-  table,
-  presence-flag,
-  presence-of,
-  input-bytes,
-  input-of,
-  entity-count,
-  cells-of,
-  next-plane,
-  encode-store,
-  encode-stores,
-  decode-store,
-  decode-stores,
-  with-stores,
-  flags-below,
-  is-unset-cell,
-  is-set-cell,
-  is-value-cell,
-  is-blank-cell,
-  store-fits,
-  kept-fits,
-  cells-fit,
-  plane-fits,
-  are-stores,
-}
+use Rattle.cycles.specs.definitions.Planes.{plane-size, stores-size, table, presence-flag, presence-of, input-bytes, input-of, entity-count, cells-of, next-plane, encode-store, encode-stores, decode-store, decode-stores, flags-below, is-unset-cell, is-set-cell, is-value-cell, is-blank-cell, store-fits, kept-fits, cells-fit, plane-fits, are-stores}
 use Rattle.cycles.proofs.laws.TableLaws.{each-at}
 use Rattle.cycles.proofs.laws.CellFits.{no-blank, kept-attribute, kept-event, kept-action}
-use Rattle.cycles.proofs.laws.PlaneParts.{flag-piece, presence-piece, cell-piece, plane}
+use Rattle.cycles.proofs.laws.PlaneParts.{flag-piece, cell-piece, plane}
 use Rattle.cycles.proofs.laws.PlaneLaws.{plane-flags-below, plane-cells-fit, are-stores-passes}
 
 -- ---- memory as a table
@@ -221,11 +195,6 @@ presence-packed (suc zero) h = refl
 presence-packed (suc (suc zero)) h = refl
 presence-packed (suc (suc (suc b))) h = absurd (omega arith)
 
-pub presence-canonical : (p : ℕ → Option Bool) (fs : List ℕ) (n : ℕ) → n ≤ length fs → T (flags-below 3 n fs)
-    → ((e : ℕ) → e < n → p e ≡ presence-of (getD fs e 0)) → take n fs ≡ table (presence-piece p) 0 n
-presence-canonical p fs n l h g =
-    flags-canonical 3 (presence-piece p) fs n l h (λ e b c. ap presence-flag (g e b) ∙ presence-packed (getD fs e 0) c)
-
 -- cells that fit, of pieces that have the bytes of whatever fits
 pub cells-canonical : (fit : Bool → Option Member → ℕ → ℕ → Bool) (f : File) (fs cs : List ℕ) (piece : ℕ → List ℕ) → 108 * entity-count f ≤ length cs
     → ((k : ℕ) → getD cs k 0 < 256) → T (cells-fit fit f fs cs)
@@ -308,9 +277,3 @@ module _ (f : File) (m : List ℕ) (l : stores-size (entity-count f) ≤ length 
       ∙ take-add size size m
       ∙ ap₂ _++_ (store-canonical f m b (λ present. true) (omega arith) (p .now))
       (store-canonical f next (bytes-behind m b size) (λ present. present) (omega arith) (p .previous))
-
-  -- writing what memory stands for changes nothing
-  pub stores-stand : with-stores count (decode-stores count m) m ≡ m
-  unfolding with-stores
-  stores-stand =
-      ap (λ (x : List ℕ). x ++ drop (stores-size count) m) (sym stores-canonical) ∙ take-append-drop (stores-size count) m

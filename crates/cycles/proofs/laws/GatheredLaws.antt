@@ -3,25 +3,16 @@ use Prim.Native.Nat.{ℕ, _*_, _≤_, _<_}
 use native.Mathlib.Omega.{arith}
 use mathlib.Core.Path.{_≡_, refl, ap, ap₂, _∙_}
 use mathlib.Core.List.{List, _++_}
-use lib.ListN.{length, take, drop, length-append}
-use lib.Seq.{length-take-le, take-at}
+use lib.ListN.{length, take, drop}
+use lib.Seq.{take-at}
 use Rattle.values.specs.contracts.Puts.{Put}
 use Rattle.values.proofs.laws.PutLaws.{put-next, put-length}
 use Rattle.cycles.specs.definitions.Store.{Store, Stores}
-use Rattle.cycles.specs.definitions.Planes.{table, plane-size, stores-size, encode-store, encode-stores, with-stores}
+use Rattle.cycles.specs.definitions.Planes.{table, stores-size, encode-store, encode-stores, with-stores}
 use Rattle.cycles.specs.contracts.PlaneMemory.{gathered, Stores-gathered}
 use Rattle.cycles.proofs.laws.TableLaws.{length-table}
 use Rattle.cycles.proofs.laws.PlaneParts.{flag-piece, cell-piece}
 use Rattle.cycles.proofs.laws.PutLaws.{put-in-front}
-
--- areas as long as n entities need
-module _ (n : ℕ) (flags cells : List ℕ) (a : n ≤ length flags) (b : 108 * n ≤ length cells) where
-  pub length-gathered : length (gathered n flags cells) ≡ plane-size n
-  unfolding gathered
-  length-gathered =
-      let c = length-take-le n flags a in
-      let d = length-take-le (108 * n) cells b in
-      length-append (take n flags) (take (108 * n) cells) ∙ omega arith
 
 -- ---- as code puts them
 
@@ -68,11 +59,6 @@ unfolding with-stores encode-stores
 gathered-stores n s {flags} {now-cells} {previous-cells} h m =
     ap₂ (λ (x y : List ℕ). x ++ y ++ drop (stores-size n) m) (gathered-store n (s .now) flags now-cells (h .present) (h .now))
     (gathered-store n (s .previous) flags previous-cells (h .previous-present) (h .previous))
-
--- the same, of memory to which code has put the areas
-pub stores-gathered : {n : ℕ} {flags now-cells previous-cells before after : List ℕ} → Stores-gathered n flags now-cells previous-cells before after
-    → n ≤ 32 → (s : Stores) → Areas-of n s flags now-cells previous-cells → after ≡ with-stores n s before
-stores-gathered {n = n} {before = before} g few s h = g .is few ∙ gathered-stores n s h before
 
 -- an area that begins with a table
 pub area-taken : (piece : ℕ → List ℕ) (size : ℕ) → ((i : ℕ) → length (piece i) ≡ size) → (k bytes : ℕ) → k * size ≡ bytes

@@ -3,10 +3,10 @@ use mathlib.Core.Path.{_≡_, refl, sym, ap, _∙_}
 use mathlib.Core.Bool.{Bool, true, _&&_}
 use mathlib.Core.List.{List, _++_}
 use mathlib.Core.Option.{Option, some}
-use Prim.Native.Nat.{ℕ, _+_, _*_, _/_, _%_, _≤_, _<_}
+use Prim.Native.Nat.{ℕ, _+_, _*_, _/_, _%_, _<_}
 use native.Mathlib.Omega.{arith}
 use lib.Dec.{T, ltb, eqb}
-use lib.ListN.{length, getD, drop, length-append, length-drop}
+use lib.ListN.{getD}
 use lib.Ieee.Fits.{and-i, and-l, and-r}
 use lib.Ieee.Bits.{is-true}
 use borrow.Author.Tests.{le-ltb}
@@ -22,26 +22,11 @@ use Rattle.checking.specs.definitions.Scope.{member-of, is-attribute}
 use Rattle.checking.proofs.laws.WithinCounts.{Within-counts}
 use Rattle.cycles.specs.definitions.Store.{Stores}
 use Rattle.cycles.specs.definitions.SoundStores.{Sound-store, Sound-stores}
-use Rattle.cycles.specs.definitions.Planes.{
-  entity-count,
-  stores-size,
-  encode-store,
-  encode-stores,
-  cells-of,
-  next-plane,
-  decode-store,
-  decode-stores,
-  store-fits,
-  cells-fit,
-  flags-below,
-  plane-fits,
-  are-stores,
-  with-stores,
-}
+use Rattle.cycles.specs.definitions.Planes.{entity-count, encode-store, encode-stores, cells-of, next-plane, decode-store, decode-stores, store-fits, cells-fit, flags-below, plane-fits, are-stores}
 use Rattle.cycles.proofs.laws.TableLaws.{each-at}
 use Rattle.cycles.proofs.laws.CellFits.{store-passes, store-of-kind, store-no-cell, store-set}
 use Rattle.cycles.proofs.laws.CellNumbers.{cell-entity, cell-member, cell-below, cell-cases, past-none, no-entity-no-cell, no-member-no-cell}
-use Rattle.cycles.proofs.laws.PlaneParts.{stores-begin, at-previous, at-rest, length-encode-stores, store-read, store-pass}
+use Rattle.cycles.proofs.laws.PlaneParts.{stores-begin, at-previous, store-read, store-pass}
 
 -- ---- the tests of a plane, and of both stores
 
@@ -75,26 +60,6 @@ are-stores-passes f m h =
 
 -- ---- writing
 
-module _ (n : ℕ) (s : Stores) (m : List ℕ) where
-  pub stores-written-length : stores-size n ≤ length m → length (with-stores n s m) ≡ length m
-  unfolding with-stores
-  stores-written-length h =
-      let rest = drop (stores-size n) m in
-      let a = length-append (encode-stores n s) rest in
-      let b = length-encode-stores n s in
-      let c = length-drop (stores-size n) m in
-      omega arith
-
-  -- what lies behind the stores is as it was
-  pub stores-written-rest : drop (stores-size n) (with-stores n s m) ≡ drop (stores-size n) m
-  unfolding with-stores
-  stores-written-rest = at-rest n s (drop (stores-size n) m)
-
-  -- what was there before is overwritten
-  pub stores-written-again : (t : Stores) → with-stores n t (with-stores n s m) ≡ with-stores n t m
-  unfolding with-stores
-  stores-written-again t = ap (λ (l : List ℕ). encode-stores n t ++ l) (at-rest n s (drop (stores-size n) m))
-
 module _ (f : File) (s : Stores) (h : Sound-stores f s) (rest : List ℕ) where
   abbrev n : ℕ
   n = entity-count f
@@ -121,16 +86,6 @@ module _ (f : File) (s : Stores) (h : Sound-stores f s) (rest : List ℕ) where
     now = (ap (decode-store n) (stores-begin n s rest) ∙ store-read f w (s .now) (h .now) (encode-store n (s .previous) ++ rest)) i;
     previous = (ap (decode-store n) (at-previous n s rest) ∙ store-read f w (s .previous) (h .previous) rest) i;
   }
-
--- the same of memory with stores written to it
-module _ (f : File) (s : Stores) (h : Sound-stores f s) (m : List ℕ) where
-  pub stores-written : are-stores f (with-stores (entity-count f) s m) ≡ true
-  unfolding with-stores
-  stores-written = stores-pass f s h (drop (stores-size (entity-count f)) m)
-
-  pub stores-written-read : Within-counts f → decode-stores (entity-count f) (with-stores (entity-count f) s m) ≡ s
-  unfolding with-stores
-  stores-written-read w = stores-read f s h (drop (stores-size (entity-count f)) m) w
 
 -- ---- reading
 

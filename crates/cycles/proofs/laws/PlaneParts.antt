@@ -106,9 +106,6 @@ module _ (flags cells : ℕ → List ℕ) (one : (e : ℕ) → length (flags e) 
     pub plane-cells : cells-of n (plane flags cells n ++ rest) ≡ table cells 0 (12 * n) ++ rest
     plane-cells = ap (drop n) plane-begins ∙ drop-at (table flags 0 n) (table cells 0 (12 * n) ++ rest) n (length-flags flags one 0 n)
 
-    pub plane-after : next-plane n (plane flags cells n ++ rest) ≡ rest
-    plane-after = drop-at (plane flags cells n) rest (plane-size n) length-plane
-
     pub plane-flag : (e : ℕ) → e < n → getD (plane flags cells n ++ rest) e 0 ≡ getD (flags e) 0 0
     plane-flag e h = ap (λ (l : List ℕ). getD l e 0) plane-begins ∙ table-flag flags one n e (table cells 0 (12 * n) ++ rest) h
 
@@ -258,12 +255,6 @@ presence-low p e = low (p e)
     low none = omega arith
     low (some true) = omega arith
     low (some false) = omega arith
-
-pub present-pass : (p : ℕ → Bool) (n : ℕ) (r : List ℕ) → T (flags-below 2 n (table (flag-piece p) 0 n ++ r))
-present-pass p n r = flags-pass 2 (flag-piece p) (flag-sized p) (present-low p) n r
-
-pub presence-pass : (p : ℕ → Option Bool) (n : ℕ) (r : List ℕ) → T (flags-below 3 n (table (presence-piece p) 0 n ++ r))
-presence-pass p n r = flags-pass 3 (presence-piece p) (presence-sized p) (presence-low p) n r
 
 pub cells-pass : (fit : Bool → Option Member → ℕ → ℕ → Bool) (f : File) (fs : List ℕ) (piece : ℕ → List ℕ) → ((i : ℕ) → length (piece i) ≡ 9)
     → ((i : ℕ) → i / 12 < entity-count f → T (fit (eqb (getD fs (i / 12) 0) 1) (member-of f (i / 12) (i % 12)) (getD (piece i) 0 0) (word-at 8 (piece i) 1)))

@@ -17,18 +17,17 @@ use Rattle.values.specs.definitions.Cells.{cell-at}
 use Rattle.values.specs.definitions.Forms.{printed}
 use Rattle.values.proofs.laws.FormLaws.{printed-most}
 use Rattle.text.specs.definitions.Tokens.{Token, tokens, tokens-of}
-use Rattle.text.specs.definitions.Syntax.{Member, Entity, File}
+use Rattle.text.specs.definitions.Syntax.{Member, Entity}
 use Rattle.text.proofs.laws.SpotLaws.{stands-drop}
 use Rattle.text.proofs.laws.TokenFacts.{token-in-text}
 use Rattle.checking.specs.contracts.DirectoryReads.{Few}
 use Rattle.checking.specs.definitions.Scope.{member-of, is-action}
 use Rattle.checking.specs.definitions.Verdict.{name-if-found}
 use Rattle.checking.specs.contracts.Directory.{name-in, Columns-of, kind-class, Bench}
-use Rattle.checking.proofs.laws.WithinCounts.{Within-counts}
 use Rattle.checking.proofs.laws.DirectoryLaws.{number-below, number-inside, named-bytes}
 use Rattle.cycles.specs.definitions.Spots.{Spot}
 use Rattle.cycles.specs.definitions.Cycle.{is-sort}
-use Rattle.cycles.specs.definitions.Row.{action-fields, row-header}
+use Rattle.cycles.specs.definitions.Row.{row-header}
 use Rattle.cycles.specs.definitions.Planes.{table, entity-count}
 use Rattle.cycles.specs.contracts.CellTokens.{Member-at, Token-of, Cell-token, Sort-test}
 use Rattle.values.specs.contracts.Puts.{Put}
@@ -43,7 +42,6 @@ use Rattle.cycles.specs.contracts.RowMemory.{
   Fields-put,
   Header-put,
 }
-use Rattle.cycles.proofs.laws.TableLaws.{table-same}
 use Rattle.cycles.proofs.laws.CellTokenLaws.{few-within, action-class, member-told, entity-told}
 use Rattle.values.proofs.laws.PutLaws.{put-none, put-said, put-byte, put-length, put-next, put-same}
 use Rattle.cycles.proofs.laws.PutLaws.{put-piece, put-no-piece, put-in-front}
@@ -62,17 +60,6 @@ module _ (field : Spot → List ℕ) (e m : ℕ) where
   unfolding field-of is-sort
   a-field none h = absurd (true≢false h)
   a-field (some x) h = (x, refl, rw (← h, field-of))
-
-  same-field : (other : Spot → List ℕ) (o : Option Member)
-      → ((x : Member) → o ≡ some x → field (record { entity = e; member = m; what = x }) ≡ other (record { entity = e; member = m; what = x }))
-      → field-of field e m o ≡ field-of other e m o
-  unfolding field-of
-  same-field other none h = refl
-  same-field other (some x) h = go (is-action (x .sort)) refl
-    where
-      go : (b : Bool) → is-action (x .sort) ≡ b → field-of field e m (some x) ≡ field-of other e m (some x)
-      go true q = rw (q, field-of) (ap (λ (l : List ℕ). 32 ∷ l) (h x refl))
-      go false q = rw (q, field-of)
 
 -- is the member of cell number i an action?
 action-told : {text classes offsets lengths d : List ℕ} {i token : ℕ} → Cell-token d i token → {b : Bool} → Sort-test classes token 6 b
@@ -106,18 +93,6 @@ module _ {classes d cells : List ℕ} {i token : ℕ} (t : Cell-token d i token)
         (ap (λ (u : Value). 32 ∷ printed u) (q ∙ ap (cell-at cells) n)
         ∙ a-field (fired-field cells) (i / 12) (i % 12) o (sym e ∙ action-told t a w c) .2);
   }
-
--- fields that agree at the file's members
-pub fields-agree : (f : File) → Within-counts f → (field other : Spot → List ℕ)
-    → ((e m : ℕ) (x : Member) → member-of f e m ≡ some x
-    → field (record { entity = e; member = m; what = x }) ≡ other (record { entity = e; member = m; what = x }))
-    → action-fields f field ≡ action-fields f other
-unfolding field-at
-fields-agree f w field other h =
-    fields-table f w field
-    ∙ table-same (field-at f field) (field-at f other) 0 (12 * entity-count f)
-    (λ j x y. same-field field (j / 12) (j % 12) other (member-of f (j / 12) (j % 12)) (h (j / 12) (j % 12)))
-    ∙ sym (fields-table f w other)
 
 -- the fields of the first i cells
 pub record Fired-so-far (classes d cells before : List ℕ) (from i : ℕ) (after : List ℕ) (at : ℕ) : Type 0 where

@@ -157,10 +157,6 @@ module _ (piece : ℕ → List ℕ) (sized : (i : ℕ) → length (piece i) ≡ 
 
 -- ---- parts of memory one after another
 
--- the memory behind its first part: what is read there is read by the laws of tables above
-pub part-behind : (front part rest : List ℕ) (d : ℕ) → length front ≡ d → drop d (front ++ part ++ rest) ≡ part ++ rest
-part-behind front part rest d l = ap (drop d) (append-assoc front part rest) ∙ drop-at front (part ++ rest) d l
-
 -- a part begins where the one before it ends
 pub part-after : (m part rest : List ℕ) (from size end : ℕ) → drop from m ≡ part ++ rest → length part ≡ size → from + size ≡ end → drop end m ≡ rest
 part-after m part rest from size end e l s =

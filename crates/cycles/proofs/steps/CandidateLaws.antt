@@ -3,9 +3,9 @@ use Prim.Native.Nat.{ℕ, _≤_, _<_}
 use native.Mathlib.Omega.{arith}
 use mathlib.Core.Path.{_≡_, refl, sym, ap, _∙_}
 use mathlib.Core.Bool.{Bool, true, false}
-use mathlib.Core.List.{List, [], map}
+use mathlib.Core.List.{List, []}
 use mathlib.Core.Option.{Option, none, some}
-use lib.Dec.{T, eqb, eqb-refl}
+use lib.Dec.{eqb, eqb-refl}
 use lib.Ieee.Bits.{is-true}
 use lib.ListN.{length, getElem?}
 use borrow.Author.Tests.{ne-eqb}
@@ -14,7 +14,7 @@ use Rattle.text.specs.definitions.Syntax.{Name, Interface, Rule, File}
 use Rattle.text.proofs.laws.ListLaws.{some-injective, none-some, three-empty, flatMap-empty, number-member}
 use Rattle.text.proofs.laws.SpotLaws.{stands-below}
 use Rattle.checking.specs.definitions.Scope.{Indexed, look-up, item-of, interface-named, Variable, variables}
-use Rattle.checking.specs.definitions.CountFaults.{beyond, rule-count-faults}
+use Rattle.checking.specs.definitions.CountFaults.{rule-count-faults}
 use Rattle.checking.specs.definitions.Verdict.{accepted, verdict}
 use Rattle.checking.specs.contracts.Directory.{number-or, interface-number}
 use Rattle.checking.proofs.laws.LookUpLaws.{same-bytes-eq, same-bytes-refl, found-at, found-name}

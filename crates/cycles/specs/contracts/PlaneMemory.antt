@@ -12,7 +12,7 @@ use Rattle.checking.specs.contracts.DirectoryReads.{Few}
 use Rattle.checking.specs.contracts.Directory.{kind-class, Bench}
 use Rattle.cycles.specs.declared.planes.Plane.{Plane}
 use Rattle.cycles.specs.declared.planes.Plane.the-variants.{Now, Previous, Kept}
-use Rattle.cycles.specs.definitions.Planes.{ENTITY-CELL-BYTES, stores-size, store-fits, kept-fits, cells-fit, plane-fits, are-stores}
+use Rattle.cycles.specs.definitions.Planes.{ENTITY-CELL-BYTES, stores-size, store-fits, kept-fits, cells-fit, plane-fits, are-stores, STORE-FLAGS, KEPT-FLAGS}
 use Rattle.cycles.specs.contracts.CellTokens.{Token-of}
 
 -- ---- tests
@@ -37,9 +37,9 @@ pub record Cells-test (plane : Plane) (classes d flags cells : List ℕ) (r : Bo
 
 -- the bound of each plane's flags: absent or present; no reading, absent or present
 unfoldable pub bound-of : Plane → ℕ
-bound-of Now = 2
-bound-of Previous = 2
-bound-of Kept = 3
+bound-of Now = STORE-FLAGS
+bound-of Previous = STORE-FLAGS
+bound-of Kept = KEPT-FLAGS
 
 pub record Plane-test (plane : Plane) (classes d m : List ℕ) (r : Bool) : Type 0 where
   pub is : (text offsets lengths : List ℕ) (w : Bench text classes offsets lengths d) → Few (w .file)

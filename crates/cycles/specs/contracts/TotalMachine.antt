@@ -1,14 +1,12 @@
 -- The total machine, which code computes: the reference machine (Reference, Bindings, Cycle), but what that is stuck at gives unset, false or no
 -- write here. For accepted files the two are equal (`accepted-sound`), so nobody has to believe this one.
-use Prim.Native.Nat.{ℕ}
-use mathlib.Core.List.{List, [], _∷_, flatMap}
+use mathlib.Core.List.{List, [], flatMap}
 use mathlib.Core.Bool.{Bool, true, false, not, _&&_, _||_}
 use mathlib.Core.Option.{Option, none, some}
 use Rattle.values.specs.declared.Value.{Value}
 use Rattle.values.specs.declared.Value.the-variants.{Unset}
 use Rattle.values.specs.definitions.Value.{is-set, fitted, settled, operated, negated, as-real, equal, differ}
 use Rattle.text.specs.definitions.Syntax.{
-  Name,
   literal-value,
   Expression,
   literal,

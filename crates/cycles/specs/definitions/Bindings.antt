@@ -1,11 +1,11 @@
 -- The bindings of a rule's variables, which document 01 calls choices, and what all rules write.
-use Prim.Native.Nat.{ℕ, zero, suc}
-use mathlib.Core.List.{List, [], _∷_, _++_, map, flatMap}
+use Prim.Native.Nat.{ℕ}
+use mathlib.Core.List.{List, [], _∷_, map, flatMap}
 use mathlib.Core.Bool.{Bool, true, false, _&&_}
 use Rattle.values.specs.definitions.Bytes.{same-bytes}
-use Rattle.text.specs.definitions.Syntax.{Name, Entity, Rule, File}
-use Rattle.checking.specs.definitions.Scope.{Indexed, is-found, interface-named, Variable, variables}
-use Rattle.cycles.specs.definitions.Outcome.{Outcome, running, run-if, collected}
+use Rattle.text.specs.definitions.Syntax.{Rule, File}
+use Rattle.checking.specs.definitions.Scope.{is-found, interface-named, Variable, variables}
+use Rattle.cycles.specs.definitions.Outcome.{Outcome, run-if, collected}
 use Rattle.cycles.specs.definitions.Store.{Store}
 use Rattle.cycles.specs.definitions.Spots.{spots, numbered, every}
 use Rattle.cycles.specs.definitions.Reference.{Write, ref-binding-writes}

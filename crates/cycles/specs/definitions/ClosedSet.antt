@@ -2,7 +2,7 @@
 use Prim.Native.Nat.{ℕ}
 use mathlib.Core.List.{List, [], _∷_, _++_, flatMap}
 use mathlib.Core.Path.{_≡_}
-use mathlib.Core.Bool.{Bool, true, false, _||_}
+use mathlib.Core.Bool.{Bool, false}
 use mathlib.Core.Option.{Option, none, some}
 use lib.Dec.{T, eqb}
 use lib.ListN.{getElem?}
@@ -25,8 +25,7 @@ use Rattle.text.specs.definitions.Syntax.{
   Rule,
   File,
 }
-use Rattle.checking.specs.definitions.Scope.{Indexed, is-found, entity-named, clauses, targets, Variable, variables, variable-named}
-use Rattle.cycles.specs.definitions.Spots.{numbered, every}
+use Rattle.checking.specs.definitions.Scope.{Indexed, is-found, entity-named, clauses, Variable, variables, variable-named}
 
 module _ {A : Type 0} where
   pub data Among (x : A) : List A → Type 0 where

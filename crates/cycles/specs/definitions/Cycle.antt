@@ -9,11 +9,11 @@ use Rattle.values.specs.declared.Value.{Value}
 use Rattle.values.specs.declared.Value.the-variants.{Unset}
 use Rattle.values.specs.declared.Kind.{Kind}
 use Rattle.values.specs.definitions.Storable.{of-kind}
-use Rattle.text.specs.definitions.Syntax.{Name, Sort, Member, Interface, Assignment, literal-value, Entity, File}
+use Rattle.text.specs.definitions.Syntax.{Sort, Member, Interface, Assignment, literal-value, Entity, File}
 use Rattle.checking.specs.definitions.Scope.{Indexed, look-up, is-found, member-of, interface-named, member-named, is-attribute, is-action}
 use Rattle.cycles.specs.definitions.Outcome.{Outcome, running, proceed, run-if}
 use Rattle.cycles.specs.definitions.Store.{Store, Inputs, Stores}
-use Rattle.cycles.specs.definitions.Spots.{Spot, every, cells}
+use Rattle.cycles.specs.definitions.Spots.{every, cells}
 use Rattle.cycles.specs.definitions.Reference.{Write}
 use Rattle.cycles.specs.definitions.Bindings.{ref-all-writes}
 

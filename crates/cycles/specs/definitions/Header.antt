@@ -1,12 +1,12 @@
 -- A header, which document 01 calls a line of names ("Lines of readings"; document 02, order 5).
 use Prim.Native.Nat.{ℕ}
 use mathlib.Core.List.{List, [], _∷_}
-use mathlib.Core.Bool.{Bool, true, false, not, _&&_, _||_, cond}
+use mathlib.Core.Bool.{Bool, true, false, _&&_, _||_, cond}
 use mathlib.Core.Option.{Option, none, some}
 use lib.Dec.{leb, eqb}
 use lib.ListN.{length}
 use Rattle.values.specs.definitions.Bytes.{same-bytes}
-use Rattle.text.specs.definitions.Syntax.{Sort, attribute, event, action, Entity, File}
+use Rattle.text.specs.definitions.Syntax.{attribute, event, action, Entity, File}
 use Rattle.checking.specs.definitions.Scope.{Indexed, entity-named}
 use Rattle.cycles.specs.definitions.Spots.{Spot, spot-of}
 use Rattle.cycles.specs.definitions.Fields.{split, fields}

@@ -2,7 +2,7 @@
 -- two planes, now and previous; what is kept of a sender's line is a third one (document 02, order 5).
 use Prim.Native.Nat.{ℕ, zero, suc, _+_, _*_, _/_, _%_}
 use mathlib.Core.List.{List, [], _∷_, _++_}
-use mathlib.Core.Bool.{Bool, true, false, not, _&&_, _||_, cond}
+use mathlib.Core.Bool.{Bool, true, false, _&&_, _||_, cond}
 use mathlib.Core.Option.{Option, none, some}
 use lib.Dec.{ltb, eqb}
 use lib.ListN.{length, getD, drop}
@@ -12,7 +12,7 @@ use Rattle.values.specs.declared.Kind.{Kind}
 use Rattle.values.specs.declared.Kind.the-variants.{Wholes, Bools, Reals}
 use Rattle.values.specs.definitions.Bytes.{word-at, low-first}
 use Rattle.values.specs.definitions.Cells.{cell-bytes, cell-at, unpacked, finite-bits}
-use Rattle.text.specs.definitions.Syntax.{Sort, attribute, event, action, Member, File}
+use Rattle.text.specs.definitions.Syntax.{attribute, event, action, Member, File}
 use Rattle.checking.specs.definitions.Scope.{member-of, is-attribute}
 use Rattle.checking.specs.definitions.CountFaults.{MOST-MEMBERS, MOST-ENTITIES}
 use Rattle.cycles.specs.definitions.Store.{Store, Stores}
@@ -161,6 +161,13 @@ cells-fit fit f fs cs =
     each (λ i. fit (eqb (getD fs (i / ENTITY-CELLS) 0) 1) (member-of f (i / ENTITY-CELLS) (i % ENTITY-CELLS)) (getD cs (i * CELL-BYTES) 0)
     (word-at 8 cs (i * CELL-BYTES + 1))) 0 (ENTITY-CELLS * entity-count f)
 
+-- a store's flags say absent or present; those of a line's readings may also say nothing
+abbrev pub STORE-FLAGS : ℕ
+STORE-FLAGS = 2
+
+abbrev pub KEPT-FLAGS : ℕ
+KEPT-FLAGS = 3
+
 -- flags below a bound, and cells that fit
 unfoldable pub plane-fits : ℕ → (Bool → Option Member → ℕ → ℕ → Bool) → File → List ℕ → Bool
 unfolding flags-below cells-fit
@@ -171,7 +178,7 @@ plane-fits bound fit f m = flags-below bound (entity-count f) m && cells-fit fit
 unfoldable pub are-stores : File → List ℕ → Bool
 unfolding plane-fits store-fits
 are-stores f m =
-    plane-fits 2 (λ present. store-fits true) f m && plane-fits 2 (λ present. store-fits present) f (next-plane (entity-count f) m)
+    plane-fits STORE-FLAGS (λ present. store-fits true) f m && plane-fits STORE-FLAGS (λ present. store-fits present) f (next-plane (entity-count f) m)
 
 -- memory with the stores written to it
 unfoldable pub with-stores : ℕ → Stores → List ℕ → List ℕ

@@ -15,7 +15,7 @@ use Rattle.values.specs.definitions.Bytes.{same-bytes}
 use Rattle.values.specs.definitions.Forms.{digit-of, led, magnitude, event-field, presence-field}
 use Rattle.checking.specs.definitions.Scope.{is-found}
 use Rattle.cycles.specs.definitions.Store.{Store, Inputs}
-use Rattle.cycles.specs.definitions.Spots.{Spot, every}
+use Rattle.cycles.specs.definitions.Spots.{every}
 use Rattle.cycles.specs.definitions.Cycle.{present-after}
 use Rattle.cycles.specs.definitions.Fields.{fields, is-empty, has-byte}
 use Rattle.cycles.specs.definitions.Header.{Column, is-presence, is-member-number}

@@ -8,7 +8,6 @@ use Rattle.values.specs.definitions.Value.{is-set, operated, negated, as-real, 
 use Rattle.values.specs.definitions.Storable.{of-kind}
 use Rattle.values.specs.definitions.Fitting.{number-kind, real-kind, operand-fits, operands-fit, kinds-fit, value-kind}
 use Rattle.text.specs.definitions.Syntax.{
-  Name,
   Sort,
   literal-value,
   Expression,
@@ -31,7 +30,7 @@ use Rattle.text.specs.definitions.Syntax.{
   Rule,
 }
 use Rattle.checking.specs.definitions.Scope.{is-attribute, is-action, is-event}
-use Rattle.cycles.specs.definitions.Outcome.{Outcome, stuck, running, proceed, with-found, run-if, collected}
+use Rattle.cycles.specs.definitions.Outcome.{Outcome, running, proceed, with-found, run-if, collected}
 use Rattle.cycles.specs.definitions.Store.{Store, read-cell}
 use Rattle.cycles.specs.definitions.Spots.{Spot, Spots}
 

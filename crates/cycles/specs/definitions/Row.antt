@@ -1,10 +1,9 @@
 -- The fields of fired actions in a row, and the header of rows (document 01, "Rows and names").
 use Prim.Native.Nat.{ℕ}
 use mathlib.Core.List.{List, [], _∷_, _++_, flatMap}
-use mathlib.Core.Bool.{Bool, true, false}
-use mathlib.Core.Option.{Option}
+use mathlib.Core.Bool.{true, false}
 use lib.ListN.{getElem?}
-use Rattle.text.specs.definitions.Syntax.{Name, Member, Entity, File}
+use Rattle.text.specs.definitions.Syntax.{File}
 use Rattle.checking.specs.definitions.Scope.{is-action}
 use Rattle.checking.specs.definitions.Verdict.{name-if-found}
 use Rattle.cycles.specs.definitions.Spots.{Spot, cells}

@@ -1,15 +1,15 @@
 -- The stores and readings of a state of a bench: "all attributes set, every value of its cell's kind and every real finite", and nothing where the bench has no cell.
 use Prim.Native.Nat.{ℕ}
 use mathlib.Core.Path.{_≡_}
-use mathlib.Core.Bool.{Bool, true, false}
-use mathlib.Core.Option.{Option, none, some}
+use mathlib.Core.Bool.{true, false}
+use mathlib.Core.Option.{none, some}
 use lib.Dec.{T}
 use lib.ListN.{getElem?}
 use Rattle.values.specs.declared.Value.{Value}
 use Rattle.values.specs.declared.Value.the-variants.{Unset}
 use Rattle.values.specs.definitions.Value.{is-set}
 use Rattle.values.specs.definitions.Storable.{storable}
-use Rattle.text.specs.definitions.Syntax.{Sort, event, Member, Entity, File}
+use Rattle.text.specs.definitions.Syntax.{event, Member, File}
 use Rattle.checking.specs.definitions.Scope.{member-of, is-attribute}
 use Rattle.cycles.specs.definitions.Store.{Store, Inputs, Stores}
 

@@ -1,7 +1,7 @@
 -- What the machine works on (document 01, "State: .."): its two stores. A store is absent and unset wherever the bench has no such entity or member.
 use Prim.Native.Nat.{ℕ}
-use mathlib.Core.Bool.{Bool, true, false, cond}
-use mathlib.Core.Option.{Option, none, some}
+use mathlib.Core.Bool.{Bool, cond}
+use mathlib.Core.Option.{Option}
 use Rattle.values.specs.declared.Value.{Value}
 use Rattle.values.specs.declared.Value.the-variants.{Unset}
 

@@ -19,7 +19,7 @@ use Rattle.cycles.proofs.laws.PutLaws.{put-in-front}
 use Rattle.senders.specs.definitions.Fingerprint.{fingerprint}
 use Rattle.senders.proofs.laws.StandsLaws.{fingerprint-below}
 use Rattle.engine.specs.definitions.BenchImage.{BENCH, with-bench, bench-of, text-in}
-use Rattle.engine.specs.definitions.Calls.{print-of}
+use Rattle.engine.specs.definitions.Calls.{fingerprint-of}
 
 -- the length and the text, put one after the other
 pub bench-put : (text m : List ℕ) → (length text ≤ MOST-BYTES) × (BENCH ≤ length m) → {n k : List ℕ} {r : ℕ}
@@ -87,10 +87,10 @@ bench-accepted m {f} h = go (leb (word-at 4 m 0) MOST-BYTES) refl
 
 -- ---- the fingerprint of the text
 
-pub print-of-below : (bench : List ℕ) → print-of bench < 4294967296
-unfolding print-of
+pub print-of-below : (bench : List ℕ) → fingerprint-of bench < 4294967296
+unfolding fingerprint-of
 print-of-below bench = fingerprint-below (text-in bench)
 
-pub print-written : (text m : List ℕ) → length text ≤ MOST-BYTES → print-of (with-bench text m) ≡ fingerprint text
-unfolding print-of
+pub print-written : (text m : List ℕ) → length text ≤ MOST-BYTES → fingerprint-of (with-bench text m) ≡ fingerprint text
+unfolding fingerprint-of
 print-written text m h = ap fingerprint (text-written text m h)

@@ -26,7 +26,7 @@ use Rattle.engine.specs.definitions.Calls.{
   ROW,
   with-row,
   row-answer,
-  print-of,
+  fingerprint-of,
   After-check,
   checked,
   check-call,
@@ -45,7 +45,7 @@ use Rattle.engine.proofs.laws.Replies.{start-bench, start-state}
 pub record Stands-for (print : ℕ) (f : File) (bench state : List ℕ) (s : State) : Type 0 where
   pub bench-size : BENCH ≤ length bench
   pub bench-is : bench-of bench ≡ some f
-  pub print-is : print-of bench ≡ print
+  pub print-is : fingerprint-of bench ≡ print
   pub state-size : STATE ≤ length state
   pub state-is : state-of print f state ≡ some s
   pub sound-is : Sound-state f s
@@ -127,12 +127,12 @@ unfolding start-bench checked
 start-bench-is text f v bench h = ap (λ (r : After-check). r .bench) (check-accepted text f v bench h)
 
 fresh-accepted : (f : File) (bench state : List ℕ) → BENCH ≤ length bench → bench-of bench ≡ some f → STATE ≤ length state
-    → fresh-call bench state ≡ freshened (print-of bench) (some f) state
+    → fresh-call bench state ≡ freshened (fingerprint-of bench) (some f) state
 unfolding fresh-call
 fresh-accepted f bench state h e g = rw (le-ltb (length bench) BENCH h, le-ltb (length state) STATE g, fresh-call) (rw e)
 
 pub start-state-is : (text : List ℕ) (f : File) (bench state : List ℕ) → BENCH ≤ length (start-bench text bench)
-    → bench-of (start-bench text bench) ≡ some f → print-of (start-bench text bench) ≡ fingerprint text → STATE ≤ length state
+    → bench-of (start-bench text bench) ≡ some f → fingerprint-of (start-bench text bench) ≡ fingerprint text → STATE ≤ length state
     → start-state text bench state ≡ with-state (fingerprint text) f (fresh f) state
 unfolding start-state freshened
 start-state-is text f bench state h e p g =

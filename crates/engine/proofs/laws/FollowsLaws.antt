@@ -25,7 +25,7 @@ use Rattle.senders.proofs.laws.RowReads as Rows
 use Rattle.engine.specs.definitions.BenchImage.{BENCH, bench-of}
 use Rattle.engine.specs.definitions.Calls.{
   ROW,
-  print-of,
+  fingerprint-of,
   After-fresh,
   freshened,
   fresh-call,
@@ -59,7 +59,7 @@ use Rattle.engine.proofs.theorems.ImageRoundTrip.{image-round-trip}
 
 -- memory of the stated sizes that stands for a bench and a state of it is sound
 stands : (bench state : List ℕ) (f : File) (s : State) → BENCH ≤ length bench → STATE ≤ length state → bench-of bench ≡ some f
-    → state-of (print-of bench) f state ≡ some s → Stands-for (print-of bench) f bench state s
+    → state-of (fingerprint-of bench) f state ≡ some s → Stands-for (fingerprint-of bench) f bench state s
 stands bench state f s h g b e =
     let t = bench-accepted bench b in
     record {
@@ -68,7 +68,7 @@ stands bench state f s h g b e =
       print-is = refl;
       state-size = g;
       state-is = e;
-      sound-is = state-decoded-sound f (within-counts f (accepted-verdict (t .text) (t .is-accepted))) (print-of bench) state s e;
+      sound-is = state-decoded-sound f (within-counts f (accepted-verdict (t .text) (t .is-accepted))) (fingerprint-of bench) state s e;
     }
 
 -- no refusal has the number 0
@@ -85,7 +85,7 @@ module _ (bench state names values row : List ℕ) (h : BENCH ≤ length bench) 
   reply = line-call bench state names values row
 
   abbrev print : ℕ
-  print = print-of bench
+  print = fingerprint-of bench
 
   answered : (f : File) → bench-of bench ≡ some f → (s : State) → state-of print f state ≡ some s
       → Answered print f bench state s request reply (machine-answer f s request)
@@ -163,7 +163,7 @@ line-follows bench state names values row new-state new-row r c h g w =
 
 -- ---- the fresh state
 
-fresh-is : (bench state : List ℕ) → BENCH ≤ length bench → STATE ≤ length state → fresh-call bench state ≡ freshened (print-of bench) (bench-of bench) state
+fresh-is : (bench state : List ℕ) → BENCH ≤ length bench → STATE ≤ length state → fresh-call bench state ≡ freshened (fingerprint-of bench) (bench-of bench) state
 unfolding fresh-call
 fresh-is bench state h g = rw (le-ltb (length bench) BENCH h, le-ltb (length state) STATE g, fresh-call)
 
@@ -172,23 +172,23 @@ pub fresh-freshens : (bench state new-state : List ℕ) (r : ℕ) → Fresh-cont
     → ((number-of r ≡ 0) ↔ Bench-lent bench) × (number-of r ≡ 0 → Freshens bench new-state)
 unfolding freshened
 fresh-freshens bench state new-state r c h g =
-    let i : record { answer = r; state = new-state } ≡ freshened (print-of bench) (bench-of bench) state = c ∙ fresh-is bench state h g in (
+    let i : record { answer = r; state = new-state } ≡ freshened (fingerprint-of bench) (bench-of bench) state = c ∙ fresh-is bench state h g in (
       (
         λ z. let k = by-bench z (bench-of bench) refl in record { file = k .file; is-bench = k .is-bench },
-        λ k. ap number-of (ap (λ (x : After-fresh). x .answer) (i ∙ ap (λ (o : Option File). freshened (print-of bench) o state) (k .is-bench))),
+        λ k. ap number-of (ap (λ (x : After-fresh). x .answer) (i ∙ ap (λ (o : Option File). freshened (fingerprint-of bench) o state) (k .is-bench))),
       ),
       λ z. by-bench z (bench-of bench) refl,
     )
   where
     by-bench : number-of r ≡ 0 → (o : Option File) → bench-of bench ≡ o → Freshens bench new-state
     by-bench z none e =
-        let i : record { answer = r; state = new-state } ≡ freshened (print-of bench) none state =
-        c ∙ fresh-is bench state h g ∙ ap (λ (o : Option File). freshened (print-of bench) o state) e in
+        let i : record { answer = r; state = new-state } ≡ freshened (fingerprint-of bench) none state =
+        c ∙ fresh-is bench state h g ∙ ap (λ (o : Option File). freshened (fingerprint-of bench) o state) e in
         absurd (not-zero 32 (ap (λ (x : After-fresh). x .answer) i) z (λ n. omega arith))
     by-bench z (some f) e = record {
       file = f;
       is-bench = e;
-      leaves = ap (λ (x : After-fresh). state-of (print-of bench) f (x .state)) c ∙ image-round-trip .fresh bench state f h g e;
+      leaves = ap (λ (x : After-fresh). state-of (fingerprint-of bench) f (x .state)) c ∙ image-round-trip .fresh bench state f h g e;
     }
 
 -- ---- rows
@@ -228,7 +228,7 @@ header-names bench row new-row r c h w =
     ((λ z. let k = go z in record { file = k .file; is-bench = k .is-bench }, λ k. named-answer bench row h w x i k), go)
 
 row-is : (bench state sender row : List ℕ) → BENCH ≤ length bench → STATE ≤ length state → ROW ≤ length row
-    → row-call bench state sender row ≡ row-on-bench (print-of bench) (bench-of bench) state sender row
+    → row-call bench state sender row ≡ row-on-bench (fingerprint-of bench) (bench-of bench) state sender row
 unfolding row-call
 row-is bench state sender row h g w = rw (le-ltb (length bench) BENCH h, le-ltb (length state) STATE g, le-ltb (length row) ROW w, row-call)
 
@@ -237,20 +237,20 @@ pub record Row-given (bench state sender : List ℕ) (x : After-row) : Type 0 wh
   pub lent : Row-lent bench state sender
   pub shows : Shows bench state sender (x .answer) (x .row)
 
-module _ (bench state sender row : List ℕ) (x : After-row) (c : x ≡ row-on-bench (print-of bench) (bench-of bench) state sender row) where
-  in-state : (f : File) → bench-of bench ≡ some f → (o : Option State) → state-of (print-of bench) f state ≡ o → x ≡ row-in-state f o sender row
+module _ (bench state sender row : List ℕ) (x : After-row) (c : x ≡ row-on-bench (fingerprint-of bench) (bench-of bench) state sender row) where
+  in-state : (f : File) → bench-of bench ≡ some f → (o : Option State) → state-of (fingerprint-of bench) f state ≡ o → x ≡ row-in-state f o sender row
   unfolding row-on-bench
   in-state f b o e =
       c
-      ∙ ap (λ (p : Option File). row-on-bench (print-of bench) p state sender row) b
+      ∙ ap (λ (p : Option File). row-on-bench (fingerprint-of bench) p state sender row) b
       ∙ ap (λ (p : Option State). row-in-state f p sender row) e
 
-  named : (f : File) → bench-of bench ≡ some f → (s : State) → state-of (print-of bench) f state ≡ some s → (t : Bool) → is-sender sender ≡ t
+  named : (f : File) → bench-of bench ≡ some f → (s : State) → state-of (fingerprint-of bench) f state ≡ some s → (t : Bool) → is-sender sender ≡ t
       → x ≡ row-if-named t f s sender row
   unfolding row-in-state
   named f b s e t n = in-state f b (some s) e ∙ ap (λ (t : Bool). row-if-named t f s sender row) n
 
-  given-named : number-of (x .answer) ≡ 0 → (f : File) → bench-of bench ≡ some f → (s : State) → state-of (print-of bench) f state ≡ some s
+  given-named : number-of (x .answer) ≡ 0 → (f : File) → bench-of bench ≡ some f → (s : State) → state-of (fingerprint-of bench) f state ≡ some s
       → (t : Bool) → is-sender sender ≡ t → Row-given bench state sender x
   unfolding row-if-named
   given-named z f b s e false n = absurd (not-zero 43 (ap (λ (y : After-row). y .answer) (named f b s e false n)) z (λ n. omega arith))
@@ -265,7 +265,7 @@ module _ (bench state sender row : List ℕ) (x : After-row) (c : x ≡ row-on-b
     };
   }
 
-  given-in : number-of (x .answer) ≡ 0 → (f : File) → bench-of bench ≡ some f → (o : Option State) → state-of (print-of bench) f state ≡ o
+  given-in : number-of (x .answer) ≡ 0 → (f : File) → bench-of bench ≡ some f → (o : Option State) → state-of (fingerprint-of bench) f state ≡ o
       → Row-given bench state sender x
   unfolding row-in-state
   given-in z f b none e = absurd (not-zero 33 (ap (λ (y : After-row). y .answer) (in-state f b none e)) z (λ n. omega arith))
@@ -274,10 +274,10 @@ module _ (bench state sender row : List ℕ) (x : After-row) (c : x ≡ row-on-b
   given-on : number-of (x .answer) ≡ 0 → (o : Option File) → bench-of bench ≡ o → Row-given bench state sender x
   unfolding row-on-bench
   given-on z none b =
-      let i : x ≡ row-on-bench (print-of bench) none state sender row =
-      c ∙ ap (λ (o : Option File). row-on-bench (print-of bench) o state sender row) b in
+      let i : x ≡ row-on-bench (fingerprint-of bench) none state sender row =
+      c ∙ ap (λ (o : Option File). row-on-bench (fingerprint-of bench) o state sender row) b in
       absurd (not-zero 32 (ap (λ (y : After-row). y .answer) i) z (λ n. omega arith))
-  given-on z (some f) b = given-in z f b (state-of (print-of bench) f state) refl
+  given-on z (some f) b = given-in z f b (state-of (fingerprint-of bench) f state) refl
 
   shown-answer : Row-lent bench state sender → number-of (x .answer) ≡ 0
   unfolding row-if-named row-written
@@ -291,7 +291,7 @@ pub row-shows : (bench state sender row new-row : List ℕ) (r : ℕ) → Row-co
     → ((number-of r ≡ 0) ↔ Row-lent bench state sender) × (number-of r ≡ 0 → Shows bench state sender r new-row)
 row-shows bench state sender row new-row r c h g w =
     let x : After-row = record { answer = r; row = new-row } in
-    let i : x ≡ row-on-bench (print-of bench) (bench-of bench) state sender row = c ∙ row-is bench state sender row h g w in
+    let i : x ≡ row-on-bench (fingerprint-of bench) (bench-of bench) state sender row = c ∙ row-is bench state sender row h g w in
     let go : number-of r ≡ 0 → Row-given bench state sender x = λ z. given-on bench state sender row x i z (bench-of bench) refl in
     ((λ z. go z .lent, shown-answer bench state sender row x i), λ z. go z .shows)
 

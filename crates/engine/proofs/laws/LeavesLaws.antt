@@ -20,7 +20,7 @@ use Rattle.senders.proofs.laws.StateLaws.{state-written}
 use Rattle.engine.specs.definitions.BenchImage.{BENCH, bench-of}
 use Rattle.engine.specs.definitions.Calls.{
   ROW,
-  print-of,
+  fingerprint-of,
   checked,
   check-call,
   freshened,
@@ -41,20 +41,20 @@ check-leaves text bench v b =
     rw (le-ltb (length bench) BENCH b, v, check-call) (bench-written text bench (accepted-length text v) ∙ accepted-is-file text v)
 
 module _ (bench state : List ℕ) (f : File) (b : BENCH ≤ length bench) (l : STATE ≤ length state) (is : bench-of bench ≡ some f) (w : Within-counts f) where
-  pub fresh-leaves : Sound-state f (fresh f) → state-of (print-of bench) f (fresh-call bench state .state) ≡ some (fresh f)
+  pub fresh-leaves : Sound-state f (fresh f) → state-of (fingerprint-of bench) f (fresh-call bench state .state) ≡ some (fresh f)
   unfolding fresh-call freshened
   fresh-leaves s =
       rw (le-ltb (length bench) BENCH b, le-ltb (length state) STATE l, is, fresh-call)
-      (state-written f w (print-of bench) (print-of-below bench) (fresh f) s state)
+      (state-written f w (fingerprint-of bench) (print-of-below bench) (fresh f) s state)
 
   -- a line that is sent again leaves the state as it was, which `follow` does too
-  pub line-leaves : (names values row : List ℕ) (s : State) (a : Accepted) → ROW ≤ length row → state-of (print-of bench) f state ≡ some s
+  pub line-leaves : (names values row : List ℕ) (s : State) (a : Accepted) → ROW ≤ length row → state-of (fingerprint-of bench) f state ≡ some s
       → line f s names values ≡ accepted a → Sound-state f (follow f s a)
-      → state-of (print-of bench) f (line-call bench state names values row .state) ≡ some (follow f s a)
+      → state-of (fingerprint-of bench) f (line-call bench state names values row .state) ≡ some (follow f s a)
   unfolding line-call line-on-bench line-in-state line-answered line-accepted followed follow
   line-leaves names values row s a r e h g =
       rw (le-ltb (length bench) BENCH b, le-ltb (length state) STATE l, le-ltb (length row) ROW r, is, e, h, line-call) (go a g)
     where
-      go : (a : Accepted) → Sound-state f (follow f s a) → state-of (print-of bench) f (followed (print-of bench) f s a state) ≡ some (follow f s a)
+      go : (a : Accepted) → Sound-state f (follow f s a) → state-of (fingerprint-of bench) f (followed (fingerprint-of bench) f s a state) ≡ some (follow f s a)
       go (resent l) g = e
-      go (new l) g = state-written f w (print-of bench) (print-of-below bench) (follow f s (new l)) g state
+      go (new l) g = state-written f w (fingerprint-of bench) (print-of-below bench) (follow f s (new l)) g state

@@ -22,7 +22,7 @@ use Rattle.engine.specs.definitions.BenchImage.{BENCH, bench-of}
 use Rattle.engine.specs.definitions.Calls.{
   ROW,
   row-answer,
-  print-of,
+  fingerprint-of,
   After-check,
   checked,
   check-call,
@@ -117,12 +117,12 @@ unfolding fresh-call freshened
 fresh-call-numbered bench state = by-size (ltb (length bench) BENCH || ltb (length state) STATE)
   where
     by-bench : (o : Option File)
-        → Listed-answer FRESH-NUMBERS (freshened (print-of bench) o state .answer) (state ∷ []) (freshened (print-of bench) o state .state ∷ [])
+        → Listed-answer FRESH-NUMBERS (freshened (fingerprint-of bench) o state .answer) (state ∷ []) (freshened (fingerprint-of bench) o state .state ∷ [])
     by-bench none = refusal 32 (there (there here))
     by-bench (some f) = acceptance 0 refl here
 
     call : Bool → After-fresh
-    call b = elim b [ true ↦ record { answer = 31; state = state } | false ↦ freshened (print-of bench) (bench-of bench) state ]
+    call b = elim b [ true ↦ record { answer = 31; state = state } | false ↦ freshened (fingerprint-of bench) (bench-of bench) state ]
 
     by-size : (b : Bool) → Listed-answer FRESH-NUMBERS (call b .answer) (state ∷ []) (call b .state ∷ [])
     by-size true = refusal 31 (there here)
@@ -155,7 +155,7 @@ unfolding line-call line-on-bench line-in-state line-answered line-refused line-
 line-call-numbered bench state names values row = by-size (ltb (length bench) BENCH || ltb (length state) STATE || ltb (length row) ROW)
   where
     print : ℕ
-    print = print-of bench
+    print = fingerprint-of bench
 
     by-line : (f : File) (s : State) (a : Answer Accepted) → Refused-by-number LINE a → Line-numbered state row (line-answered print f s a state row)
     by-line f s (refused code) h = let e : number-of code ≡ code = let l = h .0 in omega arith in refusal code (rw e (h .1))
@@ -208,7 +208,7 @@ unfolding row-call row-on-bench row-in-state row-if-named row-written
 row-call-numbered bench state sender row = by-size (ltb (length bench) BENCH || ltb (length state) STATE || ltb (length row) ROW)
   where
     print : ℕ
-    print = print-of bench
+    print = fingerprint-of bench
 
     by-name : (f : File) (s : State) (b : Bool) → Row-numbered ROW-NUMBERS row (row-if-named b f s sender row)
     by-name f s false = refusal 43 (there (there (there (there here))))

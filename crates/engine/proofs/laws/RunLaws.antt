@@ -20,7 +20,7 @@ use Rattle.cycles.specs.definitions.ClosedSet.{Closed}
 use Rattle.cycles.proofs.laws.Agreement.{Stores-agree}
 use Rattle.senders.specs.definitions.Sender.{Sender, State, Line, is-sender, kept}
 use Rattle.senders.specs.definitions.Answer.{Answer, refused, accepted}
-use Rattle.senders.specs.definitions.Line.{Accepted, new, resent, its-line, is-resent, reading}
+use Rattle.senders.specs.definitions.Line.{Accepted, new, resent, its-line, is-resent}
 use Rattle.senders.specs.definitions.Follow.{ref-follow, fresh, ref-fresh}
 use Rattle.senders.specs.contracts.TotalFollow.{follow}
 use Rattle.senders.specs.definitions.Row.{row, sender-row}
@@ -28,7 +28,7 @@ use Rattle.senders.specs.definitions.Fingerprint.{fingerprint}
 use Rattle.senders.specs.definitions.StateImage.{STATE, state-of}
 use Rattle.senders.specs.definitions.SoundState.{Sound-state}
 use Rattle.senders.proofs.laws.AnswerLaws.{Has-number, In-turn, resent-turn, line-read}
-use Rattle.senders.proofs.laws.WithSender.{kept-name}
+use Rattle.senders.proofs.laws.SenderLaws.{kept-name}
 use Rattle.senders.proofs.laws.Apart.{Lines-agree, Kept-agree, States-agree, same-state, follow-apart}
 use Rattle.senders.proofs.laws.Again as Again
 use Rattle.senders.proofs.laws.StateLaws.{state-written, state-written-length}
@@ -38,7 +38,17 @@ use Rattle.senders.proofs.laws.SoundLine.{accepted-line-sound}
 use Rattle.senders.proofs.laws.SoundFollow.{follow-sound, fresh-sound}
 use Rattle.senders.proofs.theorems.AcceptedSound.{accepted-fresh}
 use Rattle.engine.specs.definitions.BenchImage.{BENCH, bench-of}
-use Rattle.engine.specs.definitions.Calls.{with-row, row-answer, print-of, After-line, followed, line-row, line-accepted, line-answered, line-call}
+use Rattle.engine.specs.definitions.Calls.{
+  with-row,
+  row-answer,
+  fingerprint-of,
+  After-line,
+  followed,
+  line-row,
+  line-accepted,
+  line-answered,
+  line-call,
+}
 use Rattle.engine.specs.definitions.Runs.{
   Request,
   Run-start,
@@ -53,6 +63,7 @@ use Rattle.engine.specs.definitions.Runs.{
   Taken,
   said-line,
   taken-if,
+  taken-by,
   taken-lines,
 }
 use Rattle.engine.specs.definitions.DemandTwo.{Resent, All-sent-before}
@@ -249,7 +260,7 @@ module _ (print : ℕ) (below : print < 4294967296) (f : File) (ok : file-verdic
 
   -- the accepted lines of a run
   replies-chain : (qs : List Request) (m : List ℕ) (s : State) → Stands-for print f b m s → Chain print f s (taken-lines f m qs (replies b m qs))
-  unfolding taken-lines replies taken-if said-line given-by given
+  unfolding taken-lines taken-by replies taken-if said-line given-by given
   replies-chain [] m s st = tt
   replies-chain (q ∷ qs) m s st =
       let r = line-call b m (q .names) (q .values) (q .row) in
@@ -257,8 +268,7 @@ module _ (print : ℕ) (below : print < 4294967296) (f : File) (ok : file-verdic
     where
       go : (r : After-line) (a : Answer Accepted) → machine-answer f s q ≡ a → Has-number a → Answered print f b m s q r a
           → ((t : State) → Stands-for print f b (r .state) t → Chain print f t (taken-lines f (r .state) qs (replies b (r .state) qs)))
-          → Chain print f s
-          (taken-if (eqb (r .answer % 256) 0) (said-line (reading f (q .names) (q .values))) m r ++ taken-lines f (r .state) qs (replies b (r .state) qs))
+          → Chain print f s (taken-by f m q r ++ taken-lines f (r .state) qs (replies b (r .state) qs))
       go r (refused code) e n h later = rw (h .answer-is, n) (later s (h .stands))
       go r (accepted a) e n h later =
           let t = line-read f s (q .names) (q .values) (answer-line f s q e) in
@@ -286,7 +296,7 @@ start-stands text f v bench state h g =
     let e = start-bench-is text f v bench h in
     let size : BENCH ≤ length (start-bench text bench) = rw (e, bench-length text bench h (accepted-length text v)) h in
     let is : bench-of (start-bench text bench) ≡ some f = rw (e, bench-written text bench (accepted-length text v)) (accepted-is-file text v) in
-    let print : print-of (start-bench text bench) ≡ fingerprint text = ap print-of e ∙ print-written text bench (accepted-length text v) in
+    let print : fingerprint-of (start-bench text bench) ≡ fingerprint text = ap fingerprint-of e ∙ print-written text bench (accepted-length text v) in
     let d = start-state-is text f bench state size is print g in
     record {
       bench-size = size;
@@ -304,7 +314,7 @@ module _ (text : List ℕ) (f : File) (v : verdict text ≡ Verdict.accepted f) 
   ok = accepted-verdict text v
 
   module _ {bench state : List ℕ} (b : Run-start text bench state) where
-    started : Stands-for (fingerprint text) f bench state (fresh f)
+    pub started : Stands-for (fingerprint text) f bench state (fresh f)
     started =
         rw (begins-bench b, begins-state b)
         (start-stands text f v (b .lent-bench) (b .lent-state) (b .bench-size) (b .state-size))

@@ -23,7 +23,7 @@ use Rattle.days.specs.definitions.DaySheet.{day-sheet, sheet-in, sheet-if-state
 use Rattle.days.proofs.theorems.DayRuns.{day-runs}
 use Rattle.days.proofs.theorems.DaySizes.{rows-full}
 use Rattle.engine.specs.definitions.BenchImage.{BENCH, bench-of}
-use Rattle.engine.specs.definitions.Calls.{print-of, LENGTHS, length-answer, After-sheet, sheet-answered, sheet-on-bench, sheet-call, Sheet-contract}
+use Rattle.engine.specs.definitions.Calls.{fingerprint-of, LENGTHS, length-answer, After-sheet, sheet-answered, sheet-on-bench, sheet-call, Sheet-contract}
 use Rattle.engine.specs.definitions.DemandOne.{number-of, SHEET-NUMBERS, Listed-answer}
 use Rattle.engine.specs.definitions.DemandTwo.{Sheet-lent, Sheets}
 use Rattle.engine.proofs.laws.BenchLaws.{bench-accepted}
@@ -58,12 +58,12 @@ sheet-call-numbered bench state readings cells m =
     by-state f none = refusal 33 (there (there (there here)))
     by-state f (some s) = by-chosen f s (chosen f cells)
 
-    by-bench : (o : Option File) → Numbered m (sheet-on-bench (print-of bench) o state readings cells m)
+    by-bench : (o : Option File) → Numbered m (sheet-on-bench (fingerprint-of bench) o state readings cells m)
     by-bench none = refusal 32 (there (there here))
-    by-bench (some f) = by-state f (state-of (print-of bench) f state)
+    by-bench (some f) = by-state f (state-of (fingerprint-of bench) f state)
 
     call : Bool → After-sheet
-    call b = elim b [ true ↦ record { answer = 31; sheet = m } | false ↦ sheet-on-bench (print-of bench) (bench-of bench) state readings cells m ]
+    call b = elim b [ true ↦ record { answer = 31; sheet = m } | false ↦ sheet-on-bench (fingerprint-of bench) (bench-of bench) state readings cells m ]
 
     by-size : (b : Bool) → Numbered m (call b)
     by-size true = refusal 31 (there here)
@@ -75,7 +75,7 @@ sheet-numbered bench state readings cells sheet new-sheet r c = subst (Numbered 
 
 -- ---- what is written
 
-module _ (bench state readings cells m : List ℕ) (x : After-sheet) (c : x ≡ sheet-on-bench (print-of bench) (bench-of bench) state readings cells m) where
+module _ (bench state readings cells m : List ℕ) (x : After-sheet) (c : x ≡ sheet-on-bench (fingerprint-of bench) (bench-of bench) state readings cells m) where
   abbrev names : List ℕ
   names = header-line (lines readings)
 
@@ -83,11 +83,11 @@ module _ (bench state readings cells m : List ℕ) (x : After-sheet) (c : x ≡ 
   bytes f s ps = day-sheet ps (turns f names s (record-lines (lines readings)))
 
   -- by the bench and the state
-  in-state : (f : File) → bench-of bench ≡ some f → (o : Option State) → state-of (print-of bench) f state ≡ o
+  in-state : (f : File) → bench-of bench ≡ some f → (o : Option State) → state-of (fingerprint-of bench) f state ≡ o
       → x ≡ sheet-answered (sheet-if-state f o readings cells) m
   unfolding sheet-on-bench
   in-state f b o e =
-      c ∙ ap (λ (p : Option File). sheet-on-bench (print-of bench) p state readings cells m) b
+      c ∙ ap (λ (p : Option File). sheet-on-bench (fingerprint-of bench) p state readings cells m) b
       ∙ ap (λ (p : Option State). sheet-answered (sheet-if-state f p readings cells) m) e
 
   not-refused : (code : ℕ) → number-of (x .answer) ≡ 0 → x ≡ sheet-answered (refused code) m → (number-of code ≡ 0 → ⊥) → ⊥
@@ -99,7 +99,7 @@ module _ (bench state readings cells m : List ℕ) (x : After-sheet) (c : x ≡ 
   unfolding sheet-on-bench sheet-if-state sheet-in or-refused
   lent z = by-bench (bench-of bench) refl
     where
-      by-header : (f : File) → bench-of bench ≡ some f → (s : State) → state-of (print-of bench) f state ≡ some s → (ps : List Spot) → chosen f cells ≡ some ps
+      by-header : (f : File) → bench-of bench ≡ some f → (s : State) → state-of (fingerprint-of bench) f state ≡ some s → (ps : List Spot) → chosen f cells ≡ some ps
           → (o : Option (List Column)) → header f names ≡ o → Sheet-lent bench state readings cells
       by-header f b s e ps p none h =
           let q : sheet-if-state f (some s) readings cells ≡ refused 22 = rw (p, h) in
@@ -115,22 +115,22 @@ module _ (bench state readings cells m : List ℕ) (x : After-sheet) (c : x ≡ 
         is-header = h;
       }
 
-      by-chosen : (f : File) → bench-of bench ≡ some f → (s : State) → state-of (print-of bench) f state ≡ some s
+      by-chosen : (f : File) → bench-of bench ≡ some f → (s : State) → state-of (fingerprint-of bench) f state ≡ some s
           → (o : Option (List Spot)) → chosen f cells ≡ o → Sheet-lent bench state readings cells
       by-chosen f b s e none p =
           let q : sheet-if-state f (some s) readings cells ≡ refused 41 = rw p in
           absurd (not-refused 41 z (in-state f b (some s) e ∙ ap (λ (a : Answer (List ℕ)). sheet-answered a m) q) (λ n. omega arith))
       by-chosen f b s e (some ps) p = by-header f b s e ps p (header f names) refl
 
-      by-state : (f : File) → bench-of bench ≡ some f → (o : Option State) → state-of (print-of bench) f state ≡ o → Sheet-lent bench state readings cells
+      by-state : (f : File) → bench-of bench ≡ some f → (o : Option State) → state-of (fingerprint-of bench) f state ≡ o → Sheet-lent bench state readings cells
       by-state f b none e = absurd (not-refused 33 z (in-state f b none e) (λ n. omega arith))
       by-state f b (some s) e = by-chosen f b s e (chosen f cells) refl
 
       by-bench : (o : Option File) → bench-of bench ≡ o → Sheet-lent bench state readings cells
       by-bench none b =
-          let i : x ≡ record { answer = 32; sheet = m } = c ∙ ap (λ (p : Option File). sheet-on-bench (print-of bench) p state readings cells m) b in
+          let i : x ≡ record { answer = 32; sheet = m } = c ∙ ap (λ (p : Option File). sheet-on-bench (fingerprint-of bench) p state readings cells m) b in
           absurd (not-zero 32 (ap (λ (y : After-sheet). y .answer) i) z (λ n. omega arith))
-      by-bench (some f) b = by-state f b (state-of (print-of bench) f state) refl
+      by-bench (some f) b = by-state f b (state-of (fingerprint-of bench) f state) refl
 
   module _ (k : Sheet-lent bench state readings cells) where
     made : sheet-in (k .file) (k .before) readings cells ≡ accepted (bytes (k .file) (k .before) (k .spots))
@@ -153,7 +153,7 @@ module _ (bench state readings cells m : List ℕ) (x : After-sheet) (c : x ≡ 
           is-bench = k .is-bench;
           is-state = k .is-state;
           is-chosen = k .is-chosen;
-          runs = day-runs (t .text) (k .file) (t .is-accepted) (print-of bench) state (k .before) (k .is-state) names (record-lines (lines readings));
+          runs = day-runs (t .text) (k .file) (t .is-accepted) (fingerprint-of bench) state (k .before) (k .is-state) names (record-lines (lines readings));
           rows = rows-full (k .file) cells (k .spots) (k .is-chosen) (k .before) names (record-lines (lines readings));
           writes = ap (λ (y : After-sheet). y .sheet) written;
           counts = ap (λ (y : After-sheet). y .answer) written;
@@ -165,7 +165,7 @@ module _ (bench state readings cells m : List ℕ) (x : After-sheet) (c : x ≡ 
         ap (λ (y : After-sheet). number-of (y .answer)) written ∙ above-number (length (bytes (k .file) (k .before) (k .spots)) % LENGTHS)
 
 sheet-is : (bench state readings cells m : List ℕ) → BENCH ≤ length bench → STATE ≤ length state → sheet-size readings ≤ length m
-    → sheet-call bench state readings cells m ≡ sheet-on-bench (print-of bench) (bench-of bench) state readings cells m
+    → sheet-call bench state readings cells m ≡ sheet-on-bench (fingerprint-of bench) (bench-of bench) state readings cells m
 unfolding sheet-call
 sheet-is bench state readings cells m h g w =
     rw (le-ltb (length bench) BENCH h, le-ltb (length state) STATE g, le-ltb (length m) (sheet-size readings) w, sheet-call)
@@ -175,7 +175,7 @@ pub sheet-sheets : (bench state readings cells sheet new-sheet : List ℕ) (r : 
     → ((number-of r ≡ 0) ↔ Sheet-lent bench state readings cells) × (number-of r ≡ 0 → Sheets bench state readings cells sheet r new-sheet)
 sheet-sheets bench state readings cells sheet new-sheet r c h g w =
     let x : After-sheet = record { answer = r; sheet = new-sheet } in
-    let i : x ≡ sheet-on-bench (print-of bench) (bench-of bench) state readings cells sheet = c ∙ sheet-is bench state readings cells sheet h g w in (
+    let i : x ≡ sheet-on-bench (fingerprint-of bench) (bench-of bench) state readings cells sheet = c ∙ sheet-is bench state readings cells sheet h g w in (
       (λ z. lent bench state readings cells sheet x i z, λ k. accepted-answer bench state readings cells sheet x i k),
       λ z. sheets bench state readings cells sheet x i (lent bench state readings cells sheet x i z),
     )

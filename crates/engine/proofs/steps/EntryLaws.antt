@@ -12,7 +12,7 @@ use Rattle.engine.specs.declared.serve.Call.the-variants.{Check, Fresh, 
 use Rattle.engine.specs.definitions.BenchImage.{BENCH, text-in}
 use Rattle.engine.specs.definitions.Calls.{
   ROW,
-  print-of,
+  fingerprint-of,
   check-call,
   fresh-call,
   line-call,
@@ -53,7 +53,7 @@ module _ (bench state : List ℕ) where
     pub fresh-served : STATE ≤ length state → (text shown names values out : List ℕ) {new new-out : List ℕ} {r : ℕ} → text ≡ text-in bench
         → record { answer = r; state = new; out = new-out } ≡ served Fresh text state shown names values out
         → record { answer = r; state = new } ≡ fresh-call bench state
-    unfolding fresh-call print-of served
+    unfolding fresh-call fingerprint-of served
     fresh-served h text shown names values out t e =
         rw (le-ltb (length bench) BENCH b, le-ltb (length state) STATE h, fresh-call, ← text-accepted bench, ← t)
         (ap (λ (s : Served). record { answer = s .answer; state = s .state }) e)
@@ -78,7 +78,7 @@ module _ (bench state names values row : List ℕ) where
       pub line-served : ROW ≤ length row → (text shown : List ℕ) {new-state new-row : List ℕ} {r : ℕ} → text ≡ text-in bench
           → record { answer = r; state = new-state; out = new-row } ≡ served Line text state shown names values row
           → record { answer = r; state = new-state; row = new-row } ≡ line-call bench state names values row
-      unfolding line-call print-of served
+      unfolding line-call fingerprint-of served
       line-served h text shown t e =
           rw (le-ltb (length bench) BENCH b, le-ltb (length state) STATE s, le-ltb (length row) ROW h, line-call, ← text-accepted bench, ← t)
           (ap (λ (x : Served). record { answer = x .answer; state = x .state; row = x .out }) e)
@@ -123,7 +123,7 @@ module _ (bench state sender row : List ℕ) where
       pub row-served : ROW ≤ length row → (text values none : List ℕ) {new-state new : List ℕ} {r : ℕ} → text ≡ text-in bench
           → record { answer = r; state = new-state; out = new } ≡ served Row text none state sender values row
           → record { answer = r; row = new } ≡ row-call bench state sender row
-      unfolding row-call print-of served
+      unfolding row-call fingerprint-of served
       row-served h text values none t e =
           rw (le-ltb (length bench) BENCH b, le-ltb (length state) STATE s, le-ltb (length row) ROW h, row-call, ← text-accepted bench, ← t)
           (ap (λ (x : Served). record { answer = x .answer; row = x .out }) e)
@@ -151,7 +151,7 @@ module _ (bench state readings cells sheet : List ℕ) where
       pub sheet-served : short ≡ false → (text none : List ℕ) {new-state new : List ℕ} {r : ℕ} → text ≡ text-in bench
           → record { answer = r; state = new-state; out = new } ≡ served Sheet text none state readings cells sheet
           → record { answer = r; sheet = new } ≡ sheet-call bench state readings cells sheet
-      unfolding sheet-call print-of served
+      unfolding sheet-call fingerprint-of served
       sheet-served h text none t e =
           rw (le-ltb (length bench) BENCH b, le-ltb (length state) STATE s, sym tests ∙ h, sheet-call, ← text-accepted bench, ← t)
           (ap (λ (x : Served). record { answer = x .answer; sheet = x .out }) e)

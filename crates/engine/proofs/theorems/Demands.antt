@@ -56,6 +56,7 @@ use Rattle.engine.specs.definitions.DemandTwo.{
   Sheets,
   Resent,
   All-sent-before,
+  All-sent-again,
   Reads-back,
 }
 use Rattle.engine.specs.definitions.DemandThree.{Same-lines, Same-values, Side-by-side}
@@ -65,6 +66,7 @@ use Rattle.engine.proofs.laws.SheetLaws.{sheet-numbered, sheet-sheets}
 use Rattle.engine.proofs.laws.ClassLaws.{answer-classified}
 use Rattle.engine.proofs.laws.FollowsLaws.{fresh-freshens, line-follows, header-names, row-shows, row-reads-back}
 use Rattle.engine.proofs.laws.RunLaws.{run-stays, runs-apart, run-resent, run-sent-before}
+use Rattle.engine.proofs.laws.SentAgainLaws.{run-sent-again}
 
 -- "Any text as bench file or readings, any memory as bench or state: an acceptance or a numbered refusal, always; a refusal changes no lent byte."
 pub record Demand-one : Type 0 where
@@ -127,6 +129,11 @@ pub record Demand-two : Type 0 where
       → (bench state : List ℕ) → Run-start text bench state
       → (qs : List Request) (rs : List After-line) → Run bench state qs rs
       → All-sent-before (fingerprint text) f [] (taken-lines f state qs rs)
+  -- and a line that its sender sends again is accepted, even after lines of others
+  pub sent-again : (text : List ℕ) (f : File) → verdict text ≡ Verdict.accepted f
+      → (bench state : List ℕ) → Run-start text bench state
+      → (qs : List Request) (rs : List After-line) → Run bench state qs rs
+      → All-sent-again f [] state qs rs
   -- "every printed value reads back as itself": the row of any sender in any state, which is what `follows` and `shows` say is given
   pub reads-back : (text : List ℕ) (f : File) → verdict text ≡ Verdict.accepted f
       → (print : ℕ) (m : List ℕ) (s : State) → state-of print f m ≡ some s
@@ -144,6 +151,7 @@ demand-two = record {
   classes = answer-classified;
   resent = run-resent;
   sent-before = run-sent-before;
+  sent-again = run-sent-again;
   reads-back = row-reads-back;
 }
 

@@ -18,7 +18,7 @@ use Rattle.senders.proofs.laws.StateLaws.{state-decoded-sound}
 use Rattle.senders.proofs.laws.SoundFollow.{fresh-sound}
 use Rattle.senders.proofs.theorems.AcceptedSound.{accepted-sound}
 use Rattle.engine.specs.definitions.BenchImage.{BENCH, bench-of}
-use Rattle.engine.specs.definitions.Calls.{ROW, print-of, check-call, fresh-call, line-call}
+use Rattle.engine.specs.definitions.Calls.{ROW, fingerprint-of, check-call, fresh-call, line-call}
 use Rattle.engine.proofs.laws.BenchLaws.{bench-accepted}
 use Rattle.engine.proofs.laws.LeavesLaws.{check-leaves, fresh-leaves, line-leaves}
 
@@ -28,12 +28,12 @@ pub record Image-round-trip : Type 0 where
       → bench-of (check-call text bench .bench) ≡ some f
   -- what fresh leaves stands for the fresh state
   pub fresh : (bench state : List ℕ) (f : File) → BENCH ≤ length bench → STATE ≤ length state → bench-of bench ≡ some f
-      → state-of (print-of bench) f (fresh-call bench state .state) ≡ some (fresh f)
+      → state-of (fingerprint-of bench) f (fresh-call bench state .state) ≡ some (fresh f)
   -- what an accepted line leaves stands for the machine's state after it
   pub line : (bench state names values row : List ℕ) (f : File) (s : State) (a : Accepted)
       → BENCH ≤ length bench → STATE ≤ length state → ROW ≤ length row
-      → bench-of bench ≡ some f → state-of (print-of bench) f state ≡ some s → line f s names values ≡ accepted a
-      → state-of (print-of bench) f (line-call bench state names values row .state) ≡ some (follow f s a)
+      → bench-of bench ≡ some f → state-of (fingerprint-of bench) f state ≡ some s → line f s names values ≡ accepted a
+      → state-of (fingerprint-of bench) f (line-call bench state names values row .state) ≡ some (follow f s a)
 
 pub image-round-trip : Image-round-trip
 image-round-trip = record {
@@ -44,6 +44,6 @@ image-round-trip = record {
   line = λ bench state names values row f s k b l r is e a.
       let t = bench-accepted bench is in
       let w = within-counts f (accepted-verdict (t .text) (t .is-accepted)) in
-      let so = state-decoded-sound f w (print-of bench) state s e in
+      let so = state-decoded-sound f w (fingerprint-of bench) state s e in
       line-leaves bench state f b l is w names values row s k r e a (accepted-sound (t .text) f (t .is-accepted) s so names values k a .1);
 }

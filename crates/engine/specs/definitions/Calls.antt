@@ -35,9 +35,9 @@ abbrev pub row-answer : List ℕ → ℕ
 row-answer r = 256 * length r
 
 -- the fingerprint of the text that a bench's memory holds: a state belongs to its bench's text
-unfoldable pub print-of : List ℕ → ℕ
+unfoldable pub fingerprint-of : List ℕ → ℕ
 unfolding fingerprint text-in
-print-of bench = fingerprint (text-in bench)
+fingerprint-of bench = fingerprint (text-in bench)
 
 -- check: the text lent, and memory for a bench
 pub record After-check : Type 0 where
@@ -67,10 +67,10 @@ freshened print none state = record { answer = 32; state = state }
 freshened print (some f) state = record { answer = 0; state = with-state print f (fresh f) state }
 
 unfoldable pub fresh-call : List ℕ → List ℕ → After-fresh
-unfolding freshened print-of bench-of
+unfolding freshened fingerprint-of bench-of
 fresh-call bench state = elim (ltb (length bench) BENCH || ltb (length state) STATE) [
   | true ↦ record { answer = 31; state = state }
-  | false ↦ freshened (print-of bench) (bench-of bench) state
+  | false ↦ freshened (fingerprint-of bench) (bench-of bench) state
 ]
 
 -- line: a bench, a state, a header, a record, and memory for a row
@@ -114,10 +114,10 @@ line-on-bench print none state names values r = line-refused 32 state r
 line-on-bench print (some f) state names values r = line-in-state print f (state-of print f state) state names values r
 
 unfoldable pub line-call : List ℕ → List ℕ → List ℕ → List ℕ → List ℕ → After-line
-unfolding line-refused line-on-bench print-of bench-of
+unfolding line-refused line-on-bench fingerprint-of bench-of
 line-call bench state names values r = elim (ltb (length bench) BENCH || ltb (length state) STATE || ltb (length r) ROW) [
   | true ↦ line-refused 31 state r
-  | false ↦ line-on-bench (print-of bench) (bench-of bench) state names values r
+  | false ↦ line-on-bench (fingerprint-of bench) (bench-of bench) state names values r
 ]
 
 -- header and row: a bench, for a row a state and a sender too, and memory for a row
@@ -158,10 +158,10 @@ row-on-bench print none state sender r = record { answer = 32; row = r }
 row-on-bench print (some f) state sender r = row-in-state f (state-of print f state) sender r
 
 unfoldable pub row-call : List ℕ → List ℕ → List ℕ → List ℕ → After-row
-unfolding row-on-bench print-of bench-of
+unfolding row-on-bench fingerprint-of bench-of
 row-call bench state sender r = elim (ltb (length bench) BENCH || ltb (length state) STATE || ltb (length r) ROW) [
   | true ↦ record { answer = 31; row = r }
-  | false ↦ row-on-bench (print-of bench) (bench-of bench) state sender r
+  | false ↦ row-on-bench (fingerprint-of bench) (bench-of bench) state sender r
 ]
 
 -- sheet: a bench, a state, a text of readings, the chosen cells, and memory for a sheet
@@ -187,10 +187,10 @@ sheet-on-bench print none state readings cells m = record { answer = 32; sheet =
 sheet-on-bench print (some f) state readings cells m = sheet-answered (sheet-if-state f (state-of print f state) readings cells) m
 
 unfoldable pub sheet-call : List ℕ → List ℕ → List ℕ → List ℕ → List ℕ → After-sheet
-unfolding sheet-on-bench print-of bench-of sheet-size
+unfolding sheet-on-bench fingerprint-of bench-of sheet-size
 sheet-call bench state readings cells m = elim (ltb (length bench) BENCH || ltb (length state) STATE || ltb (length m) (sheet-size readings)) [
   | true ↦ record { answer = 31; sheet = m }
-  | false ↦ sheet-on-bench (print-of bench) (bench-of bench) state readings cells m
+  | false ↦ sheet-on-bench (fingerprint-of bench) (bench-of bench) state readings cells m
 ]
 
 -- ---- the contracts: what a call answers, and the memory that it leaves, on all input

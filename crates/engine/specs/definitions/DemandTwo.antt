@@ -1,11 +1,12 @@
 -- Demand 2: what accepted calls leave and give, what a line sent again gives, and how a row reads back.
-use Prim.Native.Nat.{ℕ, suc}
+use Prim.Native.Nat.{ℕ, suc, _≤_}
 use mathlib.Core.Path.{_≡_}
-use mathlib.Core.List.{List, [], _∷_, map, List·Memᴰ}
-use mathlib.Core.Bool.{true}
-use mathlib.Core.Option.{some}
+use mathlib.Core.List.{List, [], _∷_, _++_, map, List·Memᴰ}
+use mathlib.Core.Bool.{true, cond}
+use mathlib.Core.Option.{Option, none, some}
 use lib.ListN.{length, getElem?}
 use Rattle.values.specs.declared.Number.the-variants.{Is}
+use Rattle.values.specs.definitions.Bytes.{same-bytes}
 use Rattle.values.specs.definitions.Forms.{magnitude, event-field, read-back}
 use Rattle.text.specs.definitions.Syntax.{File}
 use Rattle.checking.specs.definitions.Verdict.{Verdict, verdict}
@@ -18,7 +19,7 @@ use Rattle.cycles.specs.definitions.Row.{action-cells, row-header}
 use Rattle.cycles.specs.definitions.ClosedSet.{Among}
 use Rattle.senders.specs.definitions.Sender.{Sender, State, is-sender}
 use Rattle.senders.specs.definitions.Answer.{accepted}
-use Rattle.senders.specs.definitions.Line.{Accepted, its-line, is-resent, line}
+use Rattle.senders.specs.definitions.Line.{Reading, reading, line-of, same-inputs, Accepted, its-line, is-resent, line}
 use Rattle.senders.specs.definitions.Follow.{fresh, ref-follow}
 use Rattle.senders.specs.definitions.Row.{sender-row}
 use Rattle.senders.specs.definitions.Turns.{Turn}
@@ -29,8 +30,9 @@ use Rattle.days.specs.definitions.Chosen.{chosen, is-real-spot}
 use Rattle.days.specs.definitions.DaySheet.{printed-lines, day-sheet}
 use Rattle.days.specs.definitions.ReferenceDay.{ref-turns}
 use Rattle.engine.specs.definitions.BenchImage.{bench-of}
-use Rattle.engine.specs.definitions.Calls.{with-row, print-of, length-answer, After-line}
-use Rattle.engine.specs.definitions.Runs.{given, given-by, Taken}
+use Rattle.engine.specs.definitions.Calls.{ROW, with-row, fingerprint-of, length-answer, After-line}
+use Rattle.engine.specs.definitions.Runs.{Request, given, given-by, Taken, taken-by}
+use Rattle.engine.specs.definitions.DemandOne.{number-of}
 
 -- ---- what is lent
 
@@ -44,7 +46,7 @@ pub record State-lent (bench state : List ℕ) : Type 0 where
   pub file : File
   pub before : State
   pub is-bench : bench-of bench ≡ some file
-  pub is-state : state-of (print-of bench) file state ≡ some before
+  pub is-state : state-of (fingerprint-of bench) file state ≡ some before
 
 -- and the sender is well formed
 pub record Row-lent (bench state sender : List ℕ) : Type 0 where
@@ -57,7 +59,7 @@ pub record Line-lent (bench state names values : List ℕ) : Type 0 where
   pub before : State
   pub taken : Accepted
   pub is-bench : bench-of bench ≡ some file
-  pub is-state : state-of (print-of bench) file state ≡ some before
+  pub is-state : state-of (fingerprint-of bench) file state ≡ some before
   pub is-taken : line file before names values ≡ accepted taken
 
 -- the memory stands for a bench file and a state of it, the chosen cells are cells of the file, and the readings' first line is a header of it
@@ -67,7 +69,7 @@ pub record Sheet-lent (bench state readings cells : List ℕ) : Type 0 where
   pub spots : List Spot
   pub columns : List Column
   pub is-bench : bench-of bench ≡ some file
-  pub is-state : state-of (print-of bench) file state ≡ some before
+  pub is-state : state-of (fingerprint-of bench) file state ≡ some before
   pub is-chosen : chosen file cells ≡ some spots
   pub is-header : header file (header-line (lines readings)) ≡ some columns
 
@@ -83,7 +85,7 @@ pub record Checks (text new-bench : List ℕ) : Type 0 where
 pub record Freshens (bench new-state : List ℕ) : Type 0 where
   pub file : File
   pub is-bench : bench-of bench ≡ some file
-  pub leaves : state-of (print-of bench) file new-state ≡ some (fresh file)
+  pub leaves : state-of (fingerprint-of bench) file new-state ≡ some (fresh file)
 
 -- "each accepted line leaves the state and fires the actions that they define": the machine takes the line in the state lent and goes on, the
 -- memory left stands for its state, and the call gave the row of the line's sender in it
@@ -93,10 +95,10 @@ pub record Follows (bench state names values : List ℕ) (r : After-line) : Type
   pub taken : Accepted
   pub after : State
   pub is-bench : bench-of bench ≡ some file
-  pub is-state : state-of (print-of bench) file state ≡ some before
+  pub is-state : state-of (fingerprint-of bench) file state ≡ some before
   pub is-taken : line file before names values ≡ accepted taken
   pub runs : ref-follow file before taken ≡ running after
-  pub leaves : state-of (print-of bench) file (r .state) ≡ some after
+  pub leaves : state-of (fingerprint-of bench) file (r .state) ≡ some after
   pub fires : given-by r ≡ sender-row file after (its-line taken .sender)
 
 -- the call gave the row of names
@@ -110,7 +112,7 @@ pub record Shows (bench state sender : List ℕ) (answer : ℕ) (new-row : List 
   pub file : File
   pub shown : State
   pub is-bench : bench-of bench ≡ some file
-  pub is-state : state-of (print-of bench) file state ≡ some shown
+  pub is-state : state-of (fingerprint-of bench) file state ≡ some shown
   pub gives : given answer new-row ≡ sender-row file shown sender
 
 -- the machine takes the records one after another from the state lent and is never stuck; the call wrote the sheet of these turns, rows of
@@ -121,7 +123,7 @@ pub record Sheets (bench state readings cells sheet : List ℕ) (answer : ℕ) (
   pub spots : List Spot
   pub turns : List Turn
   pub is-bench : bench-of bench ≡ some file
-  pub is-state : state-of (print-of bench) file state ≡ some before
+  pub is-state : state-of (fingerprint-of bench) file state ≡ some before
   pub is-chosen : chosen file cells ≡ some spots
   pub runs : ref-turns file (header-line (lines readings)) before (record-lines (lines readings)) ≡ running turns
   pub rows : (r : List ℕ) → List·Memᴰ r (sheet-rows (map is-real-spot spots) (printed-lines spots turns)) → length r ≡ SHEET-COLUMNS
@@ -154,6 +156,29 @@ All-sent-before print f earlier [] = Unit {0}
 All-sent-before print f earlier (y ∷ ys) =
     ((s : State) → state-of print f (y .before) ≡ some s → is-resent f s (y .line) ≡ true → Sent-before earlier y)
     × All-sent-before print f (y ∷ earlier) ys
+
+-- among the accepted lines so far, the latest first, that of this sender
+unfoldable pub latest-of : List ℕ → List Taken → Option Taken
+unfolding same-bytes
+latest-of n [] = none
+latest-of n (x ∷ xs) = cond (same-bytes n (x .line .sender)) (some x) (latest-of n xs)
+
+-- a call that says what its sender's latest line said, with room for a row
+pub record Says-again (f : File) (earlier : List Taken) (q : Request) : Type 0 where
+  pub says : Reading
+  pub latest : Taken
+  pub is-read : reading f (q .names) (q .values) ≡ accepted says
+  pub is-latest : latest-of (says .sender) earlier ≡ some latest
+  pub number : says .number ≡ latest .line .number
+  pub readings : same-inputs f (latest .line .inputs) (line-of says .inputs) ≡ true
+  pub room : ROW ≤ length (q .row)
+
+-- each such call of a run is accepted, whatever lines of others and refused ones came between
+abbrev pub All-sent-again : File → List Taken → List ℕ → List Request → List After-line → Type 0
+All-sent-again f earlier state [] rs = Unit {0}
+All-sent-again f earlier state (q ∷ qs) [] = Unit {0}
+All-sent-again f earlier state (q ∷ qs) (r ∷ rs) =
+    (Says-again f earlier q → number-of (r .answer) ≡ 0) × All-sent-again f (taken-by f state q r ++ earlier) (r .state) qs rs
 
 -- "every printed value reads back as itself": a row has a field for the sender, one for the number and one for each action cell, and reading them
 -- as fields of a record gives the sender, its number and the values kept for it, and no reading where nothing was fired

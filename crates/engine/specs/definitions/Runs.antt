@@ -112,10 +112,14 @@ unfoldable pub taken-if : Bool → Line → List ℕ → After-line → List Tak
 taken-if false l before r = []
 taken-if true l before r = record { line = l; before = before; reply = r } ∷ []
 
--- the accepted lines of a run from this memory of the state: those whose answer has the number 0
-unfoldable pub taken-lines : File → List ℕ → List Request → List After-line → List Taken
+-- the line of a call, with this memory of the state before it, if its answer has the number 0
+unfoldable pub taken-by : File → List ℕ → Request → After-line → List Taken
 unfolding taken-if said-line reading
+taken-by f state q r = taken-if (eqb (r .answer % 256) 0) (said-line (reading f (q .names) (q .values))) state r
+
+-- the accepted lines of a run from this memory of the state
+unfoldable pub taken-lines : File → List ℕ → List Request → List After-line → List Taken
+unfolding taken-by
 taken-lines f state [] rs = []
 taken-lines f state (q ∷ qs) [] = []
-taken-lines f state (q ∷ qs) (r ∷ rs) =
-    taken-if (eqb (r .answer % 256) 0) (said-line (reading f (q .names) (q .values))) state r ++ taken-lines f (r .state) qs rs
+taken-lines f state (q ∷ qs) (r ∷ rs) = taken-by f state q r ++ taken-lines f (r .state) qs rs

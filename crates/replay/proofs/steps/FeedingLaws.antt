@@ -1,12 +1,11 @@
 -- The lines of a chunk are taken one after another, and a last one at the text's end.
-use Prim.Native.Nat.{ℕ, suc, zero, _+_, _-_, _≤_, _<_}
+use Prim.Native.Nat.{ℕ, suc, _+_, _-_, _≤_, _<_}
 use native.Mathlib.Numerals.{add-one}
 use native.Mathlib.Omega.{arith}
 use mathlib.Core.Path.{_≡_, refl, sym, ap, _∙_, subst}
 use mathlib.Core.List.{List, [], _∷_, _++_, append-assoc, append-nil}
-use mathlib.Core.Bool.{Bool, true, false}
+use mathlib.Core.Bool.{true, false}
 use mathlib.Core.Option.{Option, none, some}
-use lib.Dec.{eqb}
 use lib.ListN.{length, getD, take, drop}
 use lib.Seq.{length-take-le, drop-cons}
 use borrow.Author.Tests.{eqb-true, eqb-false}
@@ -23,10 +22,9 @@ use Rattle.replay.specs.contracts.Awaiting.{
   left-after,
   Bench-memory,
   Stands,
-  Stood,
 }
 use Rattle.replay.specs.contracts.Awaiting.Awaits.{names, values, nothing}
-use Rattle.replay.specs.contracts.Feeding.{LONGEST, ROOM, Gathering, Takes, Line-put, Lent, Goes, Feeding, Finished, is-over}
+use Rattle.replay.specs.contracts.Feeding.{LONGEST, Gathering, Line-put, Lent, Feeding, Finished, is-over}
 use Rattle.replay.specs.declared.Stage.{Stage}
 use Rattle.replay.specs.declared.Stage.the-variants.{Names, Values, Closed}
 use Rattle.replay.specs.declared.rows.Step.{Step}

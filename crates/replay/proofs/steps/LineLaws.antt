@@ -41,7 +41,6 @@ use Rattle.replay.specs.contracts.Awaiting.{
   Resolved,
   file-in,
   Stands-for,
-  At-names,
   At-values,
   Stands,
   Stood,

@@ -1,14 +1,14 @@
 -- Whatever chunks a text of readings comes in: a run writes what `replay` says.
-use Prim.Native.Nat.{ℕ, _+_, _≤_}
+use Prim.Native.Nat.{ℕ, _+_}
 use native.Mathlib.Omega.{arith}
 use mathlib.Core.Bool.{true}
-use mathlib.Core.Path.{_≡_, refl, sym, ap, _∙_}
-use mathlib.Core.List.{List, [], _∷_, _++_, append-assoc, append-nil}
-use lib.ListN.{length, take, drop, drop-of-length-le}
+use mathlib.Core.Path.{_≡_, sym, ap, _∙_}
+use mathlib.Core.List.{List, [], _++_, append-nil}
+use lib.ListN.{take, drop, drop-of-length-le}
 use Rattle.checking.specs.definitions.Verdict.{verdict, MOST-BYTES}
 use Rattle.cycles.specs.definitions.Readings.{lines}
 use Rattle.replay.specs.definitions.Replay.{replay-by, replay}
-use Rattle.replay.specs.contracts.Awaiting.{Awaits, to-print, opening, awaited-first, Bench-memory, Stands}
+use Rattle.replay.specs.contracts.Awaiting.{Awaits, to-print, awaited-first, Bench-memory, Stands}
 use Rattle.replay.specs.contracts.Awaiting.Awaits.{nothing}
 use Rattle.replay.specs.contracts.Feeding.{is-closed}
 use Rattle.replay.specs.definitions.InChunks.{joined, Writes, Replays}

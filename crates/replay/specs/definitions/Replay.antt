@@ -42,7 +42,7 @@ unfoldable pub rows : File → List Turn → List ℕ
 unfolding flatMap row-for
 rows f ts = flatMap (λ t. row-for f (t .answer) (t .after) ++ 10 ∷ []) ts
 
--- "It prints `by n` and every action cell ..; a refused line of names `refused 22`; then nothing"; from a fresh state
+-- "It prints [`by`] `n` and every action cell ..; a refused line of names `refused 22`; then nothing"; from a fresh state
 unfoldable pub rows-under : File → List ℕ → Option (List Column) → List (List ℕ) → List ℕ
 unfolding refusal row-header rows turns fresh
 rows-under f names none values = refusal 22 ++ 10 ∷ []

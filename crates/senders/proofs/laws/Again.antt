@@ -5,17 +5,18 @@ use mathlib.Core.Path.{_≡_, refl, sym, ap, _∙_, subst}
 use mathlib.Core.Bool.{Bool, true, false, false≢true}
 use mathlib.Core.List.{List, [], _∷_}
 use mathlib.Core.Logic.{_⊎_, inl, inr}
+use Rattle.values.proofs.laws.ByteLaws.{same-bytes-equal}
 use Rattle.values.specs.definitions.Bytes.{same-bytes}
 use Rattle.text.specs.definitions.Syntax.{File}
 use Rattle.cycles.specs.definitions.ClosedSet.{Among, here, there}
 use Rattle.cycles.specs.contracts.TotalMachine.{cycle}
-use Rattle.senders.specs.definitions.Sender.{Sender, State, sender-named, is-known, kept, with-sender}
+use Rattle.senders.specs.definitions.Sender.{Sender, State, sender-named, is-known-sender, kept, with-sender}
 use Rattle.senders.specs.definitions.Line.{Accepted, new, resent, its-line}
 use Rattle.senders.specs.definitions.Follow.{entry, next-state, fresh}
 use Rattle.senders.specs.definitions.Row.{row, sender-row}
 use Rattle.senders.specs.contracts.TotalFollow.{follow}
 use Rattle.senders.proofs.laws.AnswerLaws.{last-of, In-turn}
-use Rattle.senders.proofs.laws.WithSender.{same-bytes-is, known-other, kept-self, kept-other, kept-cases}
+use Rattle.senders.proofs.laws.SenderLaws.{known-other, kept-self, kept-other, kept-cases}
 
 -- ---- one line
 
@@ -45,7 +46,7 @@ module _ (f : File) (n : List ℕ) (x : Sender) where
   unfolding follow next-state entry
   held-on s (resent l) t h = h
   held-on s (new l) t h =
-      kept-cases (λ (y : Sender). (y ≡ x) ⊎ (x .last < y .last)) n (entry f l (cycle f (s .stores) (l .inputs) .now)) (s .senders)
+      kept-cases n (entry f l (cycle f (s .stores) (l .inputs) .now)) (λ (y : Sender). (y ≡ x) ⊎ (x .last < y .last)) (s .senders)
       (λ e.
       let i : last-of s (l .sender) ≡ last-of s n = ap (last-of s) (sym e) in
       let b = at-least s h in
@@ -126,7 +127,7 @@ module _ {X : Type 0} (f : File) (Step : State → Accepted → X → Type 0) (t
 
   -- of each known sender its last line is among them
   abbrev Had : List X → State → Type 0
-  Had ps s = (n : List ℕ) → is-known n (s .senders) ≡ true → Earlier ps n (last-of s n)
+  Had ps s = (n : List ℕ) → is-known-sender n (s .senders) ≡ true → Earlier ps n (last-of s n)
 
   one-more : (x : X) (ps : List X) (n : List ℕ) (k : ℕ) → Earlier ps n k → Earlier (x ∷ ps) n k
   one-more x ps n k e = record {
@@ -149,7 +150,7 @@ module _ {X : Type 0} (f : File) (Step : State → Accepted → X → Type 0) (t
 
       go : (b : Bool) → same-bytes n (l .sender) ≡ b → Earlier (x ∷ ps) n (kept n (with-sender y (s .senders)) .last)
       go true e =
-          let p : l .sender ≡ n = sym (same-bytes-is n (l .sender) e) in
+          let p : l .sender ≡ n = sym (same-bytes-equal n (l .sender) e) in
           record {
             one = x;
             inside = here;
@@ -176,5 +177,5 @@ module _ {X : Type 0} (f : File) (Step : State → Accepted → X → Type 0) (t
           subst (λ (k : ℕ). Earlier ps (l .sender) k) (sym (t .last)) (h (l .sender) (t .known))
 
   pub all-told-fresh : (xs : List X) (c : Chain (fresh f) xs) → All-told [] (fresh f) xs c
-  unfolding fresh is-known sender-named
+  unfolding fresh is-known-sender sender-named
   all-told-fresh xs c = all-told [] (fresh f) xs c (λ n k. absurd (false≢true k))

@@ -12,7 +12,7 @@ use Rattle.text.specs.definitions.Syntax.{File}
 use Rattle.cycles.specs.definitions.Spots.{every}
 use Rattle.cycles.specs.definitions.Header.{header}
 use Rattle.cycles.specs.definitions.Record.{record-of, inputs-in, takes-input}
-use Rattle.senders.specs.definitions.Sender.{State, Line, is-sender, is-known, kept, has-room}
+use Rattle.senders.specs.definitions.Sender.{State, Line, is-sender, is-known-sender, kept, has-place}
 use Rattle.senders.specs.definitions.Answer.{Answer, refused, accepted, or-refused, if-accepted, if-passed}
 use Rattle.senders.specs.definitions.Line.{
   Addressed,
@@ -23,7 +23,7 @@ use Rattle.senders.specs.definitions.Line.{
   line-of,
   same-inputs,
   is-resent,
-  MOST-LINES,
+  GREATEST-NUMBER,
   in-turn,
   Accepted,
   new,
@@ -90,7 +90,7 @@ module _ (P : ℕ → Type 0) where
     unfolding line line-addressed
     line-refused-by f s names values =
         if-accepted-number (addressed f names values) (line-addressed f s) (addressed-number f names values) λ a.
-        if-passed-number 42 (has-room (a .sent .sender) (s .senders)) _ p42
+        if-passed-number 42 (has-place (a .sent .sender) (s .senders)) _ p42
         (if-accepted-number (reading-of a) (line-in f s) (reading-number a) (line-in-number f s))
 
 -- a refusal's number has a low byte that is not 0
@@ -140,34 +140,35 @@ last-of s n = kept n (s .senders) .last
 -- by the state before it
 pub record New-turn (s : State) (l : Line) : Type 0 where
   pub next : l .number ≡ last-of s (l .sender) + 1
-  pub most : l .number ≤ MOST-LINES
+  pub most : l .number ≤ GREATEST-NUMBER
 
 pub record Resent-turn (f : File) (s : State) (l : Line) : Type 0 where
   pub is : is-resent f s l ≡ true
-  pub known : is-known (l .sender) (s .senders) ≡ true
+  pub known : is-known-sender (l .sender) (s .senders) ≡ true
   pub last : l .number ≡ last-of s (l .sender)
+  pub same : same-inputs f (kept (l .sender) (s .senders) .inputs) (l .inputs) ≡ true
 
 abbrev pub In-turn : File → State → Accepted → Type 0
 In-turn f s (new l) = New-turn s l
 In-turn f s (resent l) = Resent-turn f s l
 
-new-turn : (last n : ℕ) → in-turn last n ≡ true → eqb n last ≡ false → (n ≡ last + 1) × (n ≤ MOST-LINES)
+new-turn : (last n : ℕ) → in-turn last n ≡ true → eqb n last ≡ false → (n ≡ last + 1) × (n ≤ GREATEST-NUMBER)
 unfolding in-turn
-new-turn last n h g = go (eqb n 0) (leb n MOST-LINES) refl (eqb n (last + 1)) refl (rw g at h)
+new-turn last n h g = go (eqb n 0) (leb n GREATEST-NUMBER) refl (eqb n (last + 1)) refl (rw g at h)
   where
-    go : (z m : Bool) → leb n MOST-LINES ≡ m → (t : Bool) → eqb n (last + 1) ≡ t → (not z && (m && (false || t))) ≡ true → (n ≡ last + 1) × (n ≤ MOST-LINES)
-    go false true p true q k = (eqb-true n (last + 1) q, leb→le n MOST-LINES (rw p tt))
+    go : (z m : Bool) → leb n GREATEST-NUMBER ≡ m → (t : Bool) → eqb n (last + 1) ≡ t → (not z && (m && (false || t))) ≡ true → (n ≡ last + 1) × (n ≤ GREATEST-NUMBER)
+    go false true p true q k = (eqb-true n (last + 1) q, leb→le n GREATEST-NUMBER (rw p tt))
     go false true p false q k = let w : _≡_ {A = ℕ} 0 1 = cc in absurd (omega arith)
     go false false p t q k = let w : _≡_ {A = ℕ} 0 1 = cc in absurd (omega arith)
     go true m p t q k = let w : _≡_ {A = ℕ} 0 1 = cc in absurd (omega arith)
 
 pub resent-turn : (f : File) (s : State) (l : Line) → is-resent f s l ≡ true → Resent-turn f s l
 unfolding is-resent
-resent-turn f s l h = go (is-known (l .sender) (s .senders)) refl (eqb (l .number) (last-of s (l .sender))) refl h
+resent-turn f s l h = go (is-known-sender (l .sender) (s .senders)) refl (eqb (l .number) (last-of s (l .sender))) refl h
   where
-    go : (k : Bool) → is-known (l .sender) (s .senders) ≡ k → (n : Bool) → eqb (l .number) (last-of s (l .sender)) ≡ n
+    go : (k : Bool) → is-known-sender (l .sender) (s .senders) ≡ k → (n : Bool) → eqb (l .number) (last-of s (l .sender)) ≡ n
         → (k && (n && same-inputs f (kept (l .sender) (s .senders) .inputs) (l .inputs))) ≡ true → Resent-turn f s l
-    go true d true e g = record { is = h; known = d; last = eqb-true (l .number) (last-of s (l .sender)) e }
+    go true d true e g = record { is = h; known = d; last = eqb-true (l .number) (last-of s (l .sender)) e; same = g }
     go true d false e g = let w : _≡_ {A = ℕ} 0 1 = cc in absurd (omega arith)
     go false d n e g = let w : _≡_ {A = ℕ} 0 1 = cc in absurd (omega arith)
 
@@ -192,7 +193,7 @@ pub record Read-as (f : File) (s : State) (names values : List ℕ) (a : Accepte
   pub is-line : line-of says ≡ its-line a
   pub turn : In-turn f s a
   pub named : is-sender (its-line a .sender) ≡ true
-  pub room : has-room (its-line a .sender) (s .senders) ≡ true
+  pub room : has-place (its-line a .sender) (s .senders) ≡ true
 
 -- a header, a record and a sender of the right form
 abbrev pub Well-addressed : File → List ℕ → List ℕ → Addressed → Type 0
@@ -216,7 +217,7 @@ pub line-read : (f : File) (s : State) (names values : List ℕ) {a : Accepted} 
 unfolding line line-addressed line-in reading line-of
 line-read f s names values {a} h =
     let (x, e, i) = if-accepted-of (addressed f names values) (line-addressed f s) h in
-    let (room, j) = if-passed-of 42 (has-room (x .sent .sender) (s .senders)) _ i in
+    let (room, j) = if-passed-of 42 (has-place (x .sent .sender) (s .senders)) _ i in
     let (r, q, k) = if-accepted-of (reading-of x) (line-in f s) j in
     let (is, t) =
     judged-line f s (line-of r) (is-resent f s (line-of r)) (every (takes-input (s .stores .now) (line-of r .inputs)) (r .inputs))
@@ -228,5 +229,14 @@ line-read f s names values {a} h =
       is-line = is;
       turn = t;
       named = ap is-sender (sym n) ∙ addressed-of f names values e .2;
-      room = ap (λ (n : List ℕ). has-room n (s .senders)) (sym n) ∙ room;
+      room = ap (λ (n : List ℕ). has-place n (s .senders)) (sym n) ∙ room;
     }
+
+-- and the other way for a line that the state holds for resent: a sender that is known has room
+pub line-resent : (f : File) (s : State) (names values : List ℕ) {r : Reading} → reading f names values ≡ accepted r → is-resent f s (line-of r) ≡ true
+    → line f s names values ≡ accepted (resent (line-of r))
+unfolding line line-addressed line-in reading line-of judged has-place
+line-resent f s names values {r} h again =
+    let (x, e, q) = if-accepted-of (addressed f names values) reading-of h in
+    let room : has-place (x .sent .sender) (s .senders) ≡ true = rw (reading-sender x q, resent-turn f s (line-of r) again .known) in
+    rw (e, room, q, again)

@@ -5,6 +5,7 @@ use native.Mathlib.Omega.{arith}
 use mathlib.Core.Path.{_≡_, refl, sym, ap, _∙_, subst}
 use mathlib.Core.Bool.{Bool, true, false}
 use mathlib.Core.List.{List}
+use Rattle.values.proofs.laws.ByteLaws.{same-bytes-equal}
 use Rattle.values.specs.definitions.Bytes.{same-bytes}
 use Rattle.text.specs.definitions.Syntax.{File}
 use Rattle.cycles.specs.definitions.Store.{Stores}
@@ -17,7 +18,7 @@ use Rattle.senders.specs.definitions.Line.{Accepted, new, resent, its-li
 use Rattle.senders.specs.definitions.Follow.{fired-in, entry, next-state}
 use Rattle.senders.specs.contracts.TotalFollow.{follow}
 use Rattle.senders.proofs.laws.AnswerLaws.{last-of, In-turn}
-use Rattle.senders.proofs.laws.WithSender.{same-bytes-is, kept-self, kept-other}
+use Rattle.senders.proofs.laws.SenderLaws.{kept-self, kept-other}
 
 -- the same sender and number, and on the set the same readings
 pub record Lines-agree (S : ℕ → Type 0) (k l : Line) : Type 0 where
@@ -61,7 +62,7 @@ with-agree S x y xs ys g h n = go (same-bytes n (x .name)) refl
   where
     go : (b : Bool) → same-bytes n (x .name) ≡ b → Kept-agree S (kept n (with-sender x xs)) (kept n (with-sender y ys))
     go true e =
-        let p : n ≡ x .name = same-bytes-is n (x .name) e in
+        let p : n ≡ x .name = same-bytes-equal n (x .name) e in
         let q : n ≡ y .name = p ∙ g .name in
         let i : kept n (with-sender x xs) ≡ x = subst (λ (m : List ℕ). kept m (with-sender x xs) ≡ x) (sym p) (kept-self x xs) in
         let j : kept n (with-sender y ys) ≡ y = subst (λ (m : List ℕ). kept m (with-sender y ys) ≡ y) (sym q) (kept-self y ys) in

@@ -27,7 +27,7 @@ use Rattle.senders.specs.definitions.StateImage.{
   stores-part,
   senders-part,
   known-count,
-  name-in,
+  part-name,
   next-sender,
   decode-sender,
   decode-senders,
@@ -129,14 +129,6 @@ abbrev pub put-sender : File → ℕ → Sender → List ℕ → List ℕ
 put-sender f j x m =
     take (image-size (entity-count f) j) m ++ (encode-sender f x ++ next-sender (entity-count f) (drop (image-size (entity-count f) j) m))
 
--- the same with one offset
-pub sender-put-flat : (f : File) (j : ℕ) (x : Sender) (m : List ℕ)
-    → take (image-size (entity-count f) j) m ++ encode-sender f x ++ drop (image-size (entity-count f) j + sender-size (entity-count f)) m ≡ put-sender f j x m
-sender-put-flat f j x m =
-    let at = image-size (entity-count f) j in
-    let size = sender-size (entity-count f) in
-    append-assoc (take at m) (encode-sender f x) (drop (at + size) m) ∙ ap (λ (l : List ℕ). take at m ++ (encode-sender f x ++ l)) (sym (drop-drop size at m))
-
 module _ (print : ℕ) (f : File) (s : State) (h : Short-names (s .senders)) (x : Sender) where
   abbrev at : ℕ
   at = place (x .name) (s .senders)
@@ -221,7 +213,7 @@ unfolding decode-senders decode-sender
 tested-short f zero m h = tt
 tested-short f (suc k) m h =
     let p = senders-first f k m h in
-    (name-short (name-in m) (part-passes f m (p .part) .name), tested-short f k (next-sender (entity-count f) m) (p .later))
+    (name-short (part-name m) (part-passes f m (p .part) .name), tested-short f k (next-sender (entity-count f) m) (p .later))
 
 -- memory of bytes that stands for a state
 module _ (print : ℕ) (f : File) (m : List ℕ) {s : State} (h : state-of print f m ≡ some s) (few : entity-count f ≤ 32) (l : STATE ≤ length m)

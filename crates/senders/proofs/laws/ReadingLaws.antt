@@ -1,17 +1,17 @@
 -- What a header and a record say, part by part: which refusal, or what is read.
 use Prim.Native.Nat.{ℕ}
-use mathlib.Core.Path.{_≡_, refl, sym, ap, _∙_}
-use mathlib.Core.Bool.{Bool, true, false}
+use mathlib.Core.Path.{_≡_}
+use mathlib.Core.Bool.{true, false}
 use mathlib.Core.List.{List}
-use mathlib.Core.Option.{Option, none, some}
+use mathlib.Core.Option.{none, some}
 use lib.ListN.{length}
 use Rattle.text.specs.definitions.Syntax.{File}
 use Rattle.cycles.specs.definitions.Header.{Column, header}
 use Rattle.cycles.specs.definitions.Record.{Sent, record-of, Input, inputs-in}
-use Rattle.senders.specs.definitions.Sender.{State, is-sender, has-room}
-use Rattle.senders.specs.definitions.Answer.{Answer, refused, accepted, or-refused, if-accepted, if-passed}
-use Rattle.senders.specs.contracts.Advancing.{said}
-use Rattle.senders.specs.definitions.Line.{Addressed, addressed, Reading, reading-of, reading, line-addressed, line-in, line}
+use Rattle.senders.specs.definitions.Sender.{State, is-sender, has-place}
+use Rattle.senders.specs.definitions.Answer.{refused}
+use Rattle.senders.specs.contracts.Advancing.{reading-with}
+use Rattle.senders.specs.definitions.Line.{addressed, reading-of, line-addressed, line-in, line}
 
 module _ (f : File) (names values : List ℕ) (cs : List Column) (h : header f names ≡ some cs) where
   pub line-no-record : (s : State) → record-of (length cs) values ≡ none → line f s names values ≡ refused 21
@@ -24,19 +24,15 @@ module _ (f : File) (names values : List ℕ) (cs : List Column) (h : header f n
     line-ill-formed s w = rw (h, r, w)
 
     module _ (w : is-sender (x .sender) ≡ true) where
-      pub line-no-room : (s : State) → has-room (x .sender) (s .senders) ≡ false → line f s names values ≡ refused 42
+      pub line-no-room : (s : State) → has-place (x .sender) (s .senders) ≡ false → line f s names values ≡ refused 42
       unfolding line addressed line-addressed
       line-no-room s v = rw (h, r, w, v)
 
-      pub line-bad-value : (s : State) → has-room (x .sender) (s .senders) ≡ true → inputs-in cs (x .texts) ≡ none → line f s names values ≡ refused 23
+      pub line-bad-value : (s : State) → has-place (x .sender) (s .senders) ≡ true → inputs-in cs (x .texts) ≡ none → line f s names values ≡ refused 23
       unfolding line addressed line-addressed reading-of
       line-bad-value s v i = rw (h, r, w, v, i)
 
-      pub line-said : (s : State) {is : List Input} → has-room (x .sender) (s .senders) ≡ true → inputs-in cs (x .texts) ≡ some is
-          → line f s names values ≡ line-in f s (said x is)
+      pub line-said : (s : State) {is : List Input} → has-place (x .sender) (s .senders) ≡ true → inputs-in cs (x .texts) ≡ some is
+          → line f s names values ≡ line-in f s (reading-with x is)
       unfolding line addressed line-addressed reading-of
       line-said s v i = rw (h, r, w, v, i)
-
-      pub reading-said : {is : List Input} → inputs-in cs (x .texts) ≡ some is → reading f names values ≡ accepted (said x is)
-      unfolding reading addressed reading-of
-      reading-said i = rw (h, r, w, i)

@@ -1,34 +1,30 @@
 -- A record on a state in memory: what its parts say of it, and the memory that it leaves.
-use Prim.Native.Nat.{ℕ, _+_, _*_, _%_, _≤_, _<_}
-use native.Mathlib.Omega.{arith}
-use mathlib.Core.Path.{_≡_, refl, sym, ap, ap₂, _∙_, subst}
-use mathlib.Core.Bool.{Bool, true, false, not}
-use mathlib.Core.List.{List, [], _∷_, _++_, map}
-use mathlib.Core.Option.{Option, none, some}
-use lib.Dec.{eqb, ltb}
-use lib.ListN.{length, getD, take, drop}
+use Prim.Native.Nat.{ℕ, _*_}
+use mathlib.Core.Path.{_≡_, refl, sym, ap, ap₂, _∙_}
+use mathlib.Core.Bool.{Bool, true, false}
+use mathlib.Core.List.{List}
+use mathlib.Core.Option.{some}
+use lib.Dec.{eqb}
+use lib.ListN.{length, getD, drop}
 use borrow.Author.Tests.{eq-eqb, ne-eqb}
 use Rattle.text.specs.definitions.Syntax.{File}
 use Rattle.checking.specs.contracts.DirectoryReads.{Few}
-use Rattle.checking.specs.contracts.Directory.{Bench}
-use Rattle.cycles.specs.definitions.Store.{Store, Inputs, Stores}
 use Rattle.cycles.specs.definitions.Spots.{every}
 use Rattle.cycles.specs.definitions.Header.{Column, header}
 use Rattle.cycles.specs.definitions.Record.{Sent, record-of, Input, inputs-in, inputs-of, takes-input}
 use Rattle.cycles.specs.definitions.Planes.{entity-count, decode-store, decode-stores, each}
 use Rattle.cycles.proofs.laws.PlaneTestLaws.{behind, behind-all}
-use Rattle.cycles.proofs.laws.SoundLine.{Sound-input, header-sound, inputs-sound, all-inputs-sound}
-use Rattle.senders.specs.declared.judge.Judgement.{Judgement}
+use Rattle.cycles.proofs.laws.SoundLine.{header-sound, inputs-sound}
 use Rattle.senders.specs.declared.judge.Judgement.the-variants.{Refused, New, Resent}
 use Rattle.senders.specs.definitions.Sender.{State, Line, kept}
 use Rattle.senders.specs.definitions.Answer.{Answer, refused, accepted}
-use Rattle.senders.specs.definitions.Line.{Accepted, new, resent, Reading, line-of, is-resent, in-turn, judged, line-in, line}
-use Rattle.senders.specs.definitions.StateImage.{STATE, state-of, with-state, decode}
+use Rattle.senders.specs.definitions.Line.{Accepted, new, resent, Reading, line-of, is-resent, in-turn, judged, line-in}
+use Rattle.senders.specs.definitions.StateImage.{state-of, with-state, decode}
 use Rattle.senders.specs.contracts.TotalFollow.{follow}
 use Rattle.senders.specs.contracts.SenderMemory.{place}
 use Rattle.senders.specs.contracts.Judging.{judgement, takes-cell, Inputs-stand}
-use Rattle.senders.specs.contracts.Advancing.{Resolved-bench, state-memory, Moves, Last-read, Resent-read, Followed, said, Settled}
-use Rattle.senders.proofs.laws.TakesLaws.{said-apart, takes-each, cell-takes, cells-tested}
+use Rattle.senders.specs.contracts.Advancing.{Resolved-bench, state-memory, Moves, Last-read, Resent-read, Followed, reading-with, Settled}
+use Rattle.senders.proofs.laws.TakesLaws.{said-apart, takes-each, cells-tested}
 use Rattle.senders.proofs.laws.StateLaws.{is-decoded}
 
 -- ---- what a judgement says, and the memory that is left
@@ -110,10 +106,10 @@ module _ {classes literals d refs scopes name : List ℕ} {at number : ℕ} {fla
   told-resent : {text offsets lengths : List ℕ} (b : Resolved-bench text classes offsets lengths literals d refs scopes)
       → (print : ℕ) (s : State) → state-of print (b .checked .bench .file) state ≡ some s
       → (x : Sent) (is : List Input) → x .sender ≡ name → x .number ≡ number → at ≡ place name (s .senders)
-      → Inputs-stand (b .checked .bench .file) flags cells (inputs-of is) → again ≡ is-resent (b .checked .bench .file) s (line-of (said x is))
+      → Inputs-stand (b .checked .bench .file) flags cells (inputs-of is) → again ≡ is-resent (b .checked .bench .file) s (line-of (reading-with x is))
   unfolding line-of
   told-resent {text} {offsets} {lengths} b print s h x is n m q stand =
-      resends .is text offsets lengths (b .checked .bench) (b .checked .few) print s h (line-of (said x is))
+      resends .is text offsets lengths (b .checked .bench) (b .checked .few) print s h (line-of (reading-with x is))
       (q ∙ ap (λ (k : List ℕ). place k (s .senders)) (sym n)) m stand
 
   pub settled-resent : again ≡ true → Settled classes literals d refs scopes name at number flags cells state state (Resent at)
@@ -122,7 +118,7 @@ module _ {classes literals d refs scopes name : List ℕ} {at number : ℕ} {fla
     is = λ text offsets lengths b print s h names values cs p x r is i n m q stand.
         let f = b .checked .bench .file in
         let e = told-resent b print s h x is n m q stand in
-        moves-resent print f s state (line-of (said x is)) (in-resent f s (said x is) (sym e ∙ t)) (q ∙ ap (λ (k : List ℕ). place k (s .senders)) (sym n));
+        moves-resent print f s state (line-of (reading-with x is)) (in-resent f s (reading-with x is) (sym e ∙ t)) (q ∙ ap (λ (k : List ℕ). place k (s .senders)) (sym n));
   }
 
   module _ (t : again ≡ false) {count : ℕ} (counted : count ≡ getD d 1 0) {takes : Bool}
@@ -133,7 +129,7 @@ module _ {classes literals d refs scopes name : List ℕ} {at number : ℕ} {fla
           let f = b .checked .bench .file in
           let e = told-resent b print s h x is n m q stand in
           let g = told-taken state b counted tested print s h names values p r i stand in
-          moves-refused print f s state (in-absent f s (said x is) (sym e ∙ t) (sym g ∙ u));
+          moves-refused print f s state (in-absent f s (reading-with x is) (sym e ∙ t) (sym g ∙ u));
     }
 
     module _ (u : takes ≡ true) {last : ℕ} (lasts : Last-read state count at last) where
@@ -153,7 +149,7 @@ module _ {classes literals d refs scopes name : List ℕ} {at number : ℕ} {fla
               let e = told-resent b print s h x is n m q stand in
               let g = told-taken state b counted tested print s h names values p r i stand in
               let l = told-last b print s h x n q in
-              moves-refused print f s state (in-out-of-turn f s (said x is) (sym e ∙ t) (sym g ∙ u) (ap₂ in-turn (sym l) m ∙ sym turns ∙ v));
+              moves-refused print f s state (in-out-of-turn f s (reading-with x is) (sym e ∙ t) (sym g ∙ u) (ap₂ in-turn (sym l) m ∙ sym turns ∙ v));
         }
 
         module _ (v : turn ≡ true) where
@@ -165,7 +161,7 @@ module _ {classes literals d refs scopes name : List ℕ} {at number : ℕ} {fla
                 let g = told-taken state b counted tested print s h names values p r i stand in
                 let l = told-last b print s h x n q in
                 moves-refused print f s state
-                (in-other f s (said x is) (sym e ∙ t) (sym g ∙ u) (ap₂ in-turn (sym l) m ∙ sym turns ∙ v)
+                (in-other f s (reading-with x is) (sym e ∙ t) (sym g ∙ u) (ap₂ in-turn (sym l) m ∙ sym turns ∙ v)
                 (eq-eqb (x .number) (kept (x .sender) (s .senders) .last) (m ∙ w ∙ l)));
           }
 
@@ -179,9 +175,9 @@ module _ {classes literals d refs scopes name : List ℕ} {at number : ℕ} {fla
                 let e = told-resent b print s h x is n m q stand in
                 let g = told-taken state b counted tested print s h names values p r i stand in
                 let l = told-last b print s h x n q in
-                let k = line-of (said x is) in
+                let k = line-of (reading-with x is) in
                 moves-new print f s state k
-                (in-new f s (said x is) (sym e ∙ t) (sym g ∙ u) (ap₂ in-turn (sym l) m ∙ sym turns ∙ v)
+                (in-new f s (reading-with x is) (sym e ∙ t) (sym g ∙ u) (ap₂ in-turn (sym l) m ∙ sym turns ∙ v)
                 (ne-eqb (x .number) (kept (x .sender) (s .senders) .last) (λ same. w (sym m ∙ same ∙ sym l))))
                 (q ∙ ap (λ (c : List ℕ). place c (s .senders)) (sym n)) (z ∙ sym m)
                 (follows .is text offsets lengths b print s h k n (m ∙ sym z) q stand);

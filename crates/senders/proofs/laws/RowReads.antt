@@ -26,11 +26,12 @@ use Rattle.cycles.specs.definitions.Spots.{Spot, every, cells}
 use Rattle.cycles.specs.definitions.Fields.{lengthened, split, fields, has-byte}
 use Rattle.cycles.specs.definitions.Row.{action-cells, action-fields}
 use Rattle.cycles.proofs.laws.SpotLaws.{Stands, cell-stands}
-use Rattle.senders.specs.definitions.Sender.{Sender, starts-with-letter, MOST-NAME-BYTES, is-sender, is-known, unknown, kept}
-use Rattle.senders.specs.definitions.Line.{MOST-LINES}
+use Rattle.senders.specs.definitions.Sender.{Sender, starts-with-letter, MOST-NAME-BYTES, is-sender, is-known-sender, unknown, kept}
+use Rattle.senders.specs.definitions.Line.{GREATEST-NUMBER}
 use Rattle.senders.specs.definitions.Row.{row}
 use Rattle.senders.specs.definitions.SoundState.{Sound-sender, Sound-senders}
-use Rattle.senders.proofs.laws.WithSender.{kept-unknown, kept-sound}
+use Rattle.senders.proofs.laws.SenderLaws.{kept-unknown}
+use Rattle.senders.proofs.laws.StateLaws.{sound-kept}
 
 -- ---- no space
 
@@ -191,7 +192,7 @@ action-stands f i p h = cell-stands f p (action-among p (cells f) i h)
 -- what a row may be printed of: of a sender that is known and sound, or of one that is not known
 pub record Sound-row (f : File) (x : Sender) : Type 0 where
   pub name : T (is-sender (x .name))
-  pub most : x .last ≤ MOST-LINES
+  pub most : x .last ≤ GREATEST-NUMBER
   pub fired : (e m : ℕ) (y : Member) → member-of f e m ≡ some y → T (storable (y .kind) (x .fired e m))
 
 pub sender-sound-row : (f : File) (x : Sender) → Sound-sender f x → Sound-row f x
@@ -199,13 +200,13 @@ sender-sound-row f x h = record { name = h .name; most = h .most; fired = h .fir
 
 pub kept-sound-row : (f : File) (n : List ℕ) → T (is-sender n) → (xs : List Sender) → Sound-senders f xs → Sound-row f (kept n xs)
 unfolding unknown
-kept-sound-row f n h xs g = go (is-known n xs) refl
+kept-sound-row f n h xs g = go (is-known-sender n xs) refl
   where
     nothing : Sound-row f (unknown n)
     nothing = record { name = h; most = omega arith; fired = λ e m y p. unset-storable (y .kind) }
 
-    go : (b : Bool) → is-known n xs ≡ b → Sound-row f (kept n xs)
-    go true e = sender-sound-row f (kept n xs) (kept-sound f n xs g e)
+    go : (b : Bool) → is-known-sender n xs ≡ b → Sound-row f (kept n xs)
+    go true e = sender-sound-row f (kept n xs) (sound-kept f n xs g e)
     go false e = subst (Sound-row f) (sym (kept-unknown n xs e)) nothing
 
 -- "every printed value reads back as itself": a row has a field for the sender, one for the number and one for each action cell; reading them as fields

@@ -1,9 +1,9 @@
 -- The same readings are the same bytes: those of a plane that is kept of a line, and those of a line's inputs in memory.
-use Prim.Native.Nat.{ℕ, zero, suc, _+_, _-_, _*_, _/_, _%_, _≤_, _<_}
+use Prim.Native.Nat.{ℕ, zero, suc, _+_, _*_, _/_, _%_, _≤_, _<_}
 use native.Mathlib.Omega.{arith}
 use mathlib.Core.Path.{_≡_, refl, sym, ap, ap₂, _∙_, subst}
 use mathlib.Core.Bool.{Bool, true, false, cond, _&&_, _||_, false≢true}
-use mathlib.Core.List.{List, [], _∷_, _++_}
+use mathlib.Core.List.{List, _∷_, _++_}
 use mathlib.Core.Option.{Option, none, some}
 use lib.Dec.{T, ltb, eqb, ltb→lt}
 use lib.Ieee.Bits.{is-true}
@@ -41,12 +41,12 @@ use Rattle.cycles.specs.definitions.Planes.{
 use Rattle.cycles.specs.contracts.LineReads.{presence-table, input-table}
 use Rattle.cycles.specs.definitions.SoundStores.{Sound-inputs}
 use Rattle.cycles.proofs.laws.TableLaws.{each-at, table-flag, table-from, begins-with}
-use Rattle.cycles.proofs.laws.CellFits.{Event-value, an-action, input-read, blank-none, else-blank, reading-sound}
+use Rattle.cycles.proofs.laws.CellFits.{Event-value, input-read, blank-none, else-blank, reading-sound}
 use Rattle.cycles.proofs.laws.CanonicalLaws.{first-byte, word-bytes, kept-packed, bytes-behind}
 use Rattle.cycles.proofs.laws.PlaneParts.{presence-piece, presence-sized, input-piece, input-sized, no-reading}
 use Rattle.cycles.proofs.laws.PlaneLaws.{plane-flags-below, plane-cells-fit}
 use Rattle.senders.specs.definitions.Line.{same-presence, same-given, same-inputs}
-use Rattle.senders.specs.definitions.StateImage.{is-event, decode-inputs}
+use Rattle.senders.specs.definitions.StateImage.{takes-readings, decode-inputs}
 use Rattle.senders.specs.contracts.Judging.{same-cell, Inputs-stand}
 use Rattle.senders.proofs.laws.TestLaws.{same-truth, each-same, every-numbered, every-cell, same-front}
 
@@ -95,31 +95,31 @@ given-compared o p s t =
 
 -- ---- one cell that is kept
 
-neither : (o : Option Member) → is-sort is-action o ≡ false → is-sort is-event o ≡ false → (x : Member) → o ≡ some x → x .sort ≡ attribute
+neither : (o : Option Member) → is-sort is-action o ≡ false → is-sort takes-readings o ≡ false → (x : Member) → o ≡ some x → x .sort ≡ attribute
 unfolding is-sort is-action
 neither none a e x q = absurd (none-some q)
 neither (some y) a e x q = subst (λ (z : Member). z .sort ≡ attribute) (some-injective q) (by-sort (y .sort) a e)
   where
-    by-sort : (s : Sort) → is-action s ≡ false → is-event s ≡ false → s ≡ attribute
+    by-sort : (s : Sort) → is-action s ≡ false → takes-readings s ≡ false → s ≡ attribute
     by-sort attribute a e = refl
     by-sort event a e = absurd (false≢true (sym e))
     by-sort action a e = absurd (false≢true (sym a))
 
-no-event : (o : Option Member) → is-sort is-action o ≡ true → is-sort is-event o ≡ false
+no-event : (o : Option Member) → is-sort is-action o ≡ true → is-sort takes-readings o ≡ false
 unfolding is-sort is-action
 no-event none a = refl
 no-event (some y) a = by-sort (y .sort) a
   where
-    by-sort : (s : Sort) → is-action s ≡ true → is-event s ≡ false
+    by-sort : (s : Sort) → is-action s ≡ true → takes-readings s ≡ false
     by-sort attribute a = refl
     by-sort event a = absurd (false≢true a)
     by-sort action a = refl
 
 -- where there is no action, the reading of an event is the reading of its bytes, and elsewhere both are none
-event-reading : (o : Option Member) (t w : ℕ) → is-sort is-action o ≡ false → T (kept-fits o t w) → input-of t w ≡ cond (is-sort is-event o) (input-of t w) none
-event-reading o t w a h = go (is-sort is-event o) refl
+event-reading : (o : Option Member) (t w : ℕ) → is-sort is-action o ≡ false → T (kept-fits o t w) → input-of t w ≡ cond (is-sort takes-readings o) (input-of t w) none
+event-reading o t w a h = go (is-sort takes-readings o) refl
   where
-    go : (b : Bool) → is-sort is-event o ≡ b → input-of t w ≡ cond b (input-of t w) none
+    go : (b : Bool) → is-sort takes-readings o ≡ b → input-of t w ≡ cond b (input-of t w) none
     go true e = refl
     go false e = blank-none t w (else-blank t w o (neither o a e) h)
 
@@ -179,7 +179,7 @@ module _ (f : File) (w : Within-counts f) (plane flags cells : List ℕ) (long :
         each-at (λ j. kept-fits (member-of f (j / 12) (j % 12)) (getD kept (j * 9) 0) (word-at 8 kept (j * 9 + 1))) 0 (12 * n)
         (plane-cells-fit 3 (λ present. kept-fits) f plane passes) k (omega arith) (omega arith)
 
-    was-given : was .given (k / 12) (k % 12) ≡ cond (is-sort is-event its-member) (input-of its-tag its-word) none
+    was-given : was .given (k / 12) (k % 12) ≡ cond (is-sort takes-readings its-member) (input-of its-tag its-word) none
     unfolding decode-inputs
     was-given = let e : k / 12 * 12 + k % 12 ≡ k = omega arith in rw e
 

@@ -10,19 +10,7 @@ use mathlib.Core.Option.{Option, none, some}
 use lib.Dec.{T, ltb, leb, eqb, leb→le, ltb→lt, lt→ltb, eqb→eq}
 use lib.Ieee.Bits.{is-true}
 use lib.Ieee.Fits.{and-i, and-l, and-r}
-use lib.ListN.{
-  length,
-  getD,
-  take,
-  drop,
-  replicate,
-  length-append,
-  length-drop,
-  take-append-drop,
-  length-replicate,
-  getD-replicate,
-  List·getD-append,
-}
+use lib.ListN.{length, getD, take, drop, replicate, length-append, length-drop, length-replicate, getD-replicate, List·getD-append}
 use lib.Seq.{length-take-le, take-at, drop-at, take-add, getD-drop, getD-take, getD-append-add, ext-getD}
 use borrow.Author.Tests.{ltb-true, ltb-false, lt-ltb, le-ltb, le-leb, ne-eqb, eqb-false}
 use Rattle.values.specs.declared.Value.{Value}
@@ -74,11 +62,11 @@ use Rattle.senders.specs.definitions.StateImage.{
   name-bytes,
   kept-piece,
   encode-sender,
-  name-in,
-  number-in,
+  part-name,
+  part-number,
   kept-plane,
   next-sender,
-  is-event,
+  takes-readings,
   decode-inputs,
   decode-fired,
   decode-sender,
@@ -98,7 +86,7 @@ length-name-bytes x h =
     omega arith
 
 module _ (x rest : List ℕ) where
-  pub name-read : name-in (name-bytes x ++ rest) ≡ x
+  pub name-read : part-name (name-bytes x ++ rest) ≡ x
   unfolding name-bytes
   name-read = rw (append-assoc x (replicate (24 - length x) 0) rest) (take-at x (replicate (24 - length x) 0 ++ rest) (length x) refl)
 
@@ -177,7 +165,7 @@ module _ (f : File) (w : Within-counts f) (x : Sender) (h : Sound-sender f x) (r
       go none i = refl
       go (some v) i = absurd (g (i v refl .0) (i v refl .1) (i v refl .2))
 
-  given-read : (e k : ℕ) → cond (is-sort is-event (member-of f e k)) (input-at (cells-of n written) (e * 12 + k)) none ≡ x .inputs .given e k
+  given-read : (e k : ℕ) → cond (is-sort takes-readings (member-of f e k)) (input-at (cells-of n written) (e * 12 + k)) none ≡ x .inputs .given e k
   unfolding is-sort is-action
   given-read e k = go (member-of f e k) refl
     where
@@ -185,7 +173,7 @@ module _ (f : File) (w : Within-counts f) (x : Sender) (h : Sound-sender f x) (r
       other y p q = no-reading e k (λ z r t. q (ap (λ (u : Member). u .sort) (some-injective (sym p ∙ r)) ∙ t))
 
       at : (y : Member) → member-of f e k ≡ some y → (s : Sort) → y .sort ≡ s
-          → cond (is-event s) (input-at (cells-of n written) (e * 12 + k)) none ≡ x .inputs .given e k
+          → cond (takes-readings s) (input-at (cells-of n written) (e * 12 + k)) none ≡ x .inputs .given e k
       at y p attribute q = other y p (λ t. let z : _≡_ {A = ℕ} 0 1 = cc in omega arith)
       at y p action q = other y p (λ t. let z : _≡_ {A = ℕ} 0 1 = cc in omega arith)
       at y p event q =
@@ -197,7 +185,7 @@ module _ (f : File) (w : Within-counts f) (x : Sender) (h : Sound-sender f x) (r
           ∙ ap (λ (l : List ℕ). input-at l 0) g
           ∙ input-read (x .inputs .given e k) (λ v r. let g = h .inputs .of-kind e k v r in (g .0 .kind, g .3))
 
-      go : (o : Option Member) → member-of f e k ≡ o → cond (is-sort is-event o) (input-at (cells-of n written) (e * 12 + k)) none ≡ x .inputs .given e k
+      go : (o : Option Member) → member-of f e k ≡ o → cond (is-sort takes-readings o) (input-at (cells-of n written) (e * 12 + k)) none ≡ x .inputs .given e k
       go none p = no-reading e k (λ y q r. none-some (sym p ∙ q))
       go (some y) p = at y p (y .sort) refl
 
@@ -294,10 +282,10 @@ module _ (f : File) (x : Sender) (short : length (x .name) ≤ MOST-NAME-BYTES) 
     pub at-next : next-sender (entity-count f) image ≡ rest
     at-next = drop-at (encode-sender f x) rest (sender-size (entity-count f)) length-encode-sender
 
-    pub name-back : name-in image ≡ x .name
-    name-back = ap name-in sender-begins ∙ name-read (x .name) from-number
+    pub name-back : part-name image ≡ x .name
+    name-back = ap part-name sender-begins ∙ name-read (x .name) from-number
 
-    pub number-back : x .last < 4294967296 → number-in image ≡ x .last
+    pub number-back : x .last < 4294967296 → part-number image ≡ x .last
     number-back b = sym (word-drop 4 NAME-PLACE image 0) ∙ ap (λ (l : List ℕ). word-at 4 l 0) at-number ∙ word-low-first 4 (x .last) from-plane (omega arith)
 
 module _ (f : File) (w : Within-counts f) (x : Sender) (h : Sound-sender f x) where
@@ -308,7 +296,7 @@ module _ (f : File) (w : Within-counts f) (x : Sender) (h : Sound-sender f x) wh
     abbrev memory : List ℕ
     memory = encode-sender f x ++ rest
 
-    last-back : number-in memory ≡ x .last
+    last-back : part-number memory ≡ x .last
     last-back = let b = h .most in number-back f x short rest (omega arith)
 
     pub sender-read : decode-sender f memory ≡ x
@@ -328,11 +316,11 @@ module _ (f : File) (w : Within-counts f) (x : Sender) (h : Sound-sender f x) wh
         let size : T (leb (getD memory 0 0) MOST-NAME-BYTES) =
         subst (λ (l : List ℕ). T (leb (getD l 0 0) MOST-NAME-BYTES)) (sym (sender-begins f x short rest))
         (name-size (x .name) (from-number f x short rest) short) in
-        let name : T (is-sender (name-in memory)) = rw (name-back f x short rest) (h .name) in
+        let name : T (is-sender (part-name memory)) = rw (name-back f x short rest) (h .name) in
         let padded : T (is-padded memory) =
         subst (λ (l : List ℕ). T (is-padded l)) (sym (sender-begins f x short rest)) (name-padded (x .name) (from-number f x short rest)) in
-        let least : T (not (eqb (number-in memory) 0)) = rw (last-back, ne-eqb (x .last) 0 (λ e. omega arith)) tt in
-        let most : T (ltb (number-in memory) 4294967296) = rw last-back (lt→ltb (x .last) 4294967296 (omega arith)) in
+        let least : T (not (eqb (part-number memory) 0)) = rw (last-back, ne-eqb (x .last) 0 (λ e. omega arith)) tt in
+        let most : T (ltb (part-number memory) 4294967296) = rw last-back (lt→ltb (x .last) 4294967296 (omega arith)) in
         search and-i depth 9
 
     pub sender-passes : is-sender-part f memory ≡ true
@@ -347,10 +335,10 @@ module _ (f : File) (w : Within-counts f) (x : Sender) (h : Sound-sender f x) wh
 -- the tests of a part, one by one
 pub record Part-passes (f : File) (m : List ℕ) : Type 0 where
   pub size : getD m 0 0 ≤ MOST-NAME-BYTES
-  pub name : T (is-sender (name-in m))
+  pub name : T (is-sender (part-name m))
   pub padded : T (is-padded m)
-  pub least : 1 ≤ number-in m
-  pub most : number-in m < 4294967296
+  pub least : 1 ≤ part-number m
+  pub most : part-number m < 4294967296
   pub plane : T (plane-fits 3 (λ present. kept-fits) f (kept-plane m))
 
 at-least-one : (k : ℕ) → T (not (eqb k 0)) → 1 ≤ k
@@ -363,10 +351,10 @@ pub part-passes : (f : File) (m : List ℕ) → is-sender-part f m ≡ true → 
 unfolding is-sender-part is-sender-head
 part-passes f m h =
     let a = leb (getD m 0 0) MOST-NAME-BYTES in
-    let b = is-sender (name-in m) in
+    let b = is-sender (part-name m) in
     let c = is-padded m in
-    let d = not (eqb (number-in m) 0) in
-    let e = ltb (number-in m) 4294967296 in
+    let d = not (eqb (part-number m) 0) in
+    let e = ltb (part-number m) 4294967296 in
     let g = plane-fits 3 (λ present. kept-fits) f (kept-plane m) in
     let t : T ((a && (b && (c && (d && e)))) && g) = rw h tt in
     let t₀ = and-l (a && (b && (c && (d && e)))) g t in
@@ -377,8 +365,8 @@ part-passes f m h =
       size = leb→le (getD m 0 0) MOST-NAME-BYTES (and-l a (b && (c && (d && e))) t₀);
       name = and-l b (c && (d && e)) t₁;
       padded = and-l c (d && e) t₂;
-      least = at-least-one (number-in m) (and-l d e t₃);
-      most = ltb→lt (number-in m) 4294967296 (and-r d e t₃);
+      least = at-least-one (part-number m) (and-l d e t₃);
+      most = ltb→lt (part-number m) 4294967296 (and-r d e t₃);
       plane = and-r (a && (b && (c && (d && e)))) g t;
     }
 
@@ -393,17 +381,17 @@ module _ (f : File) (w : Within-counts f) (m : List ℕ) (h : T (plane-fits 3 (�
       let a = inside f w e k p in
       rw p at (cell-test f (λ present. kept-fits) m cs (plane-cells-fit 3 (λ present. kept-fits) f m h) e k (a .0) (a .1))
 
-  given-sound : (e k : ℕ) (v : Value) → cond (is-sort is-event (member-of f e k)) (input-at cs (e * 12 + k)) none ≡ some v → Event-value (member-of f e k) v
+  given-sound : (e k : ℕ) (v : Value) → cond (is-sort takes-readings (member-of f e k)) (input-at cs (e * 12 + k)) none ≡ some v → Event-value (member-of f e k) v
   unfolding is-sort
   given-sound e k v g = go (member-of f e k) refl g
     where
-      at : (y : Member) → member-of f e k ≡ some y → (s : Sort) → y .sort ≡ s → cond (is-event s) (input-at cs (e * 12 + k)) none ≡ some v
+      at : (y : Member) → member-of f e k ≡ some y → (s : Sort) → y .sort ≡ s → cond (takes-readings s) (input-at cs (e * 12 + k)) none ≡ some v
           → Event-value (member-of f e k) v
       at y p attribute q r = absurd (none-some r)
       at y p action q r = absurd (none-some r)
       at y p event q r = (y, p, q, event-sound _ _ y v q (kept-test e k p) r)
 
-      go : (o : Option Member) → member-of f e k ≡ o → cond (is-sort is-event o) (input-at cs (e * 12 + k)) none ≡ some v → Event-value (member-of f e k) v
+      go : (o : Option Member) → member-of f e k ≡ o → cond (is-sort takes-readings o) (input-at cs (e * 12 + k)) none ≡ some v → Event-value (member-of f e k) v
       go none p r = absurd (none-some r)
       go (some y) p r = at y p (y .sort) refl r
 
@@ -440,11 +428,11 @@ sender-sound f w m h =
 -- ---- memory of bytes that passes
 
 -- the name, and the zeros after it
-pub name-canonical : (m : List ℕ) → NAME-PLACE ≤ length m → getD m 0 0 ≤ MOST-NAME-BYTES → T (is-padded m) → take NAME-PLACE m ≡ name-bytes (name-in m)
+pub name-canonical : (m : List ℕ) → NAME-PLACE ≤ length m → getD m 0 0 ≤ MOST-NAME-BYTES → T (is-padded m) → take NAME-PLACE m ≡ name-bytes (part-name m)
 unfolding name-bytes is-padded
 name-canonical m l s h =
     first-byte 24 m 0 (omega arith)
-    ∙ ap₂ _∷_ (sym sized) (ap (λ (i : ℕ). take i (drop 1 m)) whole ∙ take-add k (24 - k) (drop 1 m) ∙ ap (λ (x : List ℕ). name-in m ++ x) zeros)
+    ∙ ap₂ _∷_ (sym sized) (ap (λ (i : ℕ). take i (drop 1 m)) whole ∙ take-add k (24 - k) (drop 1 m) ∙ ap (λ (x : List ℕ). part-name m ++ x) zeros)
   where
     k : ℕ
     k = getD m 0 0
@@ -452,19 +440,19 @@ name-canonical m l s h =
     whole : 24 ≡ k + (24 - k)
     whole = omega arith
 
-    sized : length (name-in m) ≡ k
+    sized : length (part-name m) ≡ k
     sized = let d = length-drop 1 m in length-take-le k (drop 1 m) (omega arith)
 
-    zeros : take (24 - k) (drop k (drop 1 m)) ≡ replicate (24 - length (name-in m)) 0
+    zeros : take (24 - k) (drop k (drop 1 m)) ≡ replicate (24 - length (part-name m)) 0
     zeros =
         let d = length-drop 1 m in
         let e = length-drop k (drop 1 m) in
         let a = length-take-le (24 - k) (drop k (drop 1 m)) (omega arith) in
-        let b = length-replicate {A = ℕ} (24 - length (name-in m)) 0 in
+        let b = length-replicate {A = ℕ} (24 - length (part-name m)) 0 in
         let c = sized in
-        ext-getD 0 (take (24 - k) (drop k (drop 1 m))) (replicate (24 - length (name-in m)) 0) (omega arith) (λ i c. at i (omega arith))
+        ext-getD 0 (take (24 - k) (drop k (drop 1 m))) (replicate (24 - length (part-name m)) 0) (omega arith) (λ i c. at i (omega arith))
       where
-        at : (i : ℕ) → i < 24 - k → getD (take (24 - k) (drop k (drop 1 m))) i 0 ≡ getD (replicate (24 - length (name-in m)) 0) i 0
+        at : (i : ℕ) → i < 24 - k → getD (take (24 - k) (drop k (drop 1 m))) i 0 ≡ getD (replicate (24 - length (part-name m)) 0) i 0
         at i c =
             let z : 1 + (k + i) ≡ k + i + 1 = omega arith in
             let s = sized in
@@ -473,7 +461,7 @@ name-canonical m l s h =
             ∙ getD-drop 1 m (k + i) 0
             ∙ ap (λ (j : ℕ). getD m j 0) z
             ∙ eqb→eq (getD m (k + i + 1) 0) 0 (each-at (λ i. eqb (getD m (i + 1) 0) 0) k (24 - k) h (k + i) (omega arith) (omega arith))
-            ∙ sym (getD-replicate (24 - length (name-in m)) i 0 0 (omega arith))
+            ∙ sym (getD-replicate (24 - length (part-name m)) i 0 0 (omega arith))
 
 -- a plane
 pub kept-canonical : (f : File) (m : List ℕ) → plane-size (entity-count f) ≤ length m → ((k : ℕ) → getD m k 0 < 256)
@@ -497,14 +485,14 @@ kept-canonical f m l b h x p q =
 
         by : (o : Option Member) → T (kept-fits o (getD cs (k * 9) 0) (word-at 8 cs (k * 9 + 1)))
             → cond (is-sort is-action o) (cell-bytes (cond (is-sort is-action o) (cell-at cs k) Unset))
-            (input-bytes (cond (is-sort is-event o) (input-at cs k) none))
+            (input-bytes (cond (is-sort takes-readings o) (input-at cs k) none))
             ≡ getD cs (k * 9) 0 ∷ low-first 8 (word-at 8 cs (k * 9 + 1))
         by none t = blank-bytes _ _ (else-blank _ _ none (λ y e. absurd (none-some e)) t)
         by (some y) t = at (y .sort) refl
           where
             at : (s : Sort) → y .sort ≡ s
                 → cond (is-action (y .sort)) (cell-bytes (cond (is-action (y .sort)) (cell-at cs k) Unset))
-                (input-bytes (cond (is-event (y .sort)) (input-at cs k) none))
+                (input-bytes (cond (takes-readings (y .sort)) (input-at cs k) none))
                 ≡ getD cs (k * 9) 0 ∷ low-first 8 (word-at 8 cs (k * 9 + 1))
             at attribute e = rw e (blank-bytes _ _ (else-blank _ _ (some y) (λ z d. rw (← some-injective d) e) t))
             at event e = rw e (event-packed y _ _ e t)
@@ -522,8 +510,3 @@ module _ (f : File) (m : List ℕ) (l : sender-size (entity-count f) ≤ length 
       ∙ ap₂ _++_ (take-add NAME-PLACE 4 m ∙ ap₂ _++_ (name-canonical m (omega arith) (p .size) (p .padded)) (sym (word-bytes 4 m NAME-PLACE (omega arith) b)))
       (kept-canonical f (kept-plane m) (omega arith) (bytes-behind m b SENDER-HEAD-BYTES) (p .plane) x refl refl)
       ∙ sym (sender-encoded f x)
-
-  -- memory begins with the part of what it stands for
-  pub sender-stands : encode-sender f (decode-sender f m) ++ next-sender (entity-count f) m ≡ m
-  sender-stands =
-      ap (λ (x : List ℕ). x ++ next-sender (entity-count f) m) (sym sender-canonical) ∙ take-append-drop (sender-size (entity-count f)) m

@@ -1,5 +1,5 @@
 -- Names, the known senders, their places, and what is kept after an entry is put in its place.
-use Prim.Native.Nat.{ℕ, zero, suc, _≤_, _<_}
+use Prim.Native.Nat.{ℕ, suc, _≤_, _<_}
 use native.Mathlib.Omega.{arith}
 use mathlib.Core.Path.{_≡_, refl, sym, ap, _∙_, subst}
 use mathlib.Core.Bool.{Bool, true, false, cond, _&&_, _||_, false≢true}
@@ -7,7 +7,7 @@ use mathlib.Core.List.{List, [], _∷_, _++_}
 use mathlib.Core.Option.{Option, none, some, Option·getD}
 use lib.Dec.{T, leb, ltb, eqb, leb→le}
 use lib.Ieee.Fits.{and-l, and-r}
-use lib.ListN.{length, getD, take, drop, getElem?, length-append, length-take, length-drop}
+use lib.ListN.{length, take, drop, getElem?, length-append, length-take, length-drop}
 use borrow.Author.Tests.{ltb-true, ltb-false, lt-ltb, le-ltb, eqb-true}
 use Rattle.values.specs.definitions.Bytes.{same-bytes}
 use Rattle.values.proofs.laws.ByteLaws.{same-bytes-self, same-bytes-equal}
@@ -22,12 +22,12 @@ use Rattle.senders.specs.definitions.Sender.{
   starts-with-letter,
   is-sender,
   sender-named,
-  is-known,
+  is-known-sender,
   unknown,
   kept,
   with-sender,
   MOST-SENDERS,
-  has-room,
+  has-place,
 }
 use Rattle.senders.specs.contracts.SenderMemory.{place}
 
@@ -85,15 +85,6 @@ no-space-among (b ∷ bs) h =
 pub no-space : (x : List ℕ) → T (is-sender x) → has-byte 32 x ≡ false
 no-space x h = no-space-among x (name-of-bytes x h)
 
-no-space-in : (x : List ℕ) → T (every is-name-byte x) → (k : ℕ) → getD x k 0 ≡ 32 → ⊥
-unfolding every
-no-space-in [] h k e = omega arith
-no-space-in (b ∷ bs) h zero e = space-apart b (and-l (is-name-byte b) (every is-name-byte bs) h) e
-no-space-in (b ∷ bs) h (suc k) e = no-space-in bs (and-r (is-name-byte b) (every is-name-byte bs) h) k e
-
-pub no-space-at : (x : List ℕ) → T (is-sender x) → (k : ℕ) → getD x k 0 ≡ 32 → ⊥
-no-space-at x h k e = no-space-in x (name-of-bytes x h) k e
-
 -- ---- the known senders
 
 named-name : (n : List ℕ) (xs : List Sender) {x : Sender} → sender-named n xs ≡ some x → x .name ≡ n
@@ -106,44 +97,40 @@ named-name n (y ∷ ys) {x} e = go (same-bytes n (y .name)) refl e (named-name n
     go false p q later = later q
 
 module _ (n : List ℕ) (xs : List Sender) where
-  pub named-known : {x : Sender} → sender-named n xs ≡ some x → is-known n xs ≡ true
-  unfolding is-known is-found
+  pub named-known : {x : Sender} → sender-named n xs ≡ some x → is-known-sender n xs ≡ true
+  unfolding is-known-sender is-found
   named-known e = rw e
-
-  pub unnamed-unknown : sender-named n xs ≡ none → is-known n xs ≡ false
-  unfolding is-known is-found
-  unnamed-unknown e = rw e
 
   pub named-kept : {x : Sender} → sender-named n xs ≡ some x → kept n xs ≡ x
   unfolding kept
   named-kept e = rw e
 
-  pub known-named : is-known n xs ≡ true → sender-named n xs ≡ some (kept n xs)
-  unfolding is-known is-found kept
+  pub known-named : is-known-sender n xs ≡ true → sender-named n xs ≡ some (kept n xs)
+  unfolding is-known-sender is-found kept
   known-named h = go (sender-named n xs) refl
     where
       go : (o : Option Sender) → sender-named n xs ≡ o → o ≡ some (Option·getD o (unknown n))
       go none e = absurd (false≢true (rw e at h))
       go (some x) e = refl
 
-  pub unknown-unnamed : is-known n xs ≡ false → sender-named n xs ≡ none
-  unfolding is-known is-found
+  pub unknown-unnamed : is-known-sender n xs ≡ false → sender-named n xs ≡ none
+  unfolding is-known-sender is-found
   unknown-unnamed h = go (sender-named n xs) refl
     where
       go : (o : Option Sender) → sender-named n xs ≡ o → o ≡ none
       go none e = refl
       go (some x) e = absurd (false≢true (sym (rw e at h)))
 
-  pub kept-unknown : is-known n xs ≡ false → kept n xs ≡ unknown n
+  pub kept-unknown : is-known-sender n xs ≡ false → kept n xs ≡ unknown n
   unfolding kept
   kept-unknown h = rw (unknown-unnamed h)
 
   -- what is known has its own name
   pub kept-name : kept n xs .name ≡ n
   unfolding unknown
-  kept-name = go (is-known n xs) refl
+  kept-name = go (is-known-sender n xs) refl
     where
-      go : (t : Bool) → is-known n xs ≡ t → kept n xs .name ≡ n
+      go : (t : Bool) → is-known-sender n xs ≡ t → kept n xs .name ≡ n
       go true e = named-name n xs (known-named e)
       go false e = ap (λ (x : Sender). x .name) (kept-unknown e)
 
@@ -166,8 +153,8 @@ module _ (n : List ℕ) where
       go true h = omega arith
       go false h = omega arith
 
-  pub place-below : (xs : List Sender) → is-known n xs ≡ ltb (place n xs) (length xs)
-  unfolding place is-known is-found sender-named
+  pub place-below : (xs : List Sender) → is-known-sender n xs ≡ ltb (place n xs) (length xs)
+  unfolding place is-known-sender is-found sender-named
   place-below [] = refl
   place-below (x ∷ xs) = go (same-bytes n (x .name)) (place-below xs)
     where
@@ -176,19 +163,19 @@ module _ (n : List ℕ) where
       go true h = sym (lt-ltb 0 (suc (length xs)) (omega arith))
       go false h = h ∙ less-by-one (place n xs) (length xs)
 
-  pub known-below : (xs : List Sender) → is-known n xs ≡ true → place n xs < length xs
+  pub known-below : (xs : List Sender) → is-known-sender n xs ≡ true → place n xs < length xs
   known-below xs h = ltb-true (place n xs) (length xs) (sym (place-below xs) ∙ h)
 
-  pub below-known : (xs : List Sender) → place n xs < length xs → is-known n xs ≡ true
+  pub below-known : (xs : List Sender) → place n xs < length xs → is-known-sender n xs ≡ true
   below-known xs h = place-below xs ∙ lt-ltb (place n xs) (length xs) h
 
-  pub unknown-last : (xs : List Sender) → is-known n xs ≡ false → place n xs ≡ length xs
+  pub unknown-last : (xs : List Sender) → is-known-sender n xs ≡ false → place n xs ≡ length xs
   unknown-last xs h =
       let a = place-within xs in
       let b = ltb-false (place n xs) (length xs) (sym (place-below xs) ∙ h) in
       omega arith
 
-  pub last-unknown : (xs : List Sender) → length xs ≤ place n xs → is-known n xs ≡ false
+  pub last-unknown : (xs : List Sender) → length xs ≤ place n xs → is-known-sender n xs ≡ false
   last-unknown xs h = place-below xs ∙ le-ltb (place n xs) (length xs) h
 
   named-there : (xs : List Sender) → getElem? xs (place n xs) ≡ sender-named n xs
@@ -200,15 +187,15 @@ module _ (n : List ℕ) where
       go true h = refl
       go false h = h
 
-  pub kept-there : (xs : List Sender) → is-known n xs ≡ true → getElem? xs (place n xs) ≡ some (kept n xs)
+  pub kept-there : (xs : List Sender) → is-known-sender n xs ≡ true → getElem? xs (place n xs) ≡ some (kept n xs)
   kept-there xs h = named-there xs ∙ known-named n xs h
 
   -- a sender is known, or there is a place for it
-  pub room-below : (xs : List Sender) → length xs ≤ MOST-SENDERS → has-room n xs ≡ ltb (place n xs) MOST-SENDERS
-  unfolding has-room
-  room-below xs h = go (is-known n xs) refl
+  pub room-below : (xs : List Sender) → length xs ≤ MOST-SENDERS → has-place n xs ≡ ltb (place n xs) MOST-SENDERS
+  unfolding has-place
+  room-below xs h = go (is-known-sender n xs) refl
     where
-      go : (t : Bool) → is-known n xs ≡ t → (t || ltb (length xs) MOST-SENDERS) ≡ ltb (place n xs) MOST-SENDERS
+      go : (t : Bool) → is-known-sender n xs ≡ t → (t || ltb (length xs) MOST-SENDERS) ≡ ltb (place n xs) MOST-SENDERS
       go true e = let b = known-below xs e in sym (lt-ltb (place n xs) MOST-SENDERS (omega arith))
       go false e = ap (λ (k : ℕ). ltb k MOST-SENDERS) (sym (unknown-last xs e))
 
@@ -229,12 +216,12 @@ module _ (x : Sender) where
       go true h = refl
       go false h = ap (λ (l : List Sender). y ∷ l) h
 
-  pub with-known-length : (xs : List Sender) → is-known (x .name) xs ≡ true → length (with-sender x xs) ≡ length xs
+  pub with-known-length : (xs : List Sender) → is-known-sender (x .name) xs ≡ true → length (with-sender x xs) ≡ length xs
   with-known-length xs h =
       let b = known-below (x .name) xs h in
       ap length (with-sender-parts xs) ∙ simp (length-append, length-take, length-drop) (omega arith)
 
-  pub with-new-length : (xs : List Sender) → is-known (x .name) xs ≡ false → length (with-sender x xs) ≡ suc (length xs)
+  pub with-new-length : (xs : List Sender) → is-known-sender (x .name) xs ≡ false → length (with-sender x xs) ≡ suc (length xs)
   with-new-length xs h =
       let b = unknown-last (x .name) xs h in
       ap length (with-sender-parts xs) ∙ simp (length-append, length-take, length-drop) (omega arith)
@@ -249,7 +236,7 @@ module _ (x : Sender) where
       go true e later = rw (same-bytes-self (x .name))
       go false e later = rw e later
 
-  pub known-self : (xs : List Sender) → is-known (x .name) (with-sender x xs) ≡ true
+  pub known-self : (xs : List Sender) → is-known-sender (x .name) (with-sender x xs) ≡ true
   known-self xs = named-known (x .name) (with-sender x xs) (named-self xs)
 
   pub kept-self : (xs : List Sender) → kept (x .name) (with-sender x xs) ≡ x
@@ -283,8 +270,8 @@ module _ (n : List ℕ) (x : Sender) where
       go false e later = ap (λ (o : Option Sender). cond (same-bytes n (y .name)) (some y) o) later
 
   module _ (xs : List Sender) (h : same-bytes n (x .name) ≡ false) where
-    pub known-other : is-known n (with-sender x xs) ≡ is-known n xs
-    unfolding is-known
+    pub known-other : is-known-sender n (with-sender x xs) ≡ is-known-sender n xs
+    unfolding is-known-sender
     known-other = ap is-found (named-other xs h)
 
     pub kept-other : kept n (with-sender x xs) ≡ kept n xs

@@ -27,13 +27,13 @@ use Rattle.cycles.proofs.laws.CellTokenLaws.{few-within}
 use Rattle.cycles.proofs.laws.RecordLaws.{record-fields}
 use Rattle.senders.specs.declared.judge.Judgement.{Judgement}
 use Rattle.senders.specs.declared.judge.Judgement.the-variants.{Refused}
-use Rattle.senders.specs.definitions.Sender.{State, is-sender, has-room}
+use Rattle.senders.specs.definitions.Sender.{State, is-sender, has-place}
 use Rattle.senders.specs.definitions.Answer.{Answer}
 use Rattle.senders.specs.definitions.Line.{Accepted, line}
 use Rattle.senders.specs.definitions.StateImage.{image-size, state-of, decode-senders}
 use Rattle.senders.specs.contracts.SenderMemory.{place, Place-read}
 use Rattle.senders.specs.contracts.Judging.{Inputs-stand}
-use Rattle.senders.specs.contracts.Advancing.{Resolved-bench, Moves, said, Settled, Sent-taken, Advanced}
+use Rattle.senders.specs.contracts.Advancing.{Resolved-bench, Moves, Settled, Sent-taken, Advanced}
 use Rattle.senders.proofs.laws.SenderLaws.{room-below}
 use Rattle.senders.proofs.laws.StateLaws.{state-decoded-sound}
 use Rattle.senders.proofs.laws.StateCanonical.{known-is, senders-from}
@@ -143,11 +143,11 @@ module _ (classes literals d refs scopes columns : List ℕ) (count : ℕ) (valu
 
       told-room : {text offsets lengths : List ℕ} (b : Resolved-bench text classes offsets lengths literals d refs scopes)
           → (print : ℕ) (s : State) → state-of print (b .checked .bench .file) state ≡ some s
-          → (x : Sent) → x .sender ≡ name → has-room (x .sender) (s .senders) ≡ ltb at 8
+          → (x : Sent) → x .sender ≡ name → has-place (x .sender) (s .senders) ≡ ltb at 8
       told-room b print s h x m =
           let f = b .checked .bench .file in
           let sound = state-decoded-sound f (few-within f (b .checked .few)) print state s h in
-          ap (λ (k : List ℕ). has-room k (s .senders)) m ∙ room-below name (s .senders) (sound .few) ∙ ap (λ (k : ℕ). ltb k 8) (sym (told-place b print s h))
+          ap (λ (k : List ℕ). has-place k (s .senders)) m ∙ room-below name (s .senders) (sound .few) ∙ ap (λ (k : ℕ). ltb k 8) (sym (told-place b print s h))
 
       pub sent-no-room : 8 ≤ at → Sent-taken classes literals d refs scopes columns count values name number state state (Refused 42)
       sent-no-room full = record {

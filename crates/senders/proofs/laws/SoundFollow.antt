@@ -1,10 +1,11 @@
 -- For an accepted file and a line that a state takes the reference machine is not stuck, as the total machine is not, and the state stays sound.
 use Prim.Native.Nat.{ℕ, _≤_}
 use native.Mathlib.Omega.{arith}
-use mathlib.Core.Path.{_≡_, refl}
+use mathlib.Core.Path.{_≡_, refl, sym, _∙_}
 use mathlib.Core.Bool.{Bool, true, false, cond}
 use mathlib.Core.List.{List}
 use lib.Dec.{T}
+use borrow.Author.Tests.{ltb-true}
 use Rattle.values.specs.declared.Value.{Value}
 use Rattle.values.specs.declared.Value.the-variants.{Unset}
 use Rattle.values.specs.declared.Kind.{Kind}
@@ -20,17 +21,19 @@ use Rattle.cycles.specs.definitions.Cycle.{is-sort}
 use Rattle.cycles.specs.contracts.TotalMachine.{cycle}
 use Rattle.cycles.specs.definitions.SoundStores.{Sound-store, Sound-inputs, Sound-stores}
 use Rattle.cycles.proofs.laws.SoundCycle.{cycle-sound, fresh-stores-sound, fresh-stores-run}
-use Rattle.senders.specs.definitions.Sender.{State, Line, is-sender, has-room}
-use Rattle.senders.specs.definitions.Line.{MOST-LINES, Accepted, new, resent, its-line}
+use Rattle.senders.specs.definitions.Sender.{State, Line, is-sender, MOST-SENDERS, has-place}
+use Rattle.senders.specs.definitions.Line.{GREATEST-NUMBER, Accepted, new, resent, its-line}
 use Rattle.senders.specs.definitions.Follow.{fired-in, entry, next-state, ref-follow, fresh, ref-fresh}
 use Rattle.senders.specs.definitions.SoundState.{Sound-sender, Sound-state}
 use Rattle.senders.specs.contracts.TotalFollow.{follow}
+use Rattle.senders.specs.contracts.SenderMemory.{place}
 use Rattle.senders.proofs.laws.SoundLine.{Sound-line, line-number-sound}
-use Rattle.senders.proofs.laws.WithSender.{room-kept, senders-with}
+use Rattle.senders.proofs.laws.SenderLaws.{room-below}
+use Rattle.senders.proofs.laws.StateLaws.{with-sender-sound, with-sender-few}
 
 -- ---- a line
 
-entry-sound : (f : File) (l : Line) → T (is-sender (l .sender)) → 1 ≤ l .number → l .number ≤ MOST-LINES → Sound-inputs f (l .inputs)
+entry-sound : (f : File) (l : Line) → T (is-sender (l .sender)) → 1 ≤ l .number → l .number ≤ GREATEST-NUMBER → Sound-inputs f (l .inputs)
     → (s : Store) → Sound-store f s → Sound-sender f (entry f l s)
 unfolding entry fired-in
 entry-sound f l n a b i s h = record {
@@ -47,12 +50,13 @@ entry-sound f l n a b i s h = record {
     either k false v h = unset-storable k
 
 next-sound : (f : File) (s : State) → Sound-state f s → (l : Line) (t : Stores) → Sound-stores f t → Sound-sender f (entry f l (t .now))
-    → has-room (l .sender) (s .senders) ≡ true → Sound-state f (next-state f s l t)
+    → has-place (l .sender) (s .senders) ≡ true → Sound-state f (next-state f s l t)
 unfolding next-state entry
 next-sound f s h l t g e r = record {
   stores = g;
-  few = room-kept (entry f l (t .now)) (s .senders) (h .few) r;
-  senders = senders-with f (entry f l (t .now)) e (s .senders) (h .senders);
+  few = with-sender-few f (entry f l (t .now)) (s .senders)
+      (ltb-true (place (l .sender) (s .senders)) MOST-SENDERS (sym (room-below (l .sender) (s .senders) (h .few)) ∙ r)) (h .few);
+  senders = with-sender-sound f (entry f l (t .now)) e (s .senders) (h .senders);
 }
 
 pub follow-sound : (f : File) → file-verdict f ≡ Verdict.accepted f → (s : State) → Sound-state f s → (a : Accepted) → Sound-line f s a

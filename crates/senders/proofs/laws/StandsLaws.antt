@@ -11,7 +11,7 @@ use Rattle.senders.specs.definitions.Sender.{State}
 use Rattle.senders.specs.definitions.Answer.{Answer, refused, accepted}
 use Rattle.senders.specs.definitions.Line.{Accepted, new, resent, line}
 use Rattle.senders.specs.definitions.Turns.{state-after}
-use Rattle.senders.specs.definitions.Fingerprint.{PRIME, print-from, fingerprint}
+use Rattle.senders.specs.definitions.Fingerprint.{PRIME, fingerprint-from, fingerprint}
 use Rattle.senders.specs.definitions.StateImage.{state-of}
 use Rattle.senders.specs.contracts.TotalFollow.{follow}
 use Rattle.senders.specs.contracts.Advancing.{Resolved-bench, state-memory}
@@ -21,8 +21,8 @@ use Rattle.senders.proofs.laws.StateLaws.{state-decoded-sound, state-wr
 
 -- ---- the fingerprint
 
-print-from-below : (acc : ℕ) (text : List ℕ) → acc < 4294967296 → print-from acc text < 4294967296
-unfolding print-from
+print-from-below : (acc : ℕ) (text : List ℕ) → acc < 4294967296 → fingerprint-from acc text < 4294967296
+unfolding fingerprint-from
 print-from-below acc [] h = h
 print-from-below acc (b ∷ bs) h = print-from-below ((acc * 257 + b + 1) % PRIME) bs (omega arith)
 

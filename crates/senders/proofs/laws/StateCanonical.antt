@@ -15,24 +15,7 @@ use Rattle.cycles.specs.definitions.Planes.{stores-size, entity-count, encode-s
 use Rattle.cycles.proofs.laws.TableLaws.{begins-with}
 use Rattle.cycles.proofs.laws.CanonicalLaws.{first-byte, word-bytes, bytes-behind, stores-canonical}
 use Rattle.senders.specs.definitions.Sender.{Sender, State, unknown, kept}
-use Rattle.senders.specs.definitions.StateImage.{
-  sender-size,
-  image-size,
-  STATE,
-  encode-senders,
-  encode,
-  stores-part,
-  senders-part,
-  known-count,
-  next-sender,
-  decode-sender,
-  decode-senders,
-  decode,
-  is-sender-part,
-  are-senders,
-  state-of,
-  with-state,
-}
+use Rattle.senders.specs.definitions.StateImage.{sender-size, image-size, STATE, encode-senders, encode, stores-part, senders-part, known-count, next-sender, decode-sender, decode-senders, decode, is-sender-part, are-senders, state-of}
 use Rattle.senders.specs.contracts.SenderMemory.{place}
 use Rattle.senders.proofs.laws.SenderLaws.{kept-unknown, kept-there, below-known, last-unknown}
 use Rattle.senders.proofs.laws.SenderImage.{sender-canonical}
@@ -171,8 +154,3 @@ module _ (print : ℕ) (f : File) (m : List ℕ) {s : State} (h : state-of print
 
     pub state-begins : m ≡ encode print f s ++ drop (image-size n (length (s .senders))) m
     state-begins = begins-with m (encode print f s) (image-size n (length (s .senders))) state-canonical
-
-    -- writing what memory stands for changes nothing
-    pub state-stands : with-state print f s m ≡ m
-    unfolding with-state
-    state-stands = sym state-begins

@@ -21,7 +21,7 @@ use Rattle.cycles.specs.definitions.Planes.{stores-size, entity-count, encode-s
 use Rattle.cycles.proofs.laws.TableLaws.{word-low-first, part-after}
 use Rattle.cycles.proofs.laws.PlaneParts.{length-encode-stores}
 use Rattle.cycles.proofs.laws.PlaneLaws.{stores-pass, stores-read, stores-sound}
-use Rattle.senders.specs.definitions.Sender.{Sender, State, MOST-NAME-BYTES, sender-named, is-known, kept, with-sender, MOST-SENDERS}
+use Rattle.senders.specs.definitions.Sender.{Sender, State, MOST-NAME-BYTES, sender-named, is-known-sender, kept, with-sender, MOST-SENDERS}
 use Rattle.senders.specs.definitions.SoundState.{Sound-sender, Sound-senders, Sound-state}
 use Rattle.senders.specs.definitions.StateImage.{
   sender-size,
@@ -33,7 +33,7 @@ use Rattle.senders.specs.definitions.StateImage.{
   stores-part,
   senders-part,
   known-count,
-  name-in,
+  part-name,
   next-sender,
   decode-sender,
   decode-senders,
@@ -72,6 +72,13 @@ image-first n = omega arith
 pub image-next : (n k : ℕ) → image-size n (suc k) ≡ image-size n k + sender-size n
 image-next n k = let a = suc-mul k (sender-size n) in omega arith
 
+-- the part at each place
+pub part-room : {n at part : ℕ} → part ≡ image-size n at → n ≤ 32 → at < MOST-SENDERS → part + sender-size n ≤ STATE
+part-room {n} {at} e few room =
+    let a = image-fits n (suc at) few (omega arith) in
+    let b = image-next n at in
+    omega arith
+
 -- ---- sound senders
 
 module _ (f : File) where
@@ -80,25 +87,25 @@ module _ (f : File) where
   sound-at (y ∷ ys) h zero e = subst (Sound-sender f) (some-injective e) (h .0)
   sound-at (y ∷ ys) h (suc j) e = sound-at ys (h .2) j e
 
-  pub sound-kept : (n : List ℕ) (xs : List Sender) → Sound-senders f xs → is-known n xs ≡ true → Sound-sender f (kept n xs)
+  pub sound-kept : (n : List ℕ) (xs : List Sender) → Sound-senders f xs → is-known-sender n xs ≡ true → Sound-sender f (kept n xs)
   sound-kept n xs h k = sound-at xs h (place n xs) (kept-there n xs k)
 
   -- with an entry more, or another one
   pub with-sender-sound : (x : Sender) → Sound-sender f x → (xs : List Sender) → Sound-senders f xs → Sound-senders f (with-sender x xs)
-  unfolding with-sender is-known is-found sender-named
+  unfolding with-sender is-known-sender is-found sender-named
   with-sender-sound x g [] h = (g, refl, tt)
   with-sender-sound x g (y ∷ ys) h = go (same-bytes (x .name) (y .name)) refl (with-sender-sound x g ys (h .2))
     where
       go : (t : Bool) → same-bytes (x .name) (y .name) ≡ t → Sound-senders f (with-sender x ys) → Sound-senders f (cond t (x ∷ ys) (y ∷ with-sender x ys))
-      go true e later = (g, ap (λ (n : List ℕ). is-known n ys) (same-bytes-equal (x .name) (y .name) e) ∙ h .1, h .2)
+      go true e later = (g, ap (λ (n : List ℕ). is-known-sender n ys) (same-bytes-equal (x .name) (y .name) e) ∙ h .1, h .2)
       go false e later = (h .0, known-other (y .name) x ys (same-bytes-turned (y .name) (x .name) ∙ e) ∙ h .1, later)
 
   -- there is a place for it
   pub with-sender-few : (x : Sender) (xs : List Sender) → place (x .name) xs < MOST-SENDERS → length xs ≤ MOST-SENDERS
       → length (with-sender x xs) ≤ MOST-SENDERS
-  with-sender-few x xs a b = go (is-known (x .name) xs) refl
+  with-sender-few x xs a b = go (is-known-sender (x .name) xs) refl
     where
-      go : (t : Bool) → is-known (x .name) xs ≡ t → length (with-sender x xs) ≤ MOST-SENDERS
+      go : (t : Bool) → is-known-sender (x .name) xs ≡ t → length (with-sender x xs) ≤ MOST-SENDERS
       go true e = let c = with-known-length x xs e in omega arith
       go false e = let c = with-new-length x xs e in let d = unknown-last (x .name) xs e in omega arith
 
@@ -132,10 +139,10 @@ length-encode-senders f (x ∷ xs) h =
 
 -- a part that passes, of a name that the parts after it have not, and those pass
 pub senders-more : (f : File) (k : ℕ) (m : List ℕ) → is-sender-part f m ≡ true
-    → is-known (name-in m) (decode-senders f k (next-sender (entity-count f) m)) ≡ false → are-senders f k (next-sender (entity-count f) m) ≡ true
+    → is-known-sender (part-name m) (decode-senders f k (next-sender (entity-count f) m)) ≡ false → are-senders f k (next-sender (entity-count f) m) ≡ true
     → are-senders f (suc k) m ≡ true
 unfolding are-senders
-senders-more f k m = all-pass (is-sender-part f m) (is-known (name-in m) (decode-senders f k next)) (are-senders f k next)
+senders-more f k m = all-pass (is-sender-part f m) (is-known-sender (part-name m) (decode-senders f k next)) (are-senders f k next)
   where
     next : List ℕ
     next = next-sender (entity-count f) m
@@ -161,7 +168,7 @@ module _ (f : File) (w : Within-counts f) where
       let next = at-next f x short tail in
       ap (are-senders f (suc (length xs))) (senders-begin f x xs rest)
       ∙ senders-more f (length xs) (encode-sender f x ++ tail) (sender-passes f w x (h .0) tail)
-      (ap₂ is-known (name-back f x short tail) (ap (decode-senders f (length xs)) next ∙ senders-read xs (h .2) rest) ∙ h .1)
+      (ap₂ is-known-sender (name-back f x short tail) (ap (decode-senders f (length xs)) next ∙ senders-read xs (h .2) rest) ∙ h .1)
       (ap (are-senders f (length xs)) next ∙ senders-pass xs (h .2) rest)
 
 -- ---- the image, as it is written
@@ -322,7 +329,7 @@ length-decoded f (suc k) m = ap suc (length-decoded f k (next-sender (entity-cou
 
 pub record Senders-pass (f : File) (k : ℕ) (m : List ℕ) : Type 0 where
   pub part : is-sender-part f m ≡ true
-  pub other : is-known (name-in m) (decode-senders f k (next-sender (entity-count f) m)) ≡ false
+  pub other : is-known-sender (part-name m) (decode-senders f k (next-sender (entity-count f) m)) ≡ false
   pub later : are-senders f k (next-sender (entity-count f) m) ≡ true
 
 -- the first of senders that pass, and the others
@@ -331,7 +338,7 @@ unfolding are-senders
 senders-first f k m h =
     let next = next-sender (entity-count f) m in
     let a = is-sender-part f m in
-    let b = is-known (name-in m) (decode-senders f k next) in
+    let b = is-known-sender (part-name m) (decode-senders f k next) in
     let c = are-senders f k next in
     let t : T (a && (not b && c)) = rw h tt in
     let t₁ = and-r a (not b && c) t in

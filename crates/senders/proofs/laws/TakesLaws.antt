@@ -1,13 +1,12 @@
 -- An entity that is absent after the line takes no event's reading: the test of a line's inputs, one by one, is a test of every cell, since no
 -- column of a header stands twice.
-use Prim.Native.Nat.{ℕ, zero, suc, _+_, _*_, _/_, _%_, _≤_, _<_}
+use Prim.Native.Nat.{ℕ, _+_, _*_, _/_, _%_, _<_}
 use native.Mathlib.Omega.{arith}
 use mathlib.Core.Path.{_≡_, refl, sym, ap, ap₂, _∙_, subst}
 use mathlib.Core.Bool.{Bool, true, false, not, cond, _&&_, _||_, false≢true}
 use mathlib.Core.List.{List, [], _∷_, map, List·Memᴰ, List·Memᴰ·head, List·Memᴰ·tail}
 use mathlib.Core.Option.{Option, none, some, Option·getD}
 use lib.Dec.{T, leb, eqb}
-use lib.Ieee.Fits.{and-l, and-r}
 use lib.ListN.{length, getD, drop}
 use borrow.Author.Tests.{lt-ltb, eq-eqb, eqb-true}
 use Rattle.values.specs.declared.Value.{Value}
@@ -15,7 +14,7 @@ use Rattle.values.specs.declared.Field.{Field}
 use Rattle.values.specs.declared.Field.the-variants.{Blank, Given, Malformed}
 use Rattle.values.specs.definitions.Bytes.{same-bytes}
 use Rattle.text.specs.definitions.Syntax.{File}
-use Rattle.text.proofs.laws.ListLaws.{some-injective, none-some, All, all-none, all-cons}
+use Rattle.text.proofs.laws.ListLaws.{some-injective, none-some, All}
 use Rattle.checking.specs.contracts.DirectoryReads.{Few}
 use Rattle.checking.specs.definitions.Scope.{is-found}
 use Rattle.checking.proofs.laws.DirectoryLaws.{number-below}
@@ -50,6 +49,7 @@ use Rattle.cycles.proofs.laws.ColumnLaws.{among-numbers, Apart-below}
 use Rattle.cycles.proofs.laws.ColumnReadLaws.{sound-small, sound-number}
 use Rattle.cycles.proofs.laws.RecordLaws.{record-fields}
 use Rattle.senders.specs.contracts.Judging.{takes-cell, Inputs-stand}
+use Rattle.senders.proofs.laws.TestLaws.{same-truth, every-at, each-same}
 
 -- ---- no column twice
 
@@ -217,17 +217,6 @@ given-at (j ∷ js) (b, a, h) i (List·Memᴰ·tail m) p q =
 
 -- ---- the test of every cell
 
-pub same-truth : (a b : Bool) → (T a → T b) → (T b → T a) → a ≡ b
-same-truth true true f g = refl
-same-truth true false f g = absurd (f tt)
-same-truth false true f g = absurd (g tt)
-same-truth false false f g = refl
-
-pub every-at : {A : Type 0} (test : A → Bool) (xs : List A) → T (every test xs) → All (λ (x : A). T (test x)) xs
-unfolding every
-every-at test [] h = all-none (λ x. T (test x))
-every-at test (x ∷ xs) h = all-cons (λ y. T (test y)) (and-l (test x) (every test xs) h) (every-at test xs (and-r (test x) (every test xs) h))
-
 -- a cell has no reading, or its entity is present after the line
 abbrev pub cell-takes : Store → Inputs → ℕ → Bool
 cell-takes s i k = not (is-found (i .given (k / 12) (k % 12))) || present-after s i (k / 12)
@@ -279,11 +268,6 @@ present-flags : (p : ℕ) (o : Option Bool) → present-by p (getD (presence-fla
 present-flags p none = refl
 present-flags p (some true) = refl
 present-flags p (some false) = refl
-
-pub each-same : (p q : ℕ → Bool) (i k : ℕ) → ((j : ℕ) → i ≤ j → j < i + k → p j ≡ q j) → each p i k ≡ each q i k
-unfolding each
-each-same p q i zero h = refl
-each-same p q i (suc k) h = ap₂ _&&_ (h i (omega arith) (omega arith)) (each-same p q (i + 1) k (λ j a b. h j (omega arith) (omega arith)))
 
 -- `present` has the store now, `flags` and `cells` the inputs
 module _ (f : File) (present : List ℕ) {flags cells : List ℕ} (i : Inputs) (g : Inputs-stand f flags cells i) where

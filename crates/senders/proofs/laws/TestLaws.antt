@@ -7,7 +7,7 @@ use mathlib.Core.Bool.{Bool, true, false, cond, _&&_}
 use mathlib.Core.List.{List, [], _∷_, map, List·Memᴰ, List·Memᴰ·head, List·Memᴰ·tail, Memᴰ·map}
 use mathlib.Core.Option.{Option, none, some}
 use lib.Dec.{T, ltb, eqb}
-use lib.Ieee.Fits.{and-l, and-r}
+use lib.Ieee.Fits.{and-i, and-l, and-r}
 use lib.ListN.{length, getD, getElem?, take, drop}
 use lib.Seq.{drop-cons}
 use borrow.Author.Tests.{ltb-true, ltb-false}
@@ -34,6 +34,15 @@ pub every-at : {A : Type 0} (test : A → Bool) (xs : List A) → T (every test 
 unfolding every
 every-at test [] h = all-none (λ x. T (test x))
 every-at test (x ∷ xs) h = all-cons (λ y. T (test y)) (and-l (test x) (every test xs) h) (every-at test xs (and-r (test x) (every test xs) h))
+
+-- a test that each item passes by two others
+pub every-both : {A : Type 0} (p q r : A → Bool) → ((x : A) → T (p x) → T (q x) → T (r x)) → (xs : List A)
+    → T (every p xs) → T (every q xs) → T (every r xs)
+unfolding every
+every-both p q r h [] a b = tt
+every-both p q r h (x ∷ xs) a b =
+    and-i (r x) (every r xs) (h x (and-l (p x) (every p xs) a) (and-l (q x) (every q xs) b))
+    (every-both p q r h xs (and-r (p x) (every p xs) a) (and-r (q x) (every q xs) b))
 
 pub each-same : (p q : ℕ → Bool) (i k : ℕ) → ((j : ℕ) → i ≤ j → j < i + k → p j ≡ q j) → each p i k ≡ each q i k
 unfolding each

@@ -1,5 +1,5 @@
 -- A new line in the memory of a state: the cycle in the stores, and the entry of its sender.
-use Prim.Native.Nat.{ℕ, suc, _+_, _-_, _*_, _/_, _%_, _≤_, _<_}
+use Prim.Native.Nat.{ℕ, _+_, _-_, _*_, _/_, _%_, _≤_, _<_}
 use native.Mathlib.Omega.{arith}
 use mathlib.Core.Path.{_≡_, refl, sym, ap, ap₂, _∙_, subst}
 use mathlib.Core.Bool.{Bool, true, false, cond}
@@ -7,25 +7,44 @@ use mathlib.Core.List.{List, _++_}
 use mathlib.Core.Option.{some}
 use lib.ListN.{length, getD, set, take, drop}
 use lib.Seq.{take-at, drop-at, drop-drop, length-take-le}
-use Rattle.values.specs.declared.Value.{Value}
 use Rattle.values.specs.declared.Value.the-variants.{Unset}
 use Rattle.values.specs.definitions.Cells.{cell-bytes, cell-at}
-use Rattle.values.specs.definitions.Bytes.{low-first}
 use Rattle.text.specs.definitions.Syntax.{File}
 use Rattle.checking.specs.definitions.Scope.{member-of, is-action}
 use Rattle.checking.proofs.laws.VerdictLaws.{accepted-verdict}
-use Rattle.cycles.specs.definitions.Store.{Store, Inputs, Stores}
+use Rattle.cycles.specs.definitions.Store.{Stores}
 use Rattle.cycles.specs.definitions.Cycle.{is-sort}
 use Rattle.cycles.specs.definitions.SoundStores.{Sound-stores}
-use Rattle.cycles.specs.definitions.Planes.{entity-count, table, input-bytes, cells-of, encode-store, encode-stores, decode-stores, are-stores, with-stores, stores-size}
+use Rattle.cycles.specs.definitions.Planes.{
+  entity-count,
+  table,
+  input-bytes,
+  cells-of,
+  encode-store,
+  encode-stores,
+  decode-stores,
+  are-stores,
+  with-stores,
+  stores-size,
+}
 use Rattle.cycles.specs.contracts.TotalMachine.{cycle}
 use Rattle.cycles.specs.contracts.LineReads.{input-table}
 use Rattle.cycles.specs.contracts.CycleMemory.{Cycled}
 use Rattle.cycles.specs.contracts.PlaneMemory.{gathered}
 use Rattle.cycles.proofs.laws.TableLaws.{begins-with, table-same, table-from}
-use Rattle.cycles.proofs.laws.CellNumbers.{cell-entity, cell-member}
 use Rattle.cycles.proofs.laws.CellTokenLaws.{few-within}
-use Rattle.cycles.proofs.laws.PlaneParts.{flag-piece, cell-piece, input-piece, flag-sized, cell-sized, input-sized, plane-cells, store-encoded, stores-begin, cell-back}
+use Rattle.cycles.proofs.laws.PlaneParts.{
+  flag-piece,
+  cell-piece,
+  input-piece,
+  flag-sized,
+  cell-sized,
+  input-sized,
+  plane-cells,
+  store-encoded,
+  stores-begin,
+  cell-back,
+}
 use Rattle.cycles.proofs.laws.PlaneTestLaws.{behind, behind-all}
 use Rattle.cycles.proofs.laws.GatheredLaws.{area-taken}
 use Rattle.cycles.proofs.laws.SoundCycle.{cycle-sound}
@@ -40,7 +59,7 @@ use Rattle.senders.specs.contracts.Advancing.{Resolved-bench, Followed}
 use Rattle.senders.proofs.laws.SenderImage.{kept-sized, sender-encoded}
 use Rattle.senders.proofs.laws.LentLaws.{with-behind, given-back}
 use Rattle.senders.proofs.laws.SenderLaws.{place-within}
-use Rattle.senders.proofs.laws.StateLaws.{image-fits, image-next, state-decoded-sound}
+use Rattle.senders.proofs.laws.StateLaws.{state-decoded-sound}
 use Rattle.senders.proofs.laws.StateCanonical.{stores-there, stores-tested, known-is}
 use Rattle.senders.proofs.laws.FollowMemory.{put-sender, known-followed, new-followed}
 
@@ -146,12 +165,6 @@ module _ {text classes offsets lengths literals d refs scopes : List ℕ} (b : R
         ∙ new-followed print f m h (b .checked .few .entities) big low next x (subst (λ (k : ℕ). getD m 4 0 ≤ k) at-is q)
 
 -- ---- as code does it
-
--- room for the part of any sender
-pub part-room : {n at part : ℕ} → part ≡ image-size n at → n ≤ 32 → at < 8 → part + sender-size n ≤ STATE
-part-room {n} {at} {part} e few room =
-    let k : image-size n at + sender-size n ≤ STATE = subst (λ (k : ℕ). k ≤ STATE) (image-next n at) (image-fits n (suc at) few (omega arith)) in
-    subst (λ (i : ℕ). i + sender-size n ≤ STATE) (sym e) k
 
 module _ (classes literals d refs scopes name : List ℕ) (at last : ℕ) (flags cells m : List ℕ) {n : ℕ} (e : n ≡ getD d 1 0)
     (big : STATE ≤ length m) (low : (i : ℕ) → getD m i 0 < 256) {u : List ℕ} (cycles : Cycled classes literals d refs scopes flags cells (behind 5 m) u)

@@ -1,24 +1,20 @@
 -- A line's readings beside those that are kept, as the code compares them: the flags, then cell by cell.
-use Prim.Native.Nat.{ℕ, zero, suc, _+_, _-_, _*_, _/_, _%_, _≤_, _<_}
+use Prim.Native.Nat.{ℕ, _+_, _-_, _*_, _≤_, _<_}
 use native.Mathlib.Omega.{arith}
-use mathlib.Core.Path.{_≡_, refl, sym, ap, ap₂, _∙_}
-use mathlib.Core.Bool.{Bool, true, false, not, _&&_, _||_}
+use mathlib.Core.Path.{_≡_, sym, ap, _∙_}
+use mathlib.Core.Bool.{Bool, true, false, not, _&&_}
 use mathlib.Core.List.{List}
 use lib.ListN.{length, getD, take, drop}
 use borrow.Author.Tests.{not-true, not-false}
 use Rattle.values.specs.definitions.Bytes.{same-bytes}
-use Rattle.text.specs.definitions.Syntax.{File}
 use Rattle.checking.specs.contracts.DirectoryReads.{Few}
 use Rattle.checking.specs.contracts.Directory.{Bench}
-use Rattle.cycles.specs.definitions.Store.{Inputs}
-use Rattle.cycles.specs.definitions.Planes.{entity-count, each, kept-fits, plane-fits}
+use Rattle.cycles.specs.definitions.Planes.{entity-count, each}
 use Rattle.cycles.specs.contracts.CellTokens.{Cell-token, Sort-test}
 use Rattle.cycles.proofs.laws.CellTokenLaws.{few-within}
 use Rattle.cycles.proofs.laws.TableLaws.{each-fails, each-goes-on, each-ends}
 use Rattle.cycles.proofs.laws.PlaneTestLaws.{behind, behind-all}
-use Rattle.senders.specs.definitions.Line.{same-inputs}
-use Rattle.senders.specs.definitions.StateImage.{decode-inputs}
-use Rattle.senders.specs.contracts.Judging.{same-cell, Same-reading, Inputs-stand, Same-read}
+use Rattle.senders.specs.contracts.Judging.{same-cell, Same-reading, Same-read}
 use Rattle.senders.proofs.laws.SameInputsLaws.{same-read}
 use Rattle.senders.proofs.steps.KeptSteps.{action-told}
 

@@ -1,14 +1,15 @@
 -- What is kept of a line, as the code puts it: cell by cell, and then a sender's whole part.
 use Prim.Native.Nat.{ℕ, suc, _+_, _-_, _*_, _/_, _%_, _≤_, _<_}
 use native.Mathlib.Omega.{arith}
-use mathlib.Core.Path.{_≡_, refl, sym, ap, _∙_}
+use mathlib.Core.Path.{_≡_, sym, ap, _∙_}
 use mathlib.Core.Bool.{Bool, true, false, cond}
-use mathlib.Core.List.{List, [], _∷_, _++_}
-use lib.ListN.{length, set, take, drop, replicate, length-drop, length-replicate}
-use lib.Seq.{length-take-le}
+use mathlib.Core.List.{List, _∷_, _++_, append-assoc}
+use lib.ListN.{length, set, take, drop, replicate, length-drop, length-replicate, take-append-drop}
+use lib.Seq.{length-take-le, drop-at, drop-drop}
 use Rattle.values.specs.definitions.Bytes.{low-first, overwritten}
 use Rattle.values.specs.definitions.Cells.{cell-bytes, cell-at, with-cell}
 use Rattle.values.specs.contracts.Puts.{Put}
+use Rattle.values.proofs.laws.ByteLaws.{overwritten-parts}
 use Rattle.values.proofs.laws.PutLaws.{put-said, put-byte, put-next, put-same}
 use Rattle.values.proofs.laws.StorableLaws.{length-cell-bytes}
 use Rattle.text.specs.definitions.Syntax.{File}
@@ -26,6 +27,18 @@ use Rattle.senders.specs.definitions.StateImage.{sender-size, name-bytes
 use Rattle.senders.specs.contracts.SenderMemory.{kept-at, Kept-cell-put, Kept-put, part-of}
 use Rattle.senders.proofs.laws.LentLaws.{with-behind, put-behind}
 
+-- bytes that are put where they stand
+put-back : (l : List ℕ) (at n : ℕ) → at + n ≤ length l → overwritten l at (take n (drop at l)) ≡ l
+put-back l at n h =
+    let d = length-drop at l in
+    let k : length (take n (drop at l)) ≡ n = length-take-le n (drop at l) (omega arith) in
+    overwritten-parts l at (take n (drop at l)) (omega arith)
+    ∙ ap (λ (j : ℕ). take at l ++ take n (drop at l) ++ drop (at + j) l) k
+    ∙ append-assoc (take at l) (take n (drop at l)) (drop (at + n) l)
+    ∙ ap (λ (m : List ℕ). take at l ++ (take n (drop at l) ++ m)) (sym (drop-drop n at l))
+    ∙ ap (λ (m : List ℕ). take at l ++ m) (take-append-drop n (drop at l))
+    ∙ take-append-drop at l
+
 -- ---- is a cell an action's?
 
 module _ {classes d : List ℕ} {i token : ℕ} {r : Bool} (t : Cell-token d i token) (s : Sort-test classes token 6 r) where
@@ -41,14 +54,10 @@ module _ {classes d : List ℕ} {i token : ℕ} {r : Bool} (t : Cell-token d i t
     unfolding kept-at
     fired-kept e p = record { is = λ text offsets lengths w c. rw (action-told text offsets lengths w c, e) p }
 
-    pub reading-kept : r ≡ false → after ≡ overwritten before (i * 9) (take (i * 9 + 9 - i * 9) (drop (i * 9) inputs))
-        → Kept-cell-put classes d inputs fired i before after
+  module _ {fired before : List ℕ} where
+    pub reading-kept : r ≡ false → i * 9 + 9 ≤ length before → Kept-cell-put classes d before fired i before before
     unfolding kept-at
-    reading-kept e p = record {
-      is = λ text offsets lengths w c.
-          let n : i * 9 + 9 - i * 9 ≡ 9 = omega arith in
-          rw (action-told text offsets lengths w c, e) (p ∙ ap (λ (k : ℕ). overwritten before (i * 9) (take k (drop (i * 9) inputs))) n);
-    }
+    reading-kept e h = record { is = λ text offsets lengths w c. rw (action-told text offsets lengths w c, e) (sym (put-back before (i * 9) 9 h)) }
 
 -- ---- one cell after another
 
@@ -64,21 +73,32 @@ pub record Kept-so-far (classes d inputs fired : List ℕ) (i : ℕ) (before aft
   pub is : (text offsets lengths : List ℕ) (w : Bench text classes offsets lengths d) → Few (w .file)
       → Put (table (kept-at inputs fired (w .file)) 0 i) before 0 after (i * 9)
 
-module _ {classes d inputs fired before : List ℕ} where
-  pub none-kept : Kept-so-far classes d inputs fired 0 before before
-  none-kept = record { is = λ text offsets lengths w c. put-no-piece (kept-at inputs fired (w .file)) before 0 }
+-- behind the cells that are put the inputs stand as they were
+same-behind : (inputs fired : List ℕ) (f : File) (i : ℕ) {now : List ℕ} → Put (table (kept-at inputs fired f) 0 i) inputs 0 now (i * 9) → i * 9 ≤ length inputs
+    → kept-at now fired f i ≡ kept-at inputs fired f i
+unfolding kept-at
+same-behind inputs fired f i {now} p h =
+    let q = put-in-front p h in
+    let e : drop (i * 9) now ≡ drop (i * 9) inputs =
+    ap (drop (i * 9)) (q .is) ∙ drop-at (table (kept-at inputs fired f) 0 i) (drop (i * 9) inputs) (i * 9) (sym (q .count)) in
+    ap (λ (m : List ℕ). cond (is-sort is-action (member-of f (i / 12) (i % 12))) (cell-bytes (cell-at fired i)) (take 9 m)) e
 
-  module _ {i : ℕ} {now : List ℕ} (p : Kept-so-far classes d inputs fired i before now) where
-    pub one-more-kept : {after : List ℕ} → i * 9 + 9 ≤ length inputs → Kept-cell-put classes d inputs fired i now after
-        → Kept-so-far classes d inputs fired (i + 1) before after
+module _ {classes d inputs fired : List ℕ} where
+  pub none-kept : Kept-so-far classes d inputs fired 0 inputs inputs
+  none-kept = record { is = λ text offsets lengths w c. put-no-piece (kept-at inputs fired (w .file)) inputs 0 }
+
+  module _ {i : ℕ} {now : List ℕ} (p : Kept-so-far classes d inputs fired i inputs now) where
+    pub one-more-kept : {after : List ℕ} → i * 9 + 9 ≤ length inputs → Kept-cell-put classes d now fired i now after
+        → Kept-so-far classes d inputs fired (i + 1) inputs after
     one-more-kept h k = record {
       is = λ text offsets lengths w c.
+          let q = p .is text offsets lengths w c in
           let l = length-kept-at inputs fired (w .file) i h in
-          put-piece (kept-at inputs fired (w .file)) i (p .is text offsets lengths w c)
-          (record { end = omega arith; is = k .is text offsets lengths w c });
+          put-piece (kept-at inputs fired (w .file)) i q
+          (record { end = omega arith; is = k .is text offsets lengths w c ∙ ap (overwritten now (i * 9)) (same-behind inputs fired (w .file) i q (omega arith)) });
     }
 
-    pub all-kept : (n : ℕ) → i ≡ n → n * 9 ≤ length before → Kept-put classes d inputs fired n before now
+    pub all-kept : (n : ℕ) → i ≡ n → n * 9 ≤ length inputs → Kept-put classes d inputs fired n inputs now
     all-kept n e h = record {
       is = λ text offsets lengths w c. put-in-front (rw e at (p .is text offsets lengths w c)) h .is;
     }

@@ -1,16 +1,14 @@
 -- The senders' parts of a state image, as the code finds and tests them: one after another.
-use Prim.Native.Nat.{ℕ, zero, suc, _+_, _-_, _*_, _≤_, _<_}
+use Prim.Native.Nat.{ℕ, suc, _+_, _-_, _*_, _≤_, _<_}
 use native.Mathlib.Nat.{suc-mul, mul-le-mul-right}
 use native.Mathlib.Omega.{arith}
-use mathlib.Core.Path.{_≡_, refl, sym, ap, ap₂, _∙_, subst}
-use mathlib.Core.Bool.{Bool, true, false, cond, not, _&&_, false≢true}
-use mathlib.Core.List.{List, [], _∷_}
-use lib.Dec.{T, leb, ltb, eqb}
-use lib.Ieee.Bits.{is-true}
-use lib.Ieee.Fits.{and-l}
+use mathlib.Core.Path.{_≡_, refl, sym, ap, ap₂, _∙_}
+use mathlib.Core.Bool.{Bool, true, false, not, _&&_}
+use mathlib.Core.List.{List}
+use lib.Dec.{eqb}
 use lib.ListN.{length, getD, take, drop, length-take, length-drop}
 use lib.Seq.{drop-drop}
-use borrow.Author.Tests.{leb-true, le-leb, lt-leb, lt-ltb, ne-eqb}
+use borrow.Author.Tests.{le-leb, lt-leb, lt-ltb}
 use Rattle.values.specs.definitions.Bytes.{same-bytes, word-at}
 use Rattle.values.proofs.laws.ByteLaws.{same-bytes-equal}
 use Rattle.text.specs.definitions.Syntax.{File}
@@ -21,11 +19,11 @@ use Rattle.cycles.specs.definitions.Planes.{entity-count, kept-fits, plane-fits
 use Rattle.cycles.specs.contracts.PlaneMemory.{fit-of, bound-of, Plane-test}
 use Rattle.cycles.proofs.laws.TableLaws.{word-drop}
 use Rattle.cycles.proofs.laws.PlaneTestLaws.{behind, behind-all}
-use Rattle.senders.specs.definitions.Sender.{is-sender, is-known}
+use Rattle.senders.specs.definitions.Sender.{is-sender, is-known-sender}
 use Rattle.senders.specs.definitions.StateImage.{
   sender-size,
-  name-in,
-  number-in,
+  part-name,
+  part-number,
   next-sender,
   decode-sender,
   decode-senders,
@@ -35,7 +33,9 @@ use Rattle.senders.specs.definitions.StateImage.{
   are-senders,
 }
 use Rattle.senders.specs.contracts.SenderMemory.{place, Place-read, Part-test, Parts-test}
-use Rattle.senders.proofs.laws.PartLaws.{decoded-length, passing-part, known-in-place, not-known}
+use Rattle.senders.proofs.laws.SenderLaws.{below-known, last-unknown}
+use Rattle.senders.proofs.laws.SenderImage.{part-passes}
+use Rattle.senders.proofs.laws.StateLaws.{length-decoded}
 
 -- ---- sizes
 
@@ -51,25 +51,25 @@ by-row count n k e h = rw e h
 
 -- the bytes that code lends for the name
 pub name-lent : (part : List ℕ) → getD part 0 0 ≤ 24 → (length (take (getD part 0 0 + 1 - 1) (drop 1 part)) ≤ 24)
-    × (getD part 0 0 ≤ 24 → take (getD part 0 0 + 1 - 1) (drop 1 part) ≡ name-in part)
+    × (getD part 0 0 ≤ 24 → take (getD part 0 0 + 1 - 1) (drop 1 part) ≡ part-name part)
 name-lent part h =
     let k : getD part 0 0 + 1 - 1 ≡ getD part 0 0 = omega arith in
     (rw (length-take (getD part 0 0 + 1 - 1) (drop 1 part)) (omega arith), λ g. ap (λ (n : ℕ). take n (drop 1 part)) k)
 
 pub this-length : (part name : List ℕ) {r : Bool} → r ≡ same-bytes name (take (length name + 1 - 1) (drop 1 part)) → getD part 0 0 ≡ length name
-    → r ≡ same-bytes name (name-in part)
+    → r ≡ same-bytes name (part-name part)
 this-length part name h e =
     let k : length name + 1 - 1 ≡ getD part 0 0 = omega arith in
     h ∙ ap (λ (n : ℕ). same-bytes name (take n (drop 1 part))) k
 
 -- another length, another name
 pub other-length : (part name : List ℕ) → 29 ≤ length part → length name ≤ 24 → (getD part 0 0 ≡ length name → ⊥)
-    → false ≡ same-bytes name (name-in part)
-other-length part name l h d = go (same-bytes name (name-in part)) refl
+    → false ≡ same-bytes name (part-name part)
+other-length part name l h d = go (same-bytes name (part-name part)) refl
   where
-    go : (b : Bool) → same-bytes name (name-in part) ≡ b → false ≡ b
+    go : (b : Bool) → same-bytes name (part-name part) ≡ b → false ≡ b
     go true e =
-        let n = ap length (same-bytes-equal name (name-in part) e) ∙ length-take (getD part 0 0) (drop 1 part) in
+        let n = ap length (same-bytes-equal name (part-name part) e) ∙ length-take (getD part 0 0) (drop 1 part) in
         let k = length-drop 1 part in
         absurd (d (omega arith))
     go false e = refl
@@ -118,9 +118,9 @@ module _ {parts : List ℕ} {size count : ℕ} {name : List ℕ} where
           let b = one-part (count - i) size (omega arith) in
           omega arith
 
-      module _ {r : Bool} (s : r ≡ same-bytes name (name-in (behind at parts))) where
-        first-name : same-bytes name (name-in (drop at parts)) ≡ r
-        first-name = ap (λ (l : List ℕ). same-bytes name (name-in l)) (sym (behind-all at parts)) ∙ sym s
+      module _ {r : Bool} (s : r ≡ same-bytes name (part-name (behind at parts))) where
+        first-name : same-bytes name (part-name (drop at parts)) ≡ r
+        first-name = ap (λ (l : List ℕ). same-bytes name (part-name l)) (sym (behind-all at parts)) ∙ sym s
 
         pub place-found : r ≡ true → Place-read parts size count name i
         unfolding place decode-senders decode-sender
@@ -157,11 +157,11 @@ module _ (part : List ℕ) where
   long-name h = rw (lt-leb (getD part 0 0) 24 h)
 
   module _ (h : getD part 0 0 ≤ 24) where
-    pub no-sender : is-sender (name-in part) ≡ false → false ≡ is-sender-head part
+    pub no-sender : is-sender (part-name part) ≡ false → false ≡ is-sender-head part
     unfolding is-sender-head
     no-sender e = rw (le-leb (getD part 0 0) 24 h, e)
 
-    module _ (e : is-sender (name-in part) ≡ true) where
+    module _ (e : is-sender (part-name part) ≡ true) where
       pub not-padded : is-padded part ≡ false → false ≡ is-sender-head part
       unfolding is-sender-head
       not-padded q = rw (le-leb (getD part 0 0) 24 h, e, q)
@@ -169,7 +169,7 @@ module _ (part : List ℕ) where
       pub head-number : is-padded part ≡ true → {r : ℕ} → r ≡ word-at 4 (behind 25 part) 0 → r < 4294967296 → not (eqb r 0) ≡ is-sender-head part
       unfolding is-sender-head
       head-number q {r} n l =
-          let k : r ≡ number-in part = n ∙ ap (λ (l : List ℕ). word-at 4 l 0) (behind-all 25 part) ∙ word-drop 4 25 part 0 in
+          let k : r ≡ part-number part = n ∙ ap (λ (l : List ℕ). word-at 4 l 0) (behind-all 25 part) ∙ word-drop 4 25 part 0 in
           rw (le-leb (getD part 0 0) 24 h, e, q, ← k, lt-ltb r 4294967296 l) (go (not (eqb r 0)))
         where
           go : (b : Bool) → b ≡ (b && true)
@@ -230,7 +230,7 @@ module _ {classes d parts : List ℕ} {size count : ℕ} where
 
         -- the name of a part that passes, among the parts after it
         module _ (t : r ≡ true) {n : ℕ} (e : n ≡ getD d 1 0) (z : size ≡ 29 + 109 * n) {name : List ℕ}
-            (g : getD (behind at parts) 0 0 ≤ 24 → name ≡ name-in (behind at parts)) {x : ℕ}
+            (g : getD (behind at parts) 0 0 ≤ 24 → name ≡ part-name (behind at parts)) {x : ℕ}
             (q : Place-read (behind (at + size) parts) size (left - 1) name x) where
           module _ (text offsets lengths : List ℕ) (w : Bench text classes offsets lengths d) (c : Few (w .file)) where
             abbrev f : File
@@ -242,31 +242,31 @@ module _ {classes d parts : List ℕ} {size count : ℕ} where
             its-size : sender-size (entity-count f) ≡ size
             its-size = let k = e ∙ w .directory .entities in omega arith
 
-            its-name : name ≡ name-in (drop at parts)
+            its-name : name ≡ part-name (drop at parts)
             its-name =
-                g (passing-part f (behind at parts) (sym (s .is text offsets lengths w c) ∙ t) .short) ∙ ap name-in (behind-all at parts)
+                g (part-passes f (behind at parts) (sym (s .is text offsets lengths w c) ∙ t) .size) ∙ ap part-name (behind-all at parts)
 
-            its-place : x ≡ place (name-in (drop at parts)) (decode-senders f (left - 1) after)
+            its-place : x ≡ place (part-name (drop at parts)) (decode-senders f (left - 1) after)
             its-place =
                 q .is f its-size ∙ ap₂ (λ (y l : List ℕ). place y (decode-senders f (left - 1) l)) its-name (behind-all (at + size) parts)
 
             next-is : next-sender (entity-count f) (drop at parts) ≡ after
             next-is = ap (λ (k : ℕ). drop k (drop at parts)) its-size ∙ drop-drop size at parts
 
-            known : (x ≡ left - 1 → ⊥) → is-known (name-in (drop at parts)) (decode-senders f (left - 1) after) ≡ true
+            known : (x ≡ left - 1 → ⊥) → is-known-sender (part-name (drop at parts)) (decode-senders f (left - 1) after) ≡ true
             known other =
                 let xs = decode-senders f (left - 1) after in
-                let l = decoded-length f (left - 1) after in
+                let l = length-decoded f (left - 1) after in
                 let i = q .within in
-                let u : x ≡ place (name-in (drop at parts)) xs = its-place in
-                known-in-place (name-in (drop at parts)) xs (omega (arith, other))
+                let u : x ≡ place (part-name (drop at parts)) xs = its-place in
+                below-known (part-name (drop at parts)) xs (omega (arith, other))
 
-            unknown : x ≡ left - 1 → is-known (name-in (drop at parts)) (decode-senders f (left - 1) after) ≡ false
+            unknown : x ≡ left - 1 → is-known-sender (part-name (drop at parts)) (decode-senders f (left - 1) after) ≡ false
             unknown same =
                 let xs = decode-senders f (left - 1) after in
-                let l = decoded-length f (left - 1) after in
-                let u : x ≡ place (name-in (drop at parts)) xs = its-place in
-                not-known (name-in (drop at parts)) xs (omega arith)
+                let l = length-decoded f (left - 1) after in
+                let u : x ≡ place (part-name (drop at parts)) xs = its-place in
+                last-unknown (part-name (drop at parts)) xs (omega arith)
 
           pub name-twice : (x ≡ left - 1 → ⊥) → Parts-test classes d parts count false
           unfolding are-senders

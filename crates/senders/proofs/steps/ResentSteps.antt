@@ -1,5 +1,5 @@
 -- The last number of the sender at a place of a state in memory, and whether a line is the one that was sent last.
-use Prim.Native.Nat.{ℕ, suc, _+_, _≤_, _<_}
+use Prim.Native.Nat.{ℕ, _+_, _≤_, _<_}
 use native.Mathlib.Nat.{mul-le-mul}
 use native.Mathlib.Omega.{arith}
 use mathlib.Core.Path.{_≡_, sym, ap, _∙_}
@@ -14,7 +14,7 @@ use Rattle.values.specs.definitions.Bytes.{word-at}
 use Rattle.text.specs.definitions.Syntax.{File}
 use Rattle.cycles.specs.definitions.Planes.{MOST-CELL-BYTES, entity-count}
 use Rattle.cycles.proofs.laws.TableLaws.{word-drop}
-use Rattle.senders.specs.definitions.Sender.{Sender, State, Line, is-known, unknown, kept}
+use Rattle.senders.specs.definitions.Sender.{Sender, State, Line, is-known-sender, unknown, kept}
 use Rattle.senders.specs.definitions.Line.{same-inputs, is-resent}
 use Rattle.senders.specs.definitions.StateImage.{sender-size, image-size, STATE, known-count, kept-plane, decode-inputs, decode-sender}
 use Rattle.senders.specs.contracts.SenderMemory.{place}
@@ -22,14 +22,13 @@ use Rattle.senders.specs.contracts.Judging.{Same-read}
 use Rattle.senders.specs.contracts.Advancing.{Last-read, Resent-read}
 use Rattle.senders.proofs.laws.SenderLaws.{below-known, last-unknown}
 use Rattle.senders.proofs.laws.SenderImage.{part-passes}
-use Rattle.senders.proofs.laws.StateLaws.{image-fits, image-next}
+use Rattle.senders.proofs.laws.StateLaws.{part-room}
 use Rattle.senders.proofs.laws.StateCanonical.{known-is, sender-tested, kept-stands, unknown-stands}
 
 -- a state's memory has room for the part at each place
 pub part-fits : (n at : ℕ) {from : ℕ} (m : List ℕ) → n ≤ 32 → at < 8 → STATE ≤ length m → from ≡ image-size n at → from + sender-size n ≤ length m
 part-fits n at m a b h e =
-    let f = image-fits n (suc at) a (omega arith) in
-    let g = image-next n at in
+    let r = part-room e a b in
     omega arith
 
 -- and behind its flags for the cells of as many entities as a file may have
@@ -68,15 +67,15 @@ module _ {state : List ℕ} {n at : ℕ} where
 -- ---- a line that is sent again
 
 module _ (f : File) (s : State) (l : Line) where
-  resent-unknown : is-known (l .sender) (s .senders) ≡ false → false ≡ is-resent f s l
+  resent-unknown : is-known-sender (l .sender) (s .senders) ≡ false → false ≡ is-resent f s l
   unfolding is-resent
   resent-unknown h = rw h
 
-  resent-other : is-known (l .sender) (s .senders) ≡ true → eqb (l .number) (kept (l .sender) (s .senders) .last) ≡ false → false ≡ is-resent f s l
+  resent-other : is-known-sender (l .sender) (s .senders) ≡ true → eqb (l .number) (kept (l .sender) (s .senders) .last) ≡ false → false ≡ is-resent f s l
   unfolding is-resent
   resent-other h g = rw (h, g)
 
-  resent-same : is-known (l .sender) (s .senders) ≡ true → eqb (l .number) (kept (l .sender) (s .senders) .last) ≡ true
+  resent-same : is-known-sender (l .sender) (s .senders) ≡ true → eqb (l .number) (kept (l .sender) (s .senders) .last) ≡ true
       → same-inputs f (kept (l .sender) (s .senders) .inputs) (l .inputs) ≡ is-resent f s l
   unfolding is-resent
   resent-same h g = rw (h, g)

@@ -35,7 +35,7 @@ use Rattle.senders.specs.definitions.StateImage.{
   sender-size,
   image-size,
   known-count,
-  name-in,
+  part-name,
   decode-fired,
   decode-sender,
   decode-senders,
@@ -140,7 +140,7 @@ part-fired f part {n} q e m y p a =
     rw (p, t) (ap (λ (l : List ℕ). cell-at l (e * 12 + m)) (drop-drop (entity-count f) 29 part ∙ ap (λ (k : ℕ). drop (29 + k) part) (sym q)))
 
 pub place-shown : {classes d state before after part name cells : List ℕ} {n at from last r : ℕ} → n ≡ getD d 1 0 → from ≡ image-size n at
-    → part ≡ drop from state → (getD part 0 0 ≤ 24 → name ≡ name-in part) → last ≡ word-at 4 (drop 25 part) 0 → cells ≡ drop (29 + n) part
+    → part ≡ drop from state → (getD part 0 0 ≤ 24 → name ≡ part-name part) → last ≡ word-at 4 (drop 25 part) 0 → cells ≡ drop (29 + n) part
     → Row-put classes d name last cells before after r
     → Place-shown classes d state at before after r
 unfolding decode-sender

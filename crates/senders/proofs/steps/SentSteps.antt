@@ -8,7 +8,7 @@ use lib.Dec.{T, leb, eqb, leb→le}
 use lib.Ieee.Fits.{and-l, and-r}
 use lib.ListN.{length}
 use Rattle.senders.specs.definitions.Sender.{MOST-NAME-BYTES, MOST-SENDERS, is-sender}
-use Rattle.senders.specs.definitions.Line.{MOST-LINES, in-turn}
+use Rattle.senders.specs.definitions.Line.{GREATEST-NUMBER, in-turn}
 use Rattle.senders.specs.definitions.StateImage.{STATE, image-size}
 use Rattle.senders.proofs.laws.SenderLaws.{name-short}
 use Rattle.senders.proofs.laws.StateLaws.{image-fits}
@@ -24,7 +24,7 @@ sender-short name e q = name-short name (subst T (sym q ∙ e) tt)
 pub turn-fits : (last n : ℕ) {t : Bool} → t ≡ in-turn last n → t ≡ true → n % 4294967296 ≡ n
 unfolding in-turn
 turn-fits last n e q =
-    let h : T (not (eqb n 0) && (leb n MOST-LINES && (eqb n last || eqb n (last + 1)))) = subst T (sym q ∙ e) tt in
-    let a = and-r (not (eqb n 0)) (leb n MOST-LINES && (eqb n last || eqb n (last + 1))) h in
-    let k = leb→le n MOST-LINES (and-l (leb n MOST-LINES) (eqb n last || eqb n (last + 1)) a) in
+    let h : T (not (eqb n 0) && (leb n GREATEST-NUMBER && (eqb n last || eqb n (last + 1)))) = subst T (sym q ∙ e) tt in
+    let a = and-r (not (eqb n 0)) (leb n GREATEST-NUMBER && (eqb n last || eqb n (last + 1))) h in
+    let k = leb→le n GREATEST-NUMBER (and-l (leb n GREATEST-NUMBER) (eqb n last || eqb n (last + 1)) a) in
     omega arith

@@ -1,17 +1,15 @@
 -- The state image as the code tests it, and as it writes the fresh state.
-use Prim.Native.Nat.{ℕ, _+_, _*_, _≤_, _<_}
+use Prim.Native.Nat.{ℕ, _+_, _≤_, _<_}
 use native.Mathlib.Omega.{arith}
 use mathlib.Core.Path.{_≡_, refl, sym, ap, ap₂, _∙_}
-use mathlib.Core.Bool.{Bool, true, false, _&&_}
+use mathlib.Core.Bool.{Bool, true, false}
 use mathlib.Core.List.{List, [], _∷_, _++_, append-nil, append-assoc}
-use lib.Dec.{leb, eqb}
 use lib.ListN.{length, getD, set, take, drop}
-use lib.Seq.{drop-drop, take-at, drop-at}
+use lib.Seq.{drop-drop}
 use borrow.Author.Tests.{le-leb, lt-leb, eq-eqb, ne-eqb}
 use Rattle.values.specs.definitions.Bytes.{word-at, low-first, overwritten}
 use Rattle.values.specs.contracts.Puts.{Put}
 use Rattle.values.proofs.laws.PutLaws.{put-byte, put-next}
-use Rattle.text.specs.definitions.Syntax.{File}
 use Rattle.checking.specs.contracts.DirectoryReads.{Few}
 use Rattle.checking.specs.contracts.Directory.{Bench}
 use Rattle.cycles.specs.definitions.Planes.{entity-count, stores-size, encode-stores, are-stores, with-stores}
@@ -21,7 +19,7 @@ use Rattle.cycles.specs.contracts.FreshMemory.{Fresh-put}
 use Rattle.cycles.proofs.laws.PlaneTestLaws.{behind, behind-all}
 use Rattle.cycles.proofs.laws.PutLaws.{put-in-front}
 use Rattle.senders.specs.definitions.Follow.{fresh}
-use Rattle.senders.specs.definitions.StateImage.{image-size, stores-part, senders-part, known-count, encode-senders, encode, are-senders, is-state, with-state}
+use Rattle.senders.specs.definitions.StateImage.{image-size, stores-part, encode-senders, encode, are-senders, is-state, with-state}
 use Rattle.senders.specs.contracts.SenderMemory.{Parts-test, State-test}
 use Rattle.senders.specs.contracts.RowMemory.{Fresh-state-put}
 use Rattle.senders.proofs.laws.LentLaws.{with-behind, given-back}

@@ -60,8 +60,8 @@ pub record Followed (classes literals d refs scopes name : List ℕ) (at number 
       → new-state ≡ with-state print (b .checked .bench .file) (follow (b .checked .bench .file) s (new l)) state
 
 -- what a record says, of which the values are read
-abbrev pub said : Sent → List Input → Reading
-said x is = record { sender = x .sender; number = x .number; inputs = is }
+abbrev pub reading-with : Sent → List Input → Reading
+reading-with x is = record { sender = x .sender; number = x .number; inputs = is }
 
 -- a line that is read, of the sender at a place: its number, and its inputs in areas of their own
 pub record Settled (classes literals d refs scopes name : List ℕ) (at number : ℕ) (flags cells state new-state : List ℕ) (r : Judgement) : Type 0 where
@@ -71,7 +71,7 @@ pub record Settled (classes literals d refs scopes name : List ℕ) (at number :
       → (x : Sent) → record-of (length cs) values ≡ some x → (is : List Input) → inputs-in cs (x .texts) ≡ some is
       → x .sender ≡ name → x .number ≡ number → at ≡ place name (s .senders)
       → Inputs-stand (b .checked .bench .file) flags cells (inputs-of is)
-      → Moves print (b .checked .bench .file) s (line-in (b .checked .bench .file) s (said x is)) state new-state r
+      → Moves print (b .checked .bench .file) s (line-in (b .checked .bench .file) s (reading-with x is)) state new-state r
 
 -- a record whose sender and number are read
 pub record Sent-taken (classes literals d refs scopes columns : List ℕ) (count : ℕ) (values name : List ℕ) (number : ℕ) (state new-state : List ℕ)

@@ -13,12 +13,12 @@ use Rattle.checking.specs.definitions.Scope.{member-of, is-action}
 use Rattle.cycles.specs.definitions.Store.{Inputs}
 use Rattle.cycles.specs.definitions.Cycle.{is-sort}
 use Rattle.cycles.specs.definitions.SoundStores.{Sound-inputs}
-use Rattle.cycles.specs.definitions.Planes.{CELL-BYTES, ENTITY-CELLS, ENTITY-CELL-BYTES, NO-READING, entity-count, kept-fits, plane-fits}
+use Rattle.cycles.specs.definitions.Planes.{CELL-BYTES, ENTITY-CELLS, ENTITY-CELL-BYTES, NO-READING, entity-count, kept-fits, plane-fits, KEPT-FLAGS}
 use Rattle.cycles.specs.contracts.LineReads.{presence-table, input-table}
 use Rattle.cycles.specs.contracts.CycleMemory.{present-by}
 use Rattle.senders.specs.declared.judge.Judgement.{Judgement}
 use Rattle.senders.specs.declared.judge.Judgement.the-variants.{Refused, New, Resent}
-use Rattle.senders.specs.definitions.Sender.{Sender, Line}
+use Rattle.senders.specs.definitions.Sender.{Sender}
 use Rattle.senders.specs.definitions.Answer.{Answer, refused, accepted}
 use Rattle.senders.specs.definitions.Line.{Accepted, new, resent, same-inputs}
 use Rattle.senders.specs.definitions.StateImage.{decode-inputs}
@@ -57,6 +57,6 @@ pub record Inputs-stand (f : File) (flags cells : List ℕ) (i : Inputs) : Type 
 -- are they the readings that a sender's plane keeps?
 pub record Same-read (classes d plane flags cells : List ℕ) (r : Bool) : Type 0 where
   pub is : (text offsets lengths : List ℕ) (w : Bench text classes offsets lengths d) → Few (w .file)
-      → plane-fits 3 (λ present. kept-fits) (w .file) plane ≡ true
+      → plane-fits KEPT-FLAGS (λ present. kept-fits) (w .file) plane ≡ true
       → (i : Inputs) → Inputs-stand (w .file) flags cells i
       → r ≡ same-inputs (w .file) (decode-inputs (w .file) plane) i

@@ -2,7 +2,7 @@
 use Prim.Native.Nat.{ℕ, suc, _*_, _/_, _%_, _≤_}
 use mathlib.Core.Path.{_≡_}
 use mathlib.Core.List.{List, [], _∷_, _++_}
-use mathlib.Core.Bool.{Bool, true, cond}
+use mathlib.Core.Bool.{Bool, cond}
 use lib.ListN.{take, drop}
 use Rattle.values.specs.definitions.Bytes.{same-bytes, low-first, overwritten}
 use Rattle.values.specs.definitions.Cells.{cell-bytes, cell-at}

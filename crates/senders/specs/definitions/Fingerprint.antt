@@ -5,10 +5,17 @@ use mathlib.Core.List.{List, [], _∷_}
 abbrev pub PRIME : ℕ
 PRIME = 4294967291
 
-unfoldable pub print-from : ℕ → List ℕ → ℕ
-print-from acc [] = acc
-print-from acc (b ∷ bs) = print-from ((acc * 257 + b + 1) % PRIME) bs
+abbrev pub BASE : ℕ
+BASE = 257
+
+-- with one byte more
+abbrev pub next-fingerprint : ℕ → ℕ → ℕ
+next-fingerprint print b = (print * BASE + b + 1) % PRIME
+
+unfoldable pub fingerprint-from : ℕ → List ℕ → ℕ
+fingerprint-from print [] = print
+fingerprint-from print (b ∷ bs) = fingerprint-from (next-fingerprint print b) bs
 
 unfoldable pub fingerprint : List ℕ → ℕ
-unfolding print-from
-fingerprint text = print-from 0 text
+unfolding fingerprint-from
+fingerprint text = fingerprint-from 0 text

@@ -1,6 +1,6 @@
 -- The state after an accepted line, and the fresh state (document 01, "The bare machine"; document 02, order 5).
 use Prim.Native.Nat.{ℕ}
-use mathlib.Core.List.{List, []}
+use mathlib.Core.List.{[]}
 use mathlib.Core.Bool.{cond}
 use Rattle.values.specs.declared.Value.{Value}
 use Rattle.values.specs.declared.Value.the-variants.{Unset}

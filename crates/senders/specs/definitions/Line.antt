@@ -1,20 +1,19 @@
 -- A header and a record in a state: 22, 21, 43, 42, 23 (form, kind), then the test for resent, 23 (absent), 24, 25 in the order of document 01's table
 -- and document 02's order 5; or an accepted line.
 use Prim.Native.Nat.{ℕ, _+_}
-use mathlib.Core.List.{List, [], _∷_}
+use mathlib.Core.List.{List}
 use mathlib.Core.Bool.{Bool, true, false, not, _&&_, _||_, Bool·beq}
 use mathlib.Core.Option.{Option, none, some}
 use lib.Dec.{leb, eqb}
 use lib.ListN.{length}
 use Rattle.values.specs.declared.Value.{Value}
 use Rattle.values.specs.definitions.Cells.{identical}
-use Rattle.text.specs.definitions.Syntax.{Entity, File}
-use Rattle.checking.specs.definitions.Scope.{Indexed}
-use Rattle.cycles.specs.definitions.Store.{Store, Inputs}
-use Rattle.cycles.specs.definitions.Spots.{Spot, numbered, every, cells}
+use Rattle.text.specs.definitions.Syntax.{File}
+use Rattle.cycles.specs.definitions.Store.{Inputs}
+use Rattle.cycles.specs.definitions.Spots.{numbered, every, cells}
 use Rattle.cycles.specs.definitions.Header.{Column, header}
 use Rattle.cycles.specs.definitions.Record.{Sent, record-of, Input, inputs-in, inputs-of, takes-input}
-use Rattle.senders.specs.definitions.Sender.{State, Line, is-sender, is-known, kept, has-room}
+use Rattle.senders.specs.definitions.Sender.{State, Line, is-sender, is-known-sender, kept, has-place}
 use Rattle.senders.specs.definitions.Answer.{Answer, refused, accepted, or-refused, if-accepted, if-passed}
 
 -- ---- what header and record say by themselves
@@ -76,18 +75,18 @@ same-inputs f i j =
 
 -- resent: "the last [number] with the same readings", of a sender that is known
 unfoldable pub is-resent : File → State → Line → Bool
-unfolding is-known kept same-inputs
+unfolding is-known-sender kept same-inputs
 is-resent f s l =
-    is-known (l .sender) (s .senders)
+    is-known-sender (l .sender) (s .senders)
     && (eqb (l .number) (kept (l .sender) (s .senders) .last) && same-inputs f (kept (l .sender) (s .senders) .inputs) (l .inputs))
 
 -- "It never exceeds 4,294,967,295"
-abbrev pub MOST-LINES : ℕ
-MOST-LINES = 4294967295
+abbrev pub GREATEST-NUMBER : ℕ
+GREATEST-NUMBER = 4294967295
 
 -- 24: "number neither last nor last plus 1, or 0, or too great"
 unfoldable pub in-turn : ℕ → ℕ → Bool
-in-turn last n = not (eqb n 0) && (leb n MOST-LINES && (eqb n last || eqb n (last + 1)))
+in-turn last n = not (eqb n 0) && (leb n GREATEST-NUMBER && (eqb n last || eqb n (last + 1)))
 
 -- an accepted line: one that starts a cycle, or one that is resent
 pub data Accepted : Type 0 where
@@ -115,8 +114,8 @@ line-in f s r =
 
 -- 42, after 43 and before 23
 unfoldable pub line-addressed : File → State → Addressed → Answer Accepted
-unfolding if-passed has-room if-accepted reading-of line-in
-line-addressed f s a = if-passed 42 (has-room (a .sent .sender) (s .senders)) (if-accepted (reading-of a) (line-in f s))
+unfolding if-passed has-place if-accepted reading-of line-in
+line-addressed f s a = if-passed 42 (has-place (a .sent .sender) (s .senders)) (if-accepted (reading-of a) (line-in f s))
 
 unfoldable pub line : File → State → List ℕ → List ℕ → Answer Accepted
 unfolding if-accepted addressed line-addressed

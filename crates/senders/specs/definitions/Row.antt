@@ -1,9 +1,8 @@
 -- A sender's row: "Rows begin with sender and number too" (document 02, order 5; document 01, "Rows and names").
 use Prim.Native.Nat.{ℕ}
-use mathlib.Core.List.{List, [], _∷_, _++_}
+use mathlib.Core.List.{List, _∷_, _++_}
 use Rattle.values.specs.definitions.Forms.{digit-byte, decimal-digits, hexadecimal, decimal, printed}
 use Rattle.text.specs.definitions.Syntax.{File}
-use Rattle.cycles.specs.definitions.Spots.{Spot}
 use Rattle.cycles.specs.definitions.Row.{action-fields}
 use Rattle.senders.specs.definitions.Sender.{Sender, State, kept}
 

@@ -1,7 +1,7 @@
 -- Senders (document 02, order 5): "The state keeps for each sender its last number, last readings and the actions then fired".
 use Prim.Native.Nat.{ℕ}
 use mathlib.Core.List.{List, [], _∷_}
-use mathlib.Core.Bool.{Bool, true, false, _&&_, _||_, cond}
+use mathlib.Core.Bool.{Bool, false, _&&_, _||_, cond}
 use mathlib.Core.Option.{Option, none, some, Option·getD}
 use lib.Dec.{leb, ltb}
 use lib.ListN.{length}
@@ -54,9 +54,9 @@ unfolding same-bytes
 sender-named n [] = none
 sender-named n (x ∷ xs) = cond (same-bytes n (x .name)) (some x) (sender-named n xs)
 
-unfoldable pub is-known : List ℕ → List Sender → Bool
+unfoldable pub is-known-sender : List ℕ → List Sender → Bool
 unfolding is-found sender-named
-is-known n xs = is-found (sender-named n xs)
+is-known-sender n xs = is-found (sender-named n xs)
 
 unfoldable pub no-inputs : Inputs
 no-inputs = record { presence = λ e. none; given = λ e m. none }
@@ -82,6 +82,6 @@ abbrev pub MOST-SENDERS : ℕ
 MOST-SENDERS = 8
 
 -- 42: "A ninth is refused"
-unfoldable pub has-room : List ℕ → List Sender → Bool
-unfolding is-known
-has-room n xs = is-known n xs || ltb (length xs) MOST-SENDERS
+unfoldable pub has-place : List ℕ → List Sender → Bool
+unfolding is-known-sender
+has-place n xs = is-known-sender n xs || ltb (length xs) MOST-SENDERS

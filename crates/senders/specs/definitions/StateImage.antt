@@ -19,6 +19,7 @@ use Rattle.cycles.specs.definitions.Cycle.{is-sort}
 use Rattle.cycles.specs.definitions.Planes.{
   ENTITY-CELLS,
   NUMBER-BYTES,
+  KEPT-FLAGS,
   plane-size,
   stores-size,
   entity-count,
@@ -35,7 +36,7 @@ use Rattle.cycles.specs.definitions.Planes.{
   plane-fits,
   are-stores,
 }
-use Rattle.senders.specs.definitions.Sender.{Sender, State, MOST-NAME-BYTES, is-sender, is-known, MOST-SENDERS}
+use Rattle.senders.specs.definitions.Sender.{Sender, State, MOST-NAME-BYTES, is-sender, is-known-sender, MOST-SENDERS}
 
 -- ---- sizes
 
@@ -102,11 +103,11 @@ abbrev pub known-count : List ℕ → ℕ
 known-count m = getD m NUMBER-BYTES 0
 
 -- of a sender's part: its name, its number, its plane, and the part after it
-abbrev pub name-in : List ℕ → List ℕ
-name-in m = take (getD m 0 0) (drop 1 m)
+abbrev pub part-name : List ℕ → List ℕ
+part-name m = take (getD m 0 0) (drop 1 m)
 
-abbrev pub number-in : List ℕ → ℕ
-number-in m = word-at NUMBER-BYTES m NAME-PLACE
+abbrev pub part-number : List ℕ → ℕ
+part-number m = word-at NUMBER-BYTES m NAME-PLACE
 
 abbrev pub kept-plane : List ℕ → List ℕ
 kept-plane m = drop SENDER-HEAD-BYTES m
@@ -114,16 +115,17 @@ kept-plane m = drop SENDER-HEAD-BYTES m
 abbrev pub next-sender : ℕ → List ℕ → List ℕ
 next-sender n m = drop (sender-size n) m
 
-abbrev pub is-event : Sort → Bool
-is-event attribute = false
-is-event event = true
-is-event action = false
+-- a line reads events alone, though an action too is readable as an event of the cycle before
+abbrev pub takes-readings : Sort → Bool
+takes-readings attribute = false
+takes-readings event = true
+takes-readings action = false
 
 unfoldable pub decode-inputs : File → List ℕ → Inputs
 unfolding is-sort member-of unpacked
 decode-inputs f m = record {
   presence = λ e. cond (ltb e (entity-count f)) (presence-of (getD m e 0)) none;
-  given = λ e k. cond (is-sort is-event (member-of f e k)) (input-at (cells-of (entity-count f) m) (e * ENTITY-CELLS + k)) none;
+  given = λ e k. cond (is-sort takes-readings (member-of f e k)) (input-at (cells-of (entity-count f) m) (e * ENTITY-CELLS + k)) none;
 }
 
 unfoldable pub decode-fired : File → List ℕ → ℕ → ℕ → Value
@@ -132,7 +134,7 @@ decode-fired f m e k = cond (is-sort is-action (member-of f e k)) (cell-at (cell
 
 unfoldable pub decode-sender : File → List ℕ → Sender
 unfolding decode-inputs decode-fired
-decode-sender f m = record { name = name-in m; last = number-in m; inputs = decode-inputs f (kept-plane m); fired = decode-fired f (kept-plane m) }
+decode-sender f m = record { name = part-name m; last = part-number m; inputs = decode-inputs f (kept-plane m); fired = decode-fired f (kept-plane m) }
 
 unfoldable pub decode-senders : File → ℕ → List ℕ → List Sender
 unfolding decode-sender
@@ -153,24 +155,28 @@ unfoldable pub is-padded : List ℕ → Bool
 unfolding each
 is-padded m = each (λ i. eqb (getD m (i + 1) 0) 0) (getD m 0 0) (MOST-NAME-BYTES - getD m 0 0)
 
--- a name and a number of at least 1 (below 2 ^ 32 is every number of bytes; the test is for lists of other numbers)
+-- what 4 bytes say is below it
+abbrev pub NUMBERS-BELOW : ℕ
+NUMBERS-BELOW = 4294967296
+
+-- a name and a number of at least 1 (the test that it is below is for lists of other numbers than bytes)
 unfoldable pub is-sender-head : List ℕ → Bool
 unfolding is-sender is-padded
 is-sender-head m =
     leb (getD m 0 0) MOST-NAME-BYTES
-    && (is-sender (name-in m) && (is-padded m && (not (eqb (number-in m) 0) && ltb (number-in m) 4294967296)))
+    && (is-sender (part-name m) && (is-padded m && (not (eqb (part-number m) 0) && ltb (part-number m) NUMBERS-BELOW)))
 
 unfoldable pub is-sender-part : File → List ℕ → Bool
 unfolding is-sender-head plane-fits kept-fits
-is-sender-part f m = is-sender-head m && plane-fits 3 (λ present. kept-fits) f (kept-plane m)
+is-sender-part f m = is-sender-head m && plane-fits KEPT-FLAGS (λ present. kept-fits) f (kept-plane m)
 
--- k senders, "pairwise different"
+-- k senders, no two of one name
 unfoldable pub are-senders : File → ℕ → List ℕ → Bool
-unfolding is-sender-part is-known decode-senders
+unfolding is-sender-part is-known-sender decode-senders
 are-senders f zero m = true
 are-senders f (suc k) m =
     is-sender-part f m
-    && (not (is-known (name-in m) (decode-senders f k (next-sender (entity-count f) m))) && are-senders f k (next-sender (entity-count f) m))
+    && (not (is-known-sender (part-name m) (decode-senders f k (next-sender (entity-count f) m))) && are-senders f k (next-sender (entity-count f) m))
 
 -- `print` is the fingerprint of the bench text: another text's state is none of this bench
 unfoldable pub is-state : ℕ → File → List ℕ → Bool

@@ -39,9 +39,9 @@ unfoldable pub bench-memory : List ℕ → List ℕ
 unfolding check-call
 bench-memory text = check-call text (replicate BENCH 0) .bench
 
-unfoldable pub state-memory : List ℕ → List ℕ
+unfoldable pub fresh-memory : List ℕ → List ℕ
 unfolding fresh-call bench-memory
-state-memory text = fresh-call (bench-memory text) (replicate STATE 0) .state
+fresh-memory text = fresh-call (bench-memory text) (replicate STATE 0) .state
 
 -- a call's number and the row that it wrote
 pub record Printed : Type 0 where
@@ -61,8 +61,8 @@ asked names values = record { names = names; values = ascii values; row = replic
 
 -- what each line prints in a run from a fresh state
 unfoldable pub lines-printed : List ℕ → String → List String → List Printed
-unfolding line-printed replies bench-memory state-memory asked ascii
-lines-printed text names values = map line-printed (replies (bench-memory text) (state-memory text) (map (asked (ascii names)) values))
+unfolding line-printed replies bench-memory fresh-memory asked ascii
+lines-printed text names values = map line-printed (replies (bench-memory text) (fresh-memory text) (map (asked (ascii names)) values))
 
 unfoldable pub header-printed : List ℕ → Printed
 unfolding printed-by header-call bench-memory
@@ -74,10 +74,10 @@ memory-after m (r ∷ rs) = memory-after (r .state) rs
 
 -- the row call for a sender after these lines
 unfoldable pub row-call-printed : List ℕ → String → List String → String → Printed
-unfolding printed-by row-call replies bench-memory state-memory memory-after asked ascii
+unfolding printed-by row-call replies bench-memory fresh-memory memory-after asked ascii
 row-call-printed text names values sender =
-    let rs = replies (bench-memory text) (state-memory text) (map (asked (ascii names)) values) in
-    let r = row-call (bench-memory text) (memory-after (state-memory text) rs) (ascii sender) (replicate ROW 0) in
+    let rs = replies (bench-memory text) (fresh-memory text) (map (asked (ascii names)) values) in
+    let r = row-call (bench-memory text) (memory-after (fresh-memory text) rs) (ascii sender) (replicate ROW 0) in
     printed-by (r .answer) (r .row)
 
 unfoldable pub row-printed : String → Printed

@@ -1,11 +1,9 @@
 -- `gather` meets its contract.
 use Prim.Native.Nat.{_-_}
 use native.Mathlib.Omega.{arith}
-use lib.ListN.{length, length-set}
-use mathlib.Core.Path.{_≡_, refl, ap}
+use lib.ListN.{length}
 use Rattle.replay.specs.contracts.Feeding.{Gathering}
 use Rattle.replay.proofs.steps.GatheringLaws.{gathering-starts, gathering-kept, gathering-full}
-use borrow.Author.Needs.{needs}
 use Rattle.replay.proofs.gathering.gather.Statement.{statement}
 use Rattle.replay.proofs.gathering.gather.Tie as tie
 

@@ -1,20 +1,21 @@
--- `fingerprint` meets its contract: what is left of the text goes on from the fold so far.
+-- `fingerprint` meets its contract: what is left of the text goes on from what the fold so far leaves.
 use borrow.Author.Needs.{needs}
-use mathlib.Core.Path.{_≡_, sym, _∙_}
-use Prim.Native.Nat.{_-_, _≤_, _<_}
+use Prim.Native.Nat.{_+_, _-_, _≤_, _<_, _%_}
 use native.Mathlib.Omega.{arith}
-use native.Mathlib.Nat.{mod-lt}
+use mathlib.Core.Path.{_≡_, ap, _∙_}
 use lib.ListN.{length, drop}
-use Rattle.senders.specs.definitions.Fingerprint.{print-from, fingerprint}
-use Rattle.senders.proofs.steps.PrintSteps.{print-begins, print-step, print-ends}
+use Rattle.senders.specs.contracts.PrintSums.{SUMS-BELOW}
+use Rattle.senders.specs.definitions.Fingerprint.{PRIME, fingerprint-from, fingerprint}
+use Rattle.senders.proofs.steps.PrintSteps.{print-begins, three-steps}
 use Rattle.senders.proofs.fingerprint.fingerprint.Statement.{statement}
 use Rattle.senders.proofs.fingerprint.fingerprint.Tie as tie
 use Rattle.senders.proofs.fingerprint.fingerprint.Reads as reads
 use Rattle.senders.proofs.fingerprint.fingerprint.Lts as lts
-use Rattle.values.proofs.slices.wide.Reads as wide-reads
+use Rattle.senders.proofs.fingerprint.next_three.Reads as next-three-reads
+use Rattle.senders.proofs.fingerprint.print_rest.Reads as print-rest-reads
 
 abbrev Inv-loop : tie.InvT-loop
-Inv-loop text print₀ i₀ print i = (print < 4294967291) × (i ≤ length text) × (print-from print (drop i text) ≡ fingerprint text)
+Inv-loop text print₀ i₀ print i = (print < SUMS-BELOW) × (i ≤ length text) × (fingerprint-from (print % PRIME) (drop i text) ≡ fingerprint text)
 
 abbrev μ-loop : tie.MeasureT-loop
 μ-loop text print₀ i₀ print i = length text - i
@@ -22,20 +23,26 @@ abbrev μ-loop : tie.MeasureT-loop
 loop-holds : tie.Need-loop-holds Inv-loop μ-loop
 loop-holds c = (omega arith, omega arith, print-begins (c .before .args .text .now))
 
-mul-print : tie.Need-mul-print Inv-loop μ-loop
-mul-print c = search needs
+sub-loop : tie.Need-sub-loop Inv-loop μ-loop
+sub-loop c = search needs
 
-shared-slice-read-wide : tie.Need-shared-slice-read-wide Inv-loop μ-loop
-shared-slice-read-wide c = search needs
+add-second : tie.Need-add-second Inv-loop μ-loop
+add-second c = search needs
 
-wide-requires : tie.Need-wide-requires Inv-loop μ-loop
-wide-requires c κs = search needs
+add-third : tie.Need-add-third Inv-loop μ-loop
+add-third c = search needs
 
-add-print : tie.Need-add-print Inv-loop μ-loop
-add-print c = search needs
+shared-slice-read-next-three : tie.Need-shared-slice-read-next-three Inv-loop μ-loop
+shared-slice-read-next-three c = search needs
 
-add-print-2 : tie.Need-add-print-2 Inv-loop μ-loop
-add-print-2 c = search needs
+shared-slice-read-next-three-2 : tie.Need-shared-slice-read-next-three-2 Inv-loop μ-loop
+shared-slice-read-next-three-2 c = search needs
+
+shared-slice-read-next-three-3 : tie.Need-shared-slice-read-next-three-3 Inv-loop μ-loop
+shared-slice-read-next-three-3 c = search needs
+
+next-three-requires : tie.Need-next-three-requires Inv-loop μ-loop
+next-three-requires c κs = search needs
 
 add-i : tie.Need-add-i Inv-loop μ-loop
 add-i c = search needs
@@ -44,13 +51,22 @@ loop-less : tie.Need-loop-less Inv-loop μ-loop
 loop-less c = search needs
 
 loop-again : tie.Need-loop-again Inv-loop μ-loop
-loop-again c = (omega arith, omega arith, print-step (c .before .before .before .before .before .args .text .now) (c .before .before .before .loop .print) (c .before .before .before .loop .i) _ (c .wide .ensures .0) (c .before .before .loop-test .taken) ∙ c .before .before .before .loop .inv .2)
+loop-again c =
+    let text = c .before .before .before .before .before .before .before .args .text .now in
+    let l = c .before .before .before .before .before .loop in
+    let left = c .before .before .before .before .loop-test .taken in (
+      c .next-three .ensures .0,
+      omega (arith, left),
+      ap (λ k. fingerprint-from k (drop (l .i + 1 + 1 + 1) text)) (c .next-three .ensures .1)
+          ∙ three-steps text (l .print % PRIME) (l .i) (omega (arith, left))
+          ∙ l .inv .2,
+    )
 
-cast-result : tie.Need-cast-result Inv-loop μ-loop
-cast-result c = search needs
+print-rest-requires : tie.Need-print-rest-requires Inv-loop μ-loop
+print-rest-requires c κs = search needs
 
 returns : tie.Need-returns Inv-loop μ-loop
-returns c = sym (print-ends (c .before .before .before .args .text .now) (c .before .loop .print) (c .before .loop .i) (c .loop-test .left)) ∙ c .before .loop .inv .2
+returns c = c .print-rest .ensures ∙ c .before .before .loop .inv .2
 
 pub fingerprint-spec : {M : Type 1} → statement M
 fingerprint-spec =
@@ -59,13 +75,15 @@ fingerprint-spec =
     Inv-loop
     μ-loop
     loop-holds
-    mul-print
-    shared-slice-read-wide
-    wide-requires
-    add-print
-    add-print-2
+    sub-loop
+    add-second
+    add-third
+    shared-slice-read-next-three
+    shared-slice-read-next-three-2
+    shared-slice-read-next-three-3
+    next-three-requires
     add-i
     loop-less
     loop-again
-    cast-result
+    print-rest-requires
     returns)

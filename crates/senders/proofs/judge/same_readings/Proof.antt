@@ -1,6 +1,6 @@
 -- `same_readings` meets its contract: the flags, then what is left of the cells.
 use borrow.Author.Needs.{needs}
-use Prim.Native.Nat.{_-_, _*_, _≤_}
+use Prim.Native.Nat.{_-_, _*_}
 use native.Mathlib.Omega.{arith}
 use borrow.Author.Tests.{not-true, not-false}
 use Rattle.cycles.proofs.laws.PlaneTestLaws.{length-behind}

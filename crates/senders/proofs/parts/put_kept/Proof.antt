@@ -1,4 +1,4 @@
--- `put_kept` meets its contract: cell after cell is put.
+-- `put_kept` meets its contract: cell after cell is put, and what lies behind them stands as it was.
 use borrow.Author.Needs.{needs}
 use Prim.Native.Nat.{_-_, _*_, _≤_}
 use native.Mathlib.Omega.{arith}
@@ -12,10 +12,11 @@ use Rattle.senders.proofs.parts.put_kept.Lts as lts
 use Rattle.senders.proofs.parts.put_kept_cell.Reads as put-kept-cell-reads
 
 abbrev Inv-loop : tie.InvT-loop
-Inv-loop classes d n inputs fired out₀ end i₀ out i = (i ≤ 12 * n) × (length out ≡ length out₀) × Kept-so-far classes d inputs fired i out₀ out
+Inv-loop classes d n fired inputs₀ end i₀ inputs i =
+    (i ≤ 12 * n) × (length inputs ≡ length inputs₀) × Kept-so-far classes d inputs₀ fired i inputs₀ inputs
 
 abbrev μ-loop : tie.MeasureT-loop
-μ-loop classes d n inputs fired out₀ end i₀ out i = 12 * n - i
+μ-loop classes d n fired inputs₀ end i₀ inputs i = 12 * n - i
 
 mul-end : tie.Need-mul-end Inv-loop μ-loop
 mul-end c = search needs
@@ -24,7 +25,7 @@ loop-holds : tie.Need-loop-holds Inv-loop μ-loop
 loop-holds c = (omega arith, refl, none-kept)
 
 put-kept-cell-requires : tie.Need-put-kept-cell-requires Inv-loop μ-loop
-put-kept-cell-requires c κs = let l = c .before .before .loop .inv .1 in (omega arith, omega arith, omega arith)
+put-kept-cell-requires c κs = let l = c .before .before .loop .inv .1 in (omega arith, omega arith)
 
 add-i : tie.Need-add-i Inv-loop μ-loop
 add-i c = search needs
@@ -33,13 +34,16 @@ loop-less : tie.Need-loop-less Inv-loop μ-loop
 loop-less c = search needs
 
 loop-again : tie.Need-loop-again Inv-loop μ-loop
-loop-again c = (omega arith, c .before .before .put-kept-cell .kept .1 .1 .1 .1 .1 .0 ∙ c .before .before .before .before .before .loop .inv .1, one-more-kept (c .before .before .before .before .before .loop .inv .2) (omega arith) (c .before .before .put-kept-cell .ensures))
+loop-again c =
+    let l = c .before .before .before .before .before .loop .inv in
+    let p = c .before .before .put-kept-cell in
+    (omega arith, p .kept .1 .1 .1 .1 .0 ∙ l .1, one-more-kept (l .2) (omega arith) (p .ensures))
 
 same-length : tie.Need-same-length Inv-loop μ-loop
 same-length c = c .before .loop .inv .1
 
 returns : tie.Need-returns Inv-loop μ-loop
-returns c = all-kept (c .before .loop .inv .2) (12 * c .before .before .before .before .before .before .before .args .n) (omega arith) (omega arith)
+returns c = all-kept (c .before .loop .inv .2) (12 * c .before .before .before .before .before .before .args .n) (omega arith) (omega arith)
 
 pub put-kept-spec : {M : Type 1} → statement M
 put-kept-spec =

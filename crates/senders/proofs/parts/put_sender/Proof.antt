@@ -1,8 +1,7 @@
 -- `put_sender` meets its contract: the length, the name, zeros, the number, and the plane are put one after another.
 use borrow.Author.Needs.{needs}
 use native.Mathlib.Omega.{arith}
-use mathlib.Core.Path.{_≡_, _∙_}
-use lib.ListN.{length, length-set}
+use lib.ListN.{length-set}
 use Rattle.cycles.proofs.laws.PlaneTestLaws.{length-behind}
 use Rattle.senders.proofs.steps.KeptSteps.{sender-put}
 use Rattle.senders.proofs.parts.put_sender.Statement.{statement}

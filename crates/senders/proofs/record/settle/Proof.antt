@@ -1,8 +1,8 @@
 use native.Mathlib.Omega.{arith}
-use borrow.Author.Needs.{needs}
 use borrow.Author.Tests.{not-true, not-false}
 use Rattle.senders.proofs.laws.RecordLaws.{settled-resent, settled-absent, settled-out-of-turn, settled-other, settled-new}
 use Rattle.senders.proofs.steps.SentSteps.{turn-fits}
+use borrow.Author.Needs.{needs}
 use Rattle.senders.proofs.record.settle.Statement.{statement}
 use Rattle.senders.proofs.record.settle.Tie as tie
 use Rattle.senders.proofs.record.settle.Reads as reads
@@ -27,6 +27,10 @@ same-length : tie.Need-same-length
 same-length c = search needs
 
 -- src/record.rt:140:9
+same-length-2 : tie.Need-same-length-2
+same-length-2 c = search needs
+
+-- src/record.rt:140:9
 returns : tie.Need-returns
 returns c = settled-resent (c .before .is-resent .ensures) (c .if1 .taken)
 
@@ -47,40 +51,52 @@ takes-cells-requires : tie.Need-takes-cells-requires
 takes-cells-requires c κs = search needs
 
 -- src/record.rt:143:9
-same-length-2 : tie.Need-same-length-2
-same-length-2 c = search needs
+same-length-3 : tie.Need-same-length-3
+same-length-3 c = search needs
+
+-- src/record.rt:143:9
+same-length-4 : tie.Need-same-length-4
+same-length-4 c = search needs
 
 -- src/record.rt:143:9
 returns-2 : tie.Need-returns-2
-returns-2 c = settled-absent (c .before .before .before .before .before .is-resent .ensures) (c .before .before .before .before .if1 .left) (c .before .before .before .before .before .before .before .row .ensures .0) (c .before .takes-cells .ensures) (not-true _ (c .if2 .taken))
+returns-2 c = settled-absent (c .before .before .before .before .before .before .is-resent .ensures) (c .before .before .before .before .before .if1 .left) (c .before .before .before .before .before .before .before .before .before .row .ensures .0) (c .before .takes-cells .ensures) (not-true _ (c .if2 .taken))
 
 -- src/record.rt:145:9
 last-of-requires : tie.Need-last-of-requires
-last-of-requires c κs = omega (arith, c .before .before .before .before .before .before .before .before .row .ensures .0, c .before .before .before .before .before .before .before .before .before .before .before .before .before .before .before .before .before .before .pre .0 .0, c .before .before .before .before .before .before .before .before .before .before .before .before .before .before .before .before .before .before .pre .0 .1, c .before .before .before .before .before .before .before .before .before .before .before .before .before .before .before .before .before .before .pre .1 .2)
+last-of-requires c κs = omega (arith, c .before .before .before .before .before .before .before .before .before .before .row .ensures .0, c .before .before .before .before .before .before .before .before .before .before .before .before .before .before .before .before .before .before .before .before .pre .0 .0, c .before .before .before .before .before .before .before .before .before .before .before .before .before .before .before .before .before .before .before .before .pre .0 .1, c .before .before .before .before .before .before .before .before .before .before .before .before .before .before .before .before .before .before .before .before .pre .1 .2)
 
 -- src/record.rt:146:9
 in-turn-requires : tie.Need-in-turn-requires
 in-turn-requires c κs = search needs
 
 -- src/record.rt:147:9
-same-length-3 : tie.Need-same-length-3
-same-length-3 c = search needs
+same-length-5 : tie.Need-same-length-5
+same-length-5 c = search needs
+
+-- src/record.rt:147:9
+same-length-6 : tie.Need-same-length-6
+same-length-6 c = search needs
 
 -- src/record.rt:147:9
 returns-3 : tie.Need-returns-3
-returns-3 c = settled-out-of-turn (c .before .before .before .before .before .before .before .before .before .is-resent .ensures) (c .before .before .before .before .before .before .before .before .if1 .left) (c .before .before .before .before .before .before .before .before .before .before .before .row .ensures .0) (c .before .before .before .before .before .takes-cells .ensures) (not-false _ (c .before .before .before .before .if2 .left)) (c .before .before .last-of .ensures) (c .before .in-turn .ensures) (not-true _ (c .if3 .taken))
+returns-3 c = settled-out-of-turn (c .before .before .before .before .before .before .before .before .before .before .is-resent .ensures) (c .before .before .before .before .before .before .before .before .before .if1 .left) (c .before .before .before .before .before .before .before .before .before .before .before .before .before .row .ensures .0) (c .before .before .before .before .before .takes-cells .ensures) (not-false _ (c .before .before .before .before .if2 .left)) (c .before .before .last-of .ensures) (c .before .in-turn .ensures) (not-true _ (c .if3 .taken))
 
 -- src/record.rt:149:16
 cast-if4 : tie.Need-cast-if4
 cast-if4 c = search needs
 
 -- src/record.rt:150:9
-same-length-4 : tie.Need-same-length-4
-same-length-4 c = search needs
+same-length-7 : tie.Need-same-length-7
+same-length-7 c = search needs
+
+-- src/record.rt:150:9
+same-length-8 : tie.Need-same-length-8
+same-length-8 c = search needs
 
 -- src/record.rt:150:9
 returns-4 : tie.Need-returns-4
-returns-4 c = settled-other (c .before .before .before .before .before .before .before .before .before .before .is-resent .ensures) (c .before .before .before .before .before .before .before .before .before .if1 .left) (c .before .before .before .before .before .before .before .before .before .before .before .before .row .ensures .0) (c .before .before .before .before .before .before .takes-cells .ensures) (not-false _ (c .before .before .before .before .before .if2 .left)) (c .before .before .before .last-of .ensures) (c .before .before .in-turn .ensures) (not-false _ (c .before .if3 .left)) (c .if4 .taken)
+returns-4 c = settled-other (c .before .before .before .before .before .before .before .before .before .before .before .is-resent .ensures) (c .before .before .before .before .before .before .before .before .before .before .if1 .left) (c .before .before .before .before .before .before .before .before .before .before .before .before .before .before .row .ensures .0) (c .before .before .before .before .before .before .takes-cells .ensures) (not-false _ (c .before .before .before .before .before .if2 .left)) (c .before .before .before .last-of .ensures) (c .before .before .in-turn .ensures) (not-false _ (c .before .if3 .left)) (c .if4 .taken)
 
 -- src/record.rt:152:18
 cast-number : tie.Need-cast-number
@@ -91,12 +107,16 @@ follow-requires : tie.Need-follow-requires
 follow-requires c κs = search needs
 
 -- src/record.rt:119:1
-same-length-5 : tie.Need-same-length-5
-same-length-5 c = search needs
+same-length-9 : tie.Need-same-length-9
+same-length-9 c = search needs
+
+-- src/record.rt:119:1
+same-length-10 : tie.Need-same-length-10
+same-length-10 c = search needs
 
 -- src/record.rt:119:1
 returns-5 : tie.Need-returns-5
-returns-5 c = settled-new (c .before .before .before .before .before .before .before .before .before .before .before .before .before .before .is-resent .ensures) (c .before .before .before .before .before .before .before .before .before .before .before .before .before .if1 .left) (c .before .before .before .before .before .before .before .before .before .before .before .before .before .before .before .before .row .ensures .0) (c .before .before .before .before .before .before .before .before .before .before .takes-cells .ensures) (not-false _ (c .before .before .before .before .before .before .before .before .before .if2 .left)) (c .before .before .before .before .before .before .before .last-of .ensures) (c .before .before .before .before .before .before .in-turn .ensures) (not-false _ (c .before .before .before .before .before .if3 .left)) (c .before .before .before .before .if4 .left) (turn-fits _ _ (c .before .before .before .before .before .before .in-turn .ensures) (not-false _ (c .before .before .before .before .before .if3 .left))) (c .before .before .follow .ensures)
+returns-5 c = settled-new (c .before .before .before .before .before .before .before .before .before .before .before .before .before .before .before .before .before .before .is-resent .ensures) (c .before .before .before .before .before .before .before .before .before .before .before .before .before .before .before .before .before .if1 .left) (c .before .before .before .before .before .before .before .before .before .before .before .before .before .before .before .before .before .before .before .before .before .row .ensures .0) (c .before .before .before .before .before .before .before .before .before .before .before .before .before .takes-cells .ensures) (not-false _ (c .before .before .before .before .before .before .before .before .before .before .before .before .if2 .left)) (c .before .before .before .before .before .before .before .before .before .before .last-of .ensures) (c .before .before .before .before .before .before .before .before .before .in-turn .ensures) (not-false _ (c .before .before .before .before .before .before .before .before .if3 .left)) (c .before .before .before .before .before .before .before .if4 .left) (turn-fits _ _ (c .before .before .before .before .before .before .before .before .before .in-turn .ensures) (not-false _ (c .before .before .before .before .before .before .before .before .if3 .left))) (c .before .before .before .before .follow .ensures)
 
 pub settle-spec : {M : Type 1} → statement M
 settle-spec =
@@ -105,21 +125,26 @@ settle-spec =
     row-requires
     is-resent-requires
     same-length
+    same-length-2
     returns
     sub-takes-cells
     part-takes-cells-start
     part-takes-cells-end
     takes-cells-requires
-    same-length-2
+    same-length-3
+    same-length-4
     returns-2
     last-of-requires
     in-turn-requires
-    same-length-3
+    same-length-5
+    same-length-6
     returns-3
     cast-if4
-    same-length-4
+    same-length-7
+    same-length-8
     returns-4
     cast-number
     follow-requires
-    same-length-5
+    same-length-9
+    same-length-10
     returns-5)

@@ -1,12 +1,12 @@
 use native.Mathlib.Omega.{arith}
 use mathlib.Core.Path.{sym, _∙_}
-use borrow.Author.Needs.{needs}
 use borrow.Author.Tests.{not-true, not-false}
 use Rattle.senders.proofs.laws.SentLaws.{sent-impossible, sent-too-many, sent-ill-formed, sent-no-room, sent-bad-value, sent-settled}
 use Rattle.senders.proofs.steps.SentSteps.{parts-room, sender-short}
 use Rattle.senders.proofs.laws.StateLaws.{image-fits}
 use Rattle.cycles.proofs.laws.PlaneTestLaws.{length-behind}
 use lib.ListN.{getD}
+use borrow.Author.Needs.{needs}
 use Rattle.senders.proofs.record.take_sent.Statement.{statement}
 use Rattle.senders.proofs.record.take_sent.Tie as tie
 use Rattle.senders.proofs.record.take_sent.Reads as reads
@@ -142,7 +142,7 @@ same-length-3 c = search needs
 
 -- src/record.rt:170:1
 returns-6 : tie.Need-returns-6
-returns-6 c = sent-settled _ _ _ _ _ _ _ _ _ _ _ (c .before .before .before .before .before .before .before .before .before .before .before .before .before .before .before .before .before .before .before .before .before .before .before .before .before .before .before .before .row .ensures .0) (sym (c .before .before .before .before .before .before .before .before .before .before .before .before .before .before .before .before .before .before .before .before .before .before .before .before .is-sender .ensures) ∙ not-false _ (c .before .before .before .before .before .before .before .before .before .before .before .before .before .before .before .before .before .before .before .before .before .before .before .if3 .left)) (c .before .before .before .before .before .before .before .before .before .before .before .before .before .before .before .before .before .before .before .before .before .before .part-at .ensures) (c .before .before .before .before .before .before .before .before .before .before .before .before .before .before .before .before .before .before .before .place-of .ensures) (c .before .before .before .before .before .before .before .before .before .before .before .before .before .before .before .before .before .before .if4 .left) _ _ (c .before .before .before .before .before .before .before .before .before .before .before .before .before .before .before .before .clear-flags .ensures) (c .before .before .before .before .before .before .before .before .before .before .before .before .before .clear-cells .ensures) (c .before .before .before .before .before .before .before .before .before .read-values .ensures) (not-false _ (c .before .before .before .before .before .before .if5 .left)) (c .before .before .settle .ensures)
+returns-6 c = sent-settled _ _ _ _ _ _ _ _ _ _ _ (c .before .before .before .before .before .before .before .before .before .before .before .before .before .before .before .before .before .before .before .before .before .before .before .before .before .before .before .before .before .row .ensures .0) (sym (c .before .before .before .before .before .before .before .before .before .before .before .before .before .before .before .before .before .before .before .before .before .before .before .before .before .is-sender .ensures) ∙ not-false _ (c .before .before .before .before .before .before .before .before .before .before .before .before .before .before .before .before .before .before .before .before .before .before .before .before .if3 .left)) (c .before .before .before .before .before .before .before .before .before .before .before .before .before .before .before .before .before .before .before .before .before .before .before .part-at .ensures) (c .before .before .before .before .before .before .before .before .before .before .before .before .before .before .before .before .before .before .before .before .place-of .ensures) (c .before .before .before .before .before .before .before .before .before .before .before .before .before .before .before .before .before .before .before .if4 .left) _ _ (c .before .before .before .before .before .before .before .before .before .before .before .before .before .before .before .before .before .clear-flags .ensures) (c .before .before .before .before .before .before .before .before .before .before .before .before .before .before .clear-cells .ensures) (c .before .before .before .before .before .before .before .before .before .before .read-values .ensures) (not-false _ (c .before .before .before .before .before .before .before .if5 .left)) (c .before .before .before .settle .ensures)
 
 pub take-sent-spec : {M : Type 1} → statement M
 take-sent-spec =

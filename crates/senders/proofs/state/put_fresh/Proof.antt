@@ -1,8 +1,7 @@
 -- `put_fresh` meets its contract.
 use borrow.Author.Needs.{needs}
 use native.Mathlib.Omega.{arith}
-use mathlib.Core.Path.{_≡_, _∙_}
-use lib.ListN.{length, set, length-set}
+use lib.ListN.{set, length-set}
 use Rattle.cycles.proofs.laws.PlaneTestLaws.{length-behind}
 use Rattle.senders.proofs.steps.StateSteps.{fresh-put}
 use Rattle.senders.proofs.state.put_fresh.Statement.{statement}
