@@ -5,6 +5,7 @@ ghost use Rattle.cycles.specs.definitions.Row.{MOST-ROW-BYTES};
 ghost use Rattle.cycles.specs.contracts.RowMemory.{FIELD-BYTES, FIELDS-BYTES, Fired-put, Fields-put, Name-put, Header-put};
 ghost use Rattle.cycles.specs.definitions.Planes.{CELL-BYTES, MOST-CELL-BYTES};
 use crate::layout::ENTITY_CELLS;
+use crate::planes::NO_TOKEN;
 use crate::planes::cell_token;
 use crate::planes::is_sort;
 use checking::layout::ENTITY_COUNT_ROW;
@@ -12,13 +13,20 @@ use checking::layout::ENTITY_ROWS;
 use checking::layout::MOST_ENTITIES;
 use text::classes::ACTION;
 
-// Puts a space and the value of cell number i, if the cell is an action's, and answers the offset after them.
-fn put_fired(classes: &[u8], d: &[u16], cells: &[u8], i: usize, row: &mut [u8], at: usize) -> usize
+// Puts a space and the value of cell number i, if the member whose first token has that number is an action, and answers the offset after them.
+fn put_fired(
+    classes: &[u8],
+    token: usize,
+    cells: &[u8],
+    i: usize,
+    row: &mut [u8],
+    at: usize,
+) -> usize
     requires { ⌜ i * CELL-BYTES + CELL-BYTES ≤ length (now cells) ⌝ }
     requires { ⌜ at + FIELD-BYTES ≤ length (now row) ⌝ }
-    ensures { λ r. ⌜ Fired-put (now (classes .entry)) (now (d .entry)) (now (cells .entry)) i (now (row .entry)) at (now (row .exit)) r ⌝ }
+    ensures { λ r. ⌜ Fired-put (now (classes .entry)) token (now (cells .entry)) i (now (row .entry)) at (now (row .exit)) r ⌝ }
 {
-    if !is_sort(classes, cell_token(d, i), ACTION) {
+    if !is_sort(classes, token, ACTION) {
         return at;
     }
     row[at] = 32;
@@ -39,8 +47,14 @@ pub fn put_fields(classes: &[u8], d: &[u16], cells: &[u8], row: &mut [u8], at: u
     let mut next = at;
     let mut i = 0;
     while i < end {
-        next = put_fired(classes, d, cells, i, row, next);
-        i += 1;
+        let token = cell_token(d, i);
+        if NO_TOKEN <= token {
+            // its entity has no further member
+            i = i - i % ENTITY_CELLS + ENTITY_CELLS;
+        } else {
+            next = put_fired(classes, token, cells, i, row, next);
+            i += 1;
+        }
     }
     next
 }

@@ -25,6 +25,7 @@ use cycles::layout::ENTITY_BYTES;
 use cycles::layout::ENTITY_CELLS;
 use cycles::number;
 use cycles::plane_fits;
+use cycles::planes::NO_TOKEN;
 use cycles::put_number;
 use cycles::put_plane;
 use text::classes::ACTION;
@@ -156,19 +157,17 @@ pub fn are_senders(classes: &[u8], d: &[u16], parts: &[u8], count: usize) -> boo
 
 // ---- writing
 
-// Makes of a line's input number i what is kept of it: of an action what was fired, of any other cell its reading, which stands there.
-fn put_kept_cell(classes: &[u8], d: &[u16], fired: &[u8], i: usize, inputs: &mut [u8])
+// Puts what was fired at cell number i, if the member whose first token has that number is an action.
+fn put_kept_cell(classes: &[u8], token: usize, fired: &[u8], i: usize, inputs: &mut [u8])
     requires { ⌜ (i * CELL-BYTES + CELL-BYTES ≤ length (now fired)) × (i * CELL-BYTES + CELL-BYTES ≤ length (now inputs)) ⌝ }
-    ensures { λ _. ⌜
-        Kept-cell-put (now (classes .entry)) (now (d .entry)) (now (inputs .entry)) (now (fired .entry)) i (now (inputs .entry))
-        (now (inputs .exit)) ⌝ }
+    ensures { λ _. ⌜ Kept-cell-put (now (classes .entry)) token (now (fired .entry)) i (now (inputs .entry)) (now (inputs .exit)) ⌝ }
 {
-    if is_sort(classes, cell_token(d, i), ACTION) {
+    if is_sort(classes, token, ACTION) {
         put_cell(inputs, i, cell(fired, i));
     }
 }
 
-// Those of n entities.
+// Makes of a line's inputs, of n entities, what is kept of them: of an action what was fired, of any other cell its reading, which stands there.
 pub fn put_kept(classes: &[u8], d: &[u16], n: usize, fired: &[u8], inputs: &mut [u8])
     requires { ⌜ (ENTITY-CELL-BYTES * n ≤ length (now fired)) × (ENTITY-CELL-BYTES * n ≤ length (now inputs)) ⌝ }
     ensures { λ _. ⌜
@@ -178,8 +177,14 @@ pub fn put_kept(classes: &[u8], d: &[u16], n: usize, fired: &[u8], inputs: &mut 
     let end = ENTITY_CELLS * n;
     let mut i = 0;
     while i < end {
-        put_kept_cell(classes, d, fired, i, inputs);
-        i += 1;
+        let token = cell_token(d, i);
+        if NO_TOKEN <= token {
+            // its entity has no further member
+            i = i - i % ENTITY_CELLS + ENTITY_CELLS;
+        } else {
+            put_kept_cell(classes, token, fired, i, inputs);
+            i += 1;
+        }
     }
 }
 

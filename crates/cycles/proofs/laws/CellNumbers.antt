@@ -60,3 +60,12 @@ module _ (f : File) (e m : ℕ) where
       go : (o : Option Interface) → interface-of f e ≡ o → nth-member o m ≡ none
       go none p = refl
       go (some i) p = none-past (i .members) m (le-trans (w .members e i p) h)
+
+  -- members stand one behind another
+  pub no-member-on : member-of f e m ≡ none → (k : ℕ) → member-of f e (m + k) ≡ none
+  unfolding member-of nth-member
+  no-member-on h k = go (interface-of f e) h
+    where
+      go : (o : Option Interface) → nth-member o m ≡ none → nth-member o (m + k) ≡ none
+      go none g = refl
+      go (some i) g = let l = past-none (i .members) m g in none-past (i .members) (m + k) (omega arith)

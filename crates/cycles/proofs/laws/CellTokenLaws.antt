@@ -28,6 +28,7 @@ use Rattle.checking.proofs.laws.WithinCounts.{Within-counts}
 use Rattle.text.proofs.laws.ListLaws.{some-injective, none-some}
 use Rattle.cycles.specs.contracts.CellTokens.{NO-TOKEN, Member-at, Token-of, no-member, a-member, Cell-token, Sort-test}
 use Rattle.cycles.specs.definitions.Cycle.{is-sort}
+use Rattle.cycles.proofs.laws.CellNumbers.{no-member-on}
 
 module _ (f : File) (h : Few f) where
   -- an interface by its number; the number for none is past them all
@@ -172,6 +173,21 @@ unfolding sort-class is-attribute
 attribute-class attribute = refl
 attribute-class event = refl
 attribute-class action = refl
+
+-- ---- a cell that has none
+
+no-token-none : {text classes offsets lengths : List ℕ} {token : ℕ} {o : Option Member} → Token-of text classes offsets lengths token o
+    → NO-TOKEN ≤ token → o ≡ none
+no-token-none (no-member q) h = refl
+no-token-none (a-member m) h = absurd (omega (arith, m .within))
+
+-- nor have those of its entity behind it
+pub none-behind : {d : List ℕ} {i token : ℕ} → Cell-token d i token → NO-TOKEN ≤ token → {text classes offsets lengths : List ℕ}
+    → (w : Bench text classes offsets lengths d) → Few (w .file) → (k : ℕ) → i % 12 + k < 12 → member-of (w .file) ((i + k) / 12) ((i + k) % 12) ≡ none
+none-behind {i = i} t h {text} {classes} {offsets} {lengths} w c k b =
+    let same : (i + k) / 12 ≡ i / 12 = omega arith in
+    let next : (i + k) % 12 ≡ i % 12 + k = omega arith in
+    rw (same, next) (no-member-on (w .file) (i / 12) (i % 12) (no-token-none (t .is text classes offsets lengths w c) h) k)
 
 -- ---- a cell that has a member
 

@@ -1,8 +1,8 @@
 -- Fields put into a row or into its header one by one, and all of them.
-use Prim.Native.Nat.{ℕ, suc, _+_, _-_, _*_, _/_, _%_, _≤_, _<_}
+use Prim.Native.Nat.{ℕ, zero, suc, _+_, _-_, _*_, _/_, _%_, _≤_, _<_}
 use native.Mathlib.Omega.{arith}
 use mathlib.Core.Path.{_≡_, refl, sym, ap, ap₂, _∙_}
-use mathlib.Core.Bool.{Bool, true, false, true≢false}
+use mathlib.Core.Bool.{Bool, true, false, true≢false, cond}
 use mathlib.Core.List.{List, [], _∷_, _++_}
 use mathlib.Core.Option.{Option, none, some}
 use lib.Dec.{ltb}
@@ -17,7 +17,7 @@ use Rattle.values.specs.definitions.Cells.{cell-at}
 use Rattle.values.specs.definitions.Forms.{printed}
 use Rattle.values.proofs.laws.FormLaws.{printed-most}
 use Rattle.text.specs.definitions.Tokens.{Token, tokens, tokens-of}
-use Rattle.text.specs.definitions.Syntax.{Member, Entity}
+use Rattle.text.specs.definitions.Syntax.{Member, Entity, File}
 use Rattle.text.proofs.laws.SpotLaws.{stands-drop}
 use Rattle.text.proofs.laws.TokenFacts.{token-in-text}
 use Rattle.checking.specs.contracts.DirectoryReads.{Few}
@@ -29,7 +29,7 @@ use Rattle.cycles.specs.definitions.Spots.{Spot}
 use Rattle.cycles.specs.definitions.Cycle.{is-sort}
 use Rattle.cycles.specs.definitions.Row.{row-header}
 use Rattle.cycles.specs.definitions.Planes.{table, entity-count}
-use Rattle.cycles.specs.contracts.CellTokens.{Member-at, Token-of, Cell-token, Sort-test}
+use Rattle.cycles.specs.contracts.CellTokens.{NO-TOKEN, Member-at, Token-of, Cell-token, Sort-test}
 use Rattle.values.specs.contracts.Puts.{Put}
 use Rattle.cycles.specs.contracts.RowMemory.{
   field-of,
@@ -42,7 +42,7 @@ use Rattle.cycles.specs.contracts.RowMemory.{
   Fields-put,
   Header-put,
 }
-use Rattle.cycles.proofs.laws.CellTokenLaws.{few-within, action-class, member-told, entity-told}
+use Rattle.cycles.proofs.laws.CellTokenLaws.{few-within, action-class, none-behind, member-told, entity-told}
 use Rattle.values.proofs.laws.PutLaws.{put-none, put-said, put-byte, put-length, put-next, put-same}
 use Rattle.cycles.proofs.laws.PutLaws.{put-piece, put-no-piece, put-in-front}
 use Rattle.cycles.proofs.laws.RowFields.{fields-table}
@@ -69,30 +69,34 @@ action-told {text} {classes} {offsets} {lengths} {i = i} t a w c =
 
 -- ---- a row
 
-module _ {classes d cells : List ℕ} {i token : ℕ} (t : Cell-token d i token) {b : Bool} (a : Sort-test classes token 6 b) where
-  pub fired-none : b ≡ false → (l : List ℕ) (at : ℕ) → Fired-put classes d cells i l at l at
-  unfolding field-at
+module _ {classes cells : List ℕ} {i token : ℕ} {b : Bool} (a : Sort-test classes token 6 b) where
+  pub fired-none : b ≡ false → (l : List ℕ) (at : ℕ) → Fired-put classes token cells i l at l at
   fired-none e l at = record {
     short = omega arith;
-    is = λ text offsets lengths w c.
-        let o = member-of (w .file) (i / 12) (i % 12) in
-        put-same (put-none l at)
-        (no-field (fired-field cells) (i / 12) (i % 12) o (sym e ∙ action-told t a w c));
+    action = b;
+    tested = a;
+    is = put-same (put-none l at) (ap (λ (t : Bool). cond t (32 ∷ printed (cell-at cells i)) []) (sym e));
   }
 
   pub fired-put : b ≡ true → {v : Value} → v ≡ cell-at cells i → (l : List ℕ) (at : ℕ) {m : List ℕ} {r : ℕ}
       → (r ≡ at + 1 + length (printed v)) × (m ≡ overwritten (set l at 32) (at + 1) (printed v))
-      → Fired-put classes d cells i l at m r
-  unfolding field-at
+      → Fired-put classes token cells i l at m r
   fired-put e {v} q l at p = record {
     short = let n = p .0 in let h = printed-most v in omega arith;
-    is = λ text offsets lengths w c.
-        let o = member-of (w .file) (i / 12) (i % 12) in
-        let n : i ≡ i / 12 * 12 + i % 12 = omega arith in
+    action = b;
+    tested = a;
+    is =
         put-same (put-next (put-byte l at 32) (put-said (printed v) p))
-        (ap (λ (u : Value). 32 ∷ printed u) (q ∙ ap (cell-at cells) n)
-        ∙ a-field (fired-field cells) (i / 12) (i % 12) o (sym e ∙ action-told t a w c) .2);
+        (ap (λ (u : Value). 32 ∷ printed u) q ∙ ap (λ (t : Bool). cond t (32 ∷ printed (cell-at cells i)) []) (sym e));
   }
+
+field-told : (f : File) (cells : List ℕ) (i : ℕ) (b : Bool) → b ≡ is-sort is-action (member-of f (i / 12) (i % 12))
+    → cond b (32 ∷ printed (cell-at cells i)) [] ≡ field-at f (fired-field cells) i
+unfolding field-at
+field-told f cells i true h =
+    let n : i ≡ i / 12 * 12 + i % 12 = omega arith in
+    ap (λ (k : ℕ). 32 ∷ printed (cell-at cells k)) n ∙ a-field (fired-field cells) (i / 12) (i % 12) (member-of f (i / 12) (i % 12)) h .2
+field-told f cells i false h = no-field (fired-field cells) (i / 12) (i % 12) (member-of f (i / 12) (i % 12)) h
 
 -- the fields of the first i cells
 pub record Fired-so-far (classes d cells before : List ℕ) (from i : ℕ) (after : List ℕ) (at : ℕ) : Type 0 where
@@ -109,13 +113,36 @@ module _ {classes d cells : List ℕ} where
     is = λ text offsets lengths w c. put-no-piece (field-at (w .file) (fired-field cells)) l at;
   }
 
-  pub fired-next : {l m k : List ℕ} {from i at r : ℕ} → Fired-so-far classes d cells l from i m at → length k ≡ length m
-      → Fired-put classes d cells i m at k r → Fired-so-far classes d cells l from (i + 1) k r
-  fired-next {i = i} p e q = record {
-    same = e ∙ p .same;
-    short = let h = p .short in let g = q .short in omega arith;
-    is = λ text offsets lengths w c. put-piece (field-at (w .file) (fired-field cells)) i (p .is text offsets lengths w c) (q .is text offsets lengths w c);
-  }
+  module _ {l m : List ℕ} {from i at token : ℕ} (p : Fired-so-far classes d cells l from i m at) (t : Cell-token d i token) where
+    pub fired-next : {k : List ℕ} {r : ℕ} → length k ≡ length m → Fired-put classes token cells i m at k r → Fired-so-far classes d cells l from (i + 1) k r
+    fired-next e q = record {
+      same = e ∙ p .same;
+      short = let h = p .short in let g = q .short in omega arith;
+      is = λ text offsets lengths w c.
+          put-piece (field-at (w .file) (fired-field cells)) i (p .is text offsets lengths w c)
+          (put-same (q .is) (field-told (w .file) cells i (q .action) (action-told t (q .tested) w c)));
+    }
+
+    -- a cell without a member has no field, and those of its entity behind it have none
+    pub fired-rest : NO-TOKEN ≤ token → {r : ℕ} → r ≡ i - i % 12 + 12 → Fired-so-far classes d cells l from r m at
+    unfolding is-sort
+    fired-rest h {r} e = record {
+      same = p .same;
+      short = let g = p .short in omega arith;
+      is = λ text offsets lengths w c.
+          let n : r ≡ i + (12 - i % 12) = omega arith in
+          rw n (rest (w .file) (none-behind t h w c) (p .is text offsets lengths w c) (12 - i % 12) (omega arith));
+    }
+      where
+        rest : (f : File) → ((k : ℕ) → i % 12 + k < 12 → member-of f ((i + k) / 12) ((i + k) % 12) ≡ none)
+            → Put (table (field-at f (fired-field cells)) 0 i) l from m at → (k : ℕ) → i % 12 + k ≤ 12
+            → Put (table (field-at f (fired-field cells)) 0 (i + k)) l from m at
+        rest f none-there q zero b = let z : i + 0 ≡ i = omega arith in rw z q
+        rest f none-there q (suc k) b =
+            let z : i + suc k ≡ i + k + 1 = omega arith in
+            rw z
+            (put-piece (field-at f (fired-field cells)) (i + k) (rest f none-there q k (omega arith))
+            (put-same (put-none m at) (field-told f cells (i + k) false (sym (ap (is-sort is-action) (none-there k (omega arith)))))))
 
   module _ {n : ℕ} (e : n ≡ getD d 1 0) where
     pub fields-impossible : 32 < n → {l m : List ℕ} {at : ℕ} → Fields-put classes d cells l at m at

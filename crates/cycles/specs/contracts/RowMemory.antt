@@ -2,11 +2,12 @@
 use Prim.Native.Nat.{ℕ, _+_, _*_, _/_, _%_, _≤_, _<_}
 use mathlib.Core.Path.{_≡_}
 use mathlib.Core.List.{List, [], _∷_, _++_}
-use mathlib.Core.Bool.{true, false}
+use mathlib.Core.Bool.{Bool, true, false, cond}
 use mathlib.Core.Option.{Option, none, some}
 use lib.ListN.{length, getElem?, drop}
 use Rattle.values.specs.definitions.Cells.{cell-at}
 use Rattle.values.specs.definitions.Forms.{printed}
+use Rattle.text.specs.definitions.Tokens.{ACTION}
 use Rattle.text.specs.definitions.Syntax.{Member, File}
 use Rattle.checking.specs.contracts.DirectoryReads.{Few}
 use Rattle.checking.specs.definitions.Scope.{member-of, is-action}
@@ -17,6 +18,7 @@ use Rattle.cycles.specs.definitions.Spots.{Spot}
 use Rattle.cycles.specs.definitions.Row.{MOST-ROW-BYTES, action-fields, row-header}
 use Rattle.values.specs.contracts.Puts.{Put}
 use Rattle.cycles.specs.definitions.Planes.{ENTITY-CELLS}
+use Rattle.cycles.specs.contracts.CellTokens.{Sort-test}
 
 unfoldable pub field-of : (Spot → List ℕ) → ℕ → ℕ → Option Member → List ℕ
 unfolding is-action
@@ -43,10 +45,12 @@ FIELDS-BYTES = FIELD-BYTES * (ENTITY-CELLS * MOST-ENTITIES)
 abbrev pub name-field : File → Spot → List ℕ
 name-field f p = name-if-found (getElem? (f .entities) (p .entity)) ++ 46 ∷ p .what .name .bytes
 
-pub record Fired-put (classes d cells : List ℕ) (i : ℕ) (before : List ℕ) (at : ℕ) (after : List ℕ) (r : ℕ) : Type 0 where
+-- a space and the value of cell number i, put if the member whose first token has that number is an action
+pub record Fired-put (classes : List ℕ) (token : ℕ) (cells : List ℕ) (i : ℕ) (before : List ℕ) (at : ℕ) (after : List ℕ) (r : ℕ) : Type 0 where
   pub short : r ≤ at + FIELD-BYTES
-  pub is : (text offsets lengths : List ℕ) (w : Bench text classes offsets lengths d) → Few (w .file)
-      → Put (field-at (w .file) (fired-field cells) i) before at after r
+  pub action : Bool
+  pub tested : Sort-test classes token ACTION action
+  pub is : Put (cond action (32 ∷ printed (cell-at cells i)) []) before at after r
 
 -- no token's name has more than 24 bytes
 abbrev pub Short-names : List ℕ → List ℕ → List ℕ → List ℕ → Type 0

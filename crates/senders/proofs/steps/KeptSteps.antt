@@ -1,9 +1,10 @@
 -- What is kept of a line, as the code puts it: cell by cell, and then a sender's whole part.
-use Prim.Native.Nat.{ℕ, suc, _+_, _-_, _*_, _/_, _%_, _≤_, _<_}
+use Prim.Native.Nat.{ℕ, zero, suc, _+_, _-_, _*_, _/_, _%_, _≤_, _<_}
 use native.Mathlib.Omega.{arith}
 use mathlib.Core.Path.{_≡_, sym, ap, _∙_}
 use mathlib.Core.Bool.{Bool, true, false, cond}
 use mathlib.Core.List.{List, _∷_, _++_, append-assoc}
+use mathlib.Core.Option.{none}
 use lib.ListN.{length, set, take, drop, replicate, length-drop, length-replicate, take-append-drop}
 use lib.Seq.{length-take-le, drop-at, drop-drop}
 use Rattle.values.specs.definitions.Bytes.{low-first, overwritten}
@@ -18,10 +19,10 @@ use Rattle.checking.specs.contracts.DirectoryReads.{Few}
 use Rattle.checking.specs.contracts.Directory.{Bench}
 use Rattle.cycles.specs.definitions.Cycle.{is-sort}
 use Rattle.cycles.specs.definitions.Planes.{table}
-use Rattle.cycles.specs.contracts.CellTokens.{Cell-token, Sort-test}
+use Rattle.cycles.specs.contracts.CellTokens.{NO-TOKEN, Cell-token, Sort-test}
 use Rattle.cycles.specs.contracts.PlaneMemory.{gathered}
 use Rattle.cycles.proofs.laws.PlaneTestLaws.{behind}
-use Rattle.cycles.proofs.laws.CellTokenLaws.{action-class}
+use Rattle.cycles.proofs.laws.CellTokenLaws.{action-class, none-behind}
 use Rattle.cycles.proofs.laws.PutLaws.{put-piece, put-no-piece, put-in-front}
 use Rattle.senders.specs.definitions.StateImage.{sender-size, name-bytes}
 use Rattle.senders.specs.contracts.SenderMemory.{kept-at, Kept-cell-put, Kept-put, part-of}
@@ -47,17 +48,19 @@ module _ {classes d : List ℕ} {i token : ℕ} {r : Bool} (t : Cell-token d i t
   action-told text offsets lengths w c =
       sym (s .is text offsets lengths (member-of (w .file) (i / 12) (i % 12)) (t .is text classes offsets lengths w c) is-action action-class)
 
-  -- ---- one cell
+-- ---- one cell
 
-  module _ {inputs fired before after : List ℕ} where
-    pub fired-kept : r ≡ true → after ≡ with-cell before i (cell-at fired i) → Kept-cell-put classes d inputs fired i before after
-    unfolding kept-at
-    fired-kept e p = record { is = λ text offsets lengths w c. rw (action-told text offsets lengths w c, e) p }
+-- what is put at a cell that is an action's, and at one that is not
+module _ (f : File) (i : ℕ) (fired before : List ℕ) where
+  fired-kept : is-sort is-action (member-of f (i / 12) (i % 12)) ≡ true
+      → with-cell before i (cell-at fired i) ≡ overwritten before (i * 9) (kept-at before fired f i)
+  unfolding kept-at
+  fired-kept e = rw e
 
-  module _ {fired before : List ℕ} where
-    pub reading-kept : r ≡ false → i * 9 + 9 ≤ length before → Kept-cell-put classes d before fired i before before
-    unfolding kept-at
-    reading-kept e h = record { is = λ text offsets lengths w c. rw (action-told text offsets lengths w c, e) (sym (put-back before (i * 9) 9 h)) }
+  reading-kept : is-sort is-action (member-of f (i / 12) (i % 12)) ≡ false → i * 9 + 9 ≤ length before
+      → before ≡ overwritten before (i * 9) (kept-at before fired f i)
+  unfolding kept-at
+  reading-kept e h = rw e (sym (put-back before (i * 9) 9 h))
 
 -- ---- one cell after another
 
@@ -74,8 +77,8 @@ pub record Kept-so-far (classes d inputs fired : List ℕ) (i : ℕ) (before aft
       → Put (table (kept-at inputs fired (w .file)) 0 i) before 0 after (i * 9)
 
 -- behind the cells that are put the inputs stand as they were
-same-behind : (inputs fired : List ℕ) (f : File) (i : ℕ) {now : List ℕ} → Put (table (kept-at inputs fired f) 0 i) inputs 0 now (i * 9) → i * 9 ≤ length inputs
-    → kept-at now fired f i ≡ kept-at inputs fired f i
+same-behind : (inputs fired : List ℕ) (f : File) (i : ℕ) {now : List ℕ} → Put (table (kept-at inputs fired f) 0 i) inputs 0 now (i * 9)
+    → i * 9 ≤ length inputs → kept-at now fired f i ≡ kept-at inputs fired f i
 unfolding kept-at
 same-behind inputs fired f i {now} p h =
     let q = put-in-front p h in
@@ -83,20 +86,54 @@ same-behind inputs fired f i {now} p h =
     ap (drop (i * 9)) (q .is) ∙ drop-at (table (kept-at inputs fired f) 0 i) (drop (i * 9) inputs) (i * 9) (sym (q .count)) in
     ap (λ (m : List ℕ). cond (is-sort is-action (member-of f (i / 12) (i % 12))) (cell-bytes (cell-at fired i)) (take 9 m)) e
 
+module _ (inputs fired : List ℕ) (f : File) {now : List ℕ} where
+  one-more : (i : ℕ) → Put (table (kept-at inputs fired f) 0 i) inputs 0 now (i * 9) → {after : List ℕ} → i * 9 + 9 ≤ length inputs
+      → after ≡ overwritten now (i * 9) (kept-at now fired f i) → Put (table (kept-at inputs fired f) 0 (i + 1)) inputs 0 after (i * 9 + 9)
+  one-more i q h k =
+      let l = length-kept-at inputs fired f i h in
+      put-piece (kept-at inputs fired f) i q
+      (record { end = omega arith; is = k ∙ ap (overwritten now (i * 9)) (same-behind inputs fired f i q (omega arith)) })
+
+  -- from a cell without a member on, as far as its entity's cells go
+  rest-put : (i : ℕ) → ((k : ℕ) → i % 12 + k < 12 → member-of f ((i + k) / 12) ((i + k) % 12) ≡ none) → length now ≡ length inputs → (k : ℕ)
+      → i % 12 + k ≤ 12 → (i + k) * 9 ≤ length inputs → Put (table (kept-at inputs fired f) 0 i) inputs 0 now (i * 9)
+      → Put (table (kept-at inputs fired f) 0 (i + k)) inputs 0 now ((i + k) * 9)
+  unfolding is-sort
+  rest-put i none-there l zero room long q = let e : i + 0 ≡ i = omega arith in rw e q
+  rest-put i none-there l (suc k) room long q =
+      let e : i + suc k ≡ i + k + 1 = omega arith in
+      let z : (i + k + 1) * 9 ≡ (i + k) * 9 + 9 = omega arith in
+      rw (e, z)
+      (one-more (i + k) (rest-put i none-there l k (omega arith) (omega arith) q) (omega arith)
+      (reading-kept f (i + k) fired now (ap (is-sort is-action) (none-there k (omega arith))) (omega arith)))
+
 module _ {classes d inputs fired : List ℕ} where
   pub none-kept : Kept-so-far classes d inputs fired 0 inputs inputs
   none-kept = record { is = λ text offsets lengths w c. put-no-piece (kept-at inputs fired (w .file)) inputs 0 }
 
   module _ {i : ℕ} {now : List ℕ} (p : Kept-so-far classes d inputs fired i inputs now) where
-    pub one-more-kept : {after : List ℕ} → i * 9 + 9 ≤ length inputs → Kept-cell-put classes d now fired i now after
-        → Kept-so-far classes d inputs fired (i + 1) inputs after
-    one-more-kept h k = record {
-      is = λ text offsets lengths w c.
-          let q = p .is text offsets lengths w c in
-          let l = length-kept-at inputs fired (w .file) i h in
-          put-piece (kept-at inputs fired (w .file)) i q
-          (record { end = omega arith; is = k .is text offsets lengths w c ∙ ap (overwritten now (i * 9)) (same-behind inputs fired (w .file) i q (omega arith)) });
-    }
+    module _ {token : ℕ} (t : Cell-token d i token) (l : length now ≡ length inputs) where
+      pub member-kept : {after : List ℕ} → Kept-cell-put classes token fired i now after → i * 9 + 9 ≤ length inputs
+          → Kept-so-far classes d inputs fired (i + 1) inputs after
+      member-kept {after} k h = record {
+        is = λ text offsets lengths w c.
+            let told = action-told t (k .tested) text offsets lengths w c in
+            let z : (i + 1) * 9 ≡ i * 9 + 9 = omega arith in
+            rw z (one-more inputs fired (w .file) i (p .is text offsets lengths w c) h (put-at (w .file) (k .action) told (k .is)));
+      }
+        where
+          put-at : (f : File) (b : Bool) → is-sort is-action (member-of f (i / 12) (i % 12)) ≡ b → after ≡ cond b (with-cell now i (cell-at fired i)) now
+              → after ≡ overwritten now (i * 9) (kept-at now fired f i)
+          put-at f true e q = q ∙ fired-kept f i fired now e
+          put-at f false e q = q ∙ reading-kept f i fired now e (omega arith)
+
+      pub rest-kept : NO-TOKEN ≤ token → {r : ℕ} → r ≡ i - i % 12 + 12 → r * 9 ≤ length inputs → Kept-so-far classes d inputs fired r inputs now
+      rest-kept h {r} e long = record {
+        is = λ text offsets lengths w c.
+            let k : r ≡ i + (12 - i % 12) = omega arith in
+            rw k
+            (rest-put inputs fired (w .file) i (none-behind t h w c) l (12 - i % 12) (omega arith) (omega arith) (p .is text offsets lengths w c));
+      }
 
     pub all-kept : (n : ℕ) → i ≡ n → n * 9 ≤ length inputs → Kept-put classes d inputs fired n inputs now
     all-kept n e h = record {

@@ -4,14 +4,16 @@ use mathlib.Core.Path.{_≡_}
 use mathlib.Core.List.{List, [], _∷_, _++_}
 use mathlib.Core.Bool.{Bool, cond}
 use lib.ListN.{take, drop}
-use Rattle.values.specs.definitions.Bytes.{same-bytes, low-first, overwritten}
-use Rattle.values.specs.definitions.Cells.{cell-bytes, cell-at}
+use Rattle.values.specs.definitions.Bytes.{same-bytes, low-first}
+use Rattle.values.specs.definitions.Cells.{cell-bytes, cell-at, with-cell}
+use Rattle.text.specs.definitions.Tokens.{ACTION}
 use Rattle.text.specs.definitions.Syntax.{File}
 use Rattle.checking.specs.definitions.Scope.{member-of, is-action}
 use Rattle.checking.specs.contracts.Directory.{Bench}
 use Rattle.checking.specs.contracts.DirectoryReads.{Few}
 use Rattle.cycles.specs.definitions.Cycle.{is-sort}
 use Rattle.cycles.specs.definitions.Planes.{CELL-BYTES, ENTITY-CELLS, NUMBER-BYTES, entity-count, table}
+use Rattle.cycles.specs.contracts.CellTokens.{Sort-test}
 use Rattle.cycles.specs.contracts.PlaneMemory.{gathered}
 use Rattle.senders.specs.definitions.Sender.{Sender}
 use Rattle.senders.specs.definitions.StateImage.{sender-size, name-bytes, decode-senders, is-sender-part, are-senders, is-state}
@@ -48,11 +50,13 @@ unfolding is-sort is-action member-of
 kept-at inputs fired f i =
     cond (is-sort is-action (member-of f (i / ENTITY-CELLS) (i % ENTITY-CELLS))) (cell-bytes (cell-at fired i)) (take CELL-BYTES (drop (i * CELL-BYTES) inputs))
 
-pub record Kept-cell-put (classes d inputs fired : List ℕ) (i : ℕ) (before after : List ℕ) : Type 0 where
-  pub is : (text offsets lengths : List ℕ) (w : Bench text classes offsets lengths d) → Few (w .file)
-      → after ≡ overwritten before (i * CELL-BYTES) (kept-at inputs fired (w .file) i)
+-- what was fired at cell number i, put to memory if the member whose first token has that number is an action
+pub record Kept-cell-put (classes : List ℕ) (token : ℕ) (fired : List ℕ) (i : ℕ) (before after : List ℕ) : Type 0 where
+  pub action : Bool
+  pub tested : Sort-test classes token ACTION action
+  pub is : after ≡ cond action (with-cell before i (cell-at fired i)) before
 
--- the first k of them, put at the front of memory
+-- the first k cells of what is kept, put at the front of memory
 pub record Kept-put (classes d inputs fired : List ℕ) (k : ℕ) (before after : List ℕ) : Type 0 where
   pub is : (text offsets lengths : List ℕ) (w : Bench text classes offsets lengths d) → Few (w .file)
       → after ≡ table (kept-at inputs fired (w .file)) 0 k ++ drop (k * CELL-BYTES) before

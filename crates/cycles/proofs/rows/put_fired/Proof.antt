@@ -9,14 +9,11 @@ use borrow.Author.Needs.{needs}
 use Rattle.cycles.proofs.rows.put_fired.Statement.{statement}
 use Rattle.cycles.proofs.rows.put_fired.Tie as tie
 
-cell-token-requires : tie.Need-cell-token-requires
-cell-token-requires c κs = search needs
-
 is-sort-requires : tie.Need-is-sort-requires
 is-sort-requires c κs = search needs
 
 returns : tie.Need-returns
-returns c = fired-none (c .before .before .cell-token .ensures) (c .before .is-sort .ensures) (not-true _ (c .if1 .taken)) _ _
+returns c = fired-none (c .before .is-sort .ensures) (not-true _ (c .if1 .taken)) _ _
 
 slice-write-row : tie.Need-slice-write-row
 slice-write-row c = search needs
@@ -35,18 +32,16 @@ same-length c = c .before .before .put-value .kept .0 ∙ simp length-set
 
 returns-2 : tie.Need-returns-2
 returns-2 c =
-    let cell-token = c .before .before .before .before .before .before .before .cell-token in
     let is-sort = c .before .before .before .before .before .before .is-sort in
     let if1 = c .before .before .before .before .before .if1 in
     let cell = c .before .before .before .cell in
     let put-value = c .before .before .put-value in
-    fired-put (cell-token .ensures) (is-sort .ensures) (not-false _ (if1 .left)) (cell .ensures) _ _ (put-value .ensures)
+    fired-put (is-sort .ensures) (not-false _ (if1 .left)) (cell .ensures) _ _ (put-value .ensures)
 
 pub put-fired-spec : {M : Type 1} → statement M
 put-fired-spec =
     tie.close
     (tie.spec
-    cell-token-requires
     is-sort-requires
     returns
     slice-write-row
