@@ -28,7 +28,10 @@ extern "C" {
 #define BENCH_NUMBER(answer) ((unsigned)((answer) & 255u))
 #define BENCH_REST(answer) ((size_t)((answer) >> 8))
 
-/* Checks a bench file and writes its image to bench. 31; 11 to 18 with the offset of the fault; or 0. */
+/* Checks a bench file and writes its image to bench. 31; or with the offset of the fault 11 (the text is too long), 12 (a byte or word that is not
+ * allowed), 13 (a word that cannot stand there), 44 (the number of a rank is above 9), 14 (one item too many), 15 (a name declared or an attribute set
+ * again), 16 (a name or member unknown or of the wrong sort), 17 (an attribute not set, at the closing brace), 18 (kinds that do not fit), of which the
+ * first of this list is given, and 15 to 17 by their place; or 0. */
 uint64_t bench_check(const uint8_t *text, size_t text_length, uint8_t *bench, size_t bench_length);
 
 /* Writes the fresh state of a checked bench. A state belongs to the bench file's text: after any edit of the text begin with a fresh state. Calls tell

@@ -563,6 +563,33 @@ static void halves_left_of_zero(void)
     check_rows(rows, sizeof rows / sizeof rows[0]);
 }
 
+/* Three rules set one lamp in one cycle. The safety rule, of rank 9, stands wherever it is written; of the others, of equal rank, the earlier one
+ * does. A write of no value stands nowhere, whatever its rule's rank. */
+static void ranked_rules(void)
+{
+    static const char knob[] = "when rank 3 event down from b value changed trigger action glow ( 1 ) on l end ";
+    static const char panel[] = "when rank 3 event down from b value changed trigger action glow ( 2 ) on l end ";
+    static const char safety[] = "when rank 09 event down from b value = true trigger action glow ( 0 ) on l , action glow ( 7 ) on l end ";
+    static const char none[] = "when rank 9 event down from b value changed trigger action glow ( 1 / 0 ) on l end ";
+    static const char *const orders[][4] = {
+        {safety, knob, panel, none}, {none, knob, safety, panel}, {knob, none, panel, safety},
+    };
+    static const char *const rows[][2] = {{"a 1 true", "a 1 0"}, {"a 2 false", "a 2 1"}, {"a 3 -", "a 3 -"}, {"a 4 true", "a 4 0"}};
+    char words[600];
+    for (size_t i = 0; i < sizeof orders / sizeof orders[0]; i++) {
+        snprintf(words, sizeof words, "interface B { event down : bool } interface L { action glow ( whole ) } entity b : B { } entity l : L { } "
+                 "rules %s%s%s%send", orders[i][0], orders[i][1], orders[i][2], orders[i][3]);
+        lend_exact();
+        entities = 2;
+        put_text(&text, words);
+        check_answer(checked(), 0, 0, "the bench with ranks is accepted");
+        check_answer(fresh(), 0, 0, "its fresh state");
+        put_text(&names, "by n b.down");
+        check_rows(rows, sizeof rows / sizeof rows[0]);
+        check_again("a 4 true", "a 4 0");
+    }
+}
+
 /* The class of every byte, by the names of the header; and that a byte of each class is refused by 12, or not, where a word begins. */
 static void classes_of_bytes(void)
 {
@@ -811,6 +838,11 @@ static void refused_texts(void)
         {"entity e : I { } rules end", 16, 11},
         {"interface I { attribute a : whole } entity e : I { } rules end", 17, 51},
         {"interface I { attribute a : whole } entity e : I { a = true } rules end", 18, 53},
+        {"rules when rank 10 event e from s value changed trigger action k ( 1 ) on s end end", 44, 16},
+        {"rules when rank 9 event e from s value changed trigger action k ( 1 ) on s end end", 16, 31},
+        {"rules when rank 10 rank", 13, 19},
+        {"rules when rank 9r event", 13, 16},
+        {"interface rank { } rules end", 13, 10},
         {"interface I { event a : bool event b : bool event c : bool event d : bool event e : bool event f : bool event g : bool "
          "event h : bool event i : bool event j : bool event k : bool event l : bool event m : bool } rules end", 14, 194},
     };
@@ -1080,7 +1112,7 @@ static void random_arguments(void)
 {
     start_pedal();
     scatter(&text, below(10) == 0 ? below(33000) : below(40));
-    check_number(checked(), "001112131415161718", "bench_check of random bytes");
+    check_number(checked(), "00111213141516171844", "bench_check of random bytes");
     start_pedal();
     if (below(2) == 0)
         scatter(&names, below(10) == 0 ? below(33000) : below(20));
@@ -1175,7 +1207,7 @@ static void random_everything(void)
     check_number(state_row(), "31323343", "bench_row of random bytes alone");
     check_number(header(), "3132", "bench_header of random bytes alone");
     check_number(fresh(), "3132", "state_fresh of random bytes alone");
-    check_number(checked(), "003112131415161718", "bench_check of random bytes alone");
+    check_number(checked(), "00311213141516171844", "bench_check of random bytes alone");
 }
 
 int main(void)
@@ -1199,6 +1231,7 @@ int main(void)
         other_texts();
         lamp_joins_late();
         halves_left_of_zero();
+        ranked_rules();
         classes_of_bytes();
         probe_sheet();
         later_day();

@@ -131,7 +131,7 @@ int main(int count, char **arguments)
     day = read_file(arguments[2]);
     rest = day;
 
-    /* Once per bench file. If it is refused (11 to 18), the bits above the number are the offset of the fault in the text. */
+    /* Once per bench file. If it is refused (11 to 18, 44), the bits above the number are the offset of the fault in the text. */
     answer = bench_check(text.start, text.length, bench, sizeof bench);
     if (BENCH_NUMBER(answer) != 0) {
         printf("refused %u %zu\n", BENCH_NUMBER(answer), BENCH_REST(answer));

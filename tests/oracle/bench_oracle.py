@@ -1,12 +1,13 @@
 """An executable reading of document 01 ("The Pantagruel bench engine") with orders 1
-to 5 of document 02 ("Requests that came later"); no later order is in force here.
+to 6 of document 02 ("Requests that came later"); no later order is in force here.
 
 The module follows the order of document 01: values and sums, words, grammar,
 counts, names, kinds, the bare machine, lines of readings, the runner; of document 02
-the byte classes stand before the words, the senders of lines with the machine and its
-lines, and the day sheet at the end.  It aims at being easy to compare with the text,
-not at speed.  "Readings" below are the pages that decide the documents' open points.
-A quotation is document 01's unless document 02 or Readings is named beside it.
+the byte classes stand before the words, the ranks of rules before the counts and with the
+machine, the senders of lines with the machine and its lines, and the day sheet at the end.
+It aims at being easy to compare with the text, not at speed.  "Readings" below are the
+pages that decide the documents' open points.  A quotation is document 01's unless
+document 02 or Readings is named beside it.
 
 Public: check, Bench, run, state_after, sheet, stated_size, printed_sheet, byte_class,
 printed_classes, main.
@@ -237,9 +238,10 @@ MOST_DIGITS = 10
 NAME_CLASSES = frozenset([LETTER, DIGIT, UNDERSCORE])
 NUMBER_CLASSES = frozenset([DIGIT])
 
+# document 02, order 6: "`rank` becomes reserved"
 RESERVED = frozenset(
     b"interface attribute event action entity rules when from with value changed "
-    b"trigger on end and or true false whole bool real".split()
+    b"trigger on end and or true false whole bool real rank".split()
 )
 
 NAME = "name"
@@ -486,8 +488,17 @@ class Call:
 
 
 @dataclass(frozen=True)
+class Rank:
+    """Document 02, order 6: `rank` number.  Readings: the number is "taken by its value"."""
+
+    place: int  # of the number
+    number: int
+
+
+@dataclass(frozen=True)
 class Rule:
     place: int  # of `when`
+    rank: Optional[Rank]
     condition: Condition
     calls: Tuple[Call, ...]
 
@@ -646,6 +657,7 @@ class Reader:
 
     def rule(self) -> Rule:
         place = self.expect(b"when")
+        rank = self.optional_rank()
         condition = self.condition()
         self.expect(b"trigger")
         calls = [self.call()]
@@ -653,7 +665,20 @@ class Reader:
             self.take()
             calls.append(self.call())
         self.expect(b"end")
-        return Rule(place, condition, tuple(calls))
+        return Rule(place, rank, condition, tuple(calls))
+
+    def optional_rank(self) -> Optional[Rank]:
+        """Document 02, order 6: "A rule may begin `when rank` with one number 0 to 9, no `r`".
+
+        Readings: "`rank 3r` is 13 at the number".  A number above 9 is grammatical: 44 comes "after 13".
+        """
+        if not self.sees(b"rank"):
+            return None
+        self.take()
+        if not isinstance(self.next().value, Whole):
+            raise self.fail()
+        word = self.take()
+        return Rank(word.place, word.value.number)
 
     def condition(self) -> Condition:
         parts = [self.conjunction()]
@@ -834,6 +859,25 @@ def first_named(items, text: bytes):
         if item.name.text == text:
             return item
     return None
+
+
+# --------------------------------------------------------------------------
+# Ranks (44; document 02, order 6; a quotation of this section is that order's unless another is named)
+# --------------------------------------------------------------------------
+
+GREATEST_RANK = 9
+
+
+def rank_faults(file: File) -> List[int]:
+    """ "The first rank above 9 is refused by 44, at its place": the places of all of them, the least is the refused
+    one.  Readings: the place is that of the number, "whatever counts, names or kinds do"."""
+    ranks = [rule.rank for rule in file.rules if rule.rank is not None]
+    return [rank.place for rank in ranks if rank.number > GREATEST_RANK]
+
+
+def rank_of(rule: Rule) -> int:
+    """ "without it the rank is 0" """
+    return 0 if rule.rank is None else rule.rank.number
 
 
 # --------------------------------------------------------------------------
@@ -1097,6 +1141,10 @@ def accepted_file(text: bytes) -> File:
         raise Refusal(11, LONGEST_TEXT)
     words = words_of(text)
     file = Reader(words, len(text)).file()
+    # document 02, order 6: 44 comes "after 13 and before 14"
+    ranks = rank_faults(file)
+    if ranks:
+        raise Refusal(44, min(ranks))
     counts = count_faults(file)
     if counts:
         raise Refusal(14, min(counts))
@@ -1111,7 +1159,7 @@ def accepted_file(text: bytes) -> File:
 
 
 def check(text: bytes) -> Tuple[int, int]:
-    """(0, 0) for an accepted bench file, else the table's number 11..18 and its place."""
+    """(0, 0) for an accepted bench file, else the table's number 11..18 or 44 and its place."""
     try:
         accepted_file(text)
     except Refusal as refusal:
@@ -1171,6 +1219,25 @@ class State:
     senders: Dict[bytes, Kept]  # the known ones, by name, in the order of their first taken line
 
 
+@dataclass(frozen=True)
+class Write:
+    cell: Tuple[int, bytes]  # entity's number and action's name
+    value: Value
+    rank: int  # of the rule
+
+
+def standing_value(writes: List[Write]) -> Cell:
+    """What an action cell comes to hold by the writes to it, which stand in their order; unset by none.
+
+    Document 02, order 6: "The write of the highest rank stands; among equal ranks the earliest write
+    does, no longer the last."  It stands in the place of document 01's "The last write to a cell
+    stands".  Python's max gives the first of those that are equal.
+    """
+    if not writes:
+        return None
+    return max(writes, key=lambda write: write.rank).value
+
+
 class Machine:
     """The bare machine of one accepted file."""
 
@@ -1208,9 +1275,8 @@ class Machine:
         writes = self.writes(seen, state.before)
         cells = dict(seen.cells)
         for cell in self.action_cells():
-            cells[cell] = None  # "Action cells become unset, then take the writes."
-        for cell, value in writes:
-            cells[cell] = value  # "The last write to a cell stands."
+            # "Action cells become unset, then take the writes."
+            cells[cell] = standing_value([write for write in writes if write.cell == cell])
         fired = tuple(cells[cell] for cell in self.action_cells())
         senders = {**state.senders, sender: Kept(number, readings, fired)}
         return State(Store(seen.present, cells), seen, senders)
@@ -1228,14 +1294,14 @@ class Machine:
                 cells[(number, event)] = None if isinstance(reading, Unset) else reading
         return Store(present, cells)
 
-    def writes(self, now: Store, before: Store) -> List[Tuple[Tuple[int, bytes], Value]]:
+    def writes(self, now: Store, before: Store) -> List[Write]:
         """ "Writes come by rule, choice, call." """
         found = []
         for rule in self.file.rules:
             for choice in self.choices(rule, now):
                 if self.holds(rule.condition, choice, now, before):
                     for call in rule.calls:
-                        found.extend(self.call_writes(call, choice, now))
+                        found.extend(self.call_writes(call, rank_of(rule), choice, now))
         return found
 
     def choices(self, rule: Rule, now: Store) -> Iterator[Dict[bytes, int]]:
@@ -1292,7 +1358,7 @@ class Machine:
             return True
         return equal(now.read(entity, chosen.attribute.text), self.evaluate(chosen.wanted, meaning, now))
 
-    def call_writes(self, call: Call, meaning: Dict[bytes, int], now: Store) -> List[Tuple[Tuple[int, bytes], Value]]:
+    def call_writes(self, call: Call, rank: int, meaning: Dict[bytes, int], now: Store) -> List[Write]:
         """ "a call's `with` and parameter read now"; "a call there [absent] writes nothing";
         "An unset parameter writes nothing." """
         entity = meaning[call.target.name.text]
@@ -1301,7 +1367,7 @@ class Machine:
             return []
         if not self.passes(call.filter, entity, meaning, now):
             return []
-        return [((entity, call.action.text), value)]
+        return [Write((entity, call.action.text), value, rank)]
 
     # -- sums
 

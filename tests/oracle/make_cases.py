@@ -2,7 +2,7 @@
 sheets.json, the same for the day sheet, and classes.txt, the class of every byte.
 
 Every stored result comes from bench_oracle; next to each written case stands the
-result worked out by hand from document 01 with orders 1 to 5 of document 02, and the two
+result worked out by hand from document 01 with orders 1 to 6 of document 02, and the two
 must agree.  In a refused bench text the mark @ (no byte of any such text otherwise)
 shows the expected place.
 
@@ -376,6 +376,84 @@ def make_kinds():
 
 
 # --------------------------------------------------------------------------
+# Ranks: bench texts (document 02, order 6)
+# --------------------------------------------------------------------------
+
+RULE = "when %s" + CLAUSE + " trigger " + CALL + " end "
+RANKED = EK + "rules " + RULE + "end"
+RANK_10 = "rules " + RULE % "rank @10 " + "end"
+
+
+def make_ranks():
+    for number in ("0", "9", "09", "009"):
+        accepted("rank-" + number, RANKED % ("rank %s " % number))
+    accepted("rank-before-bracket", EK + "rules when rank 3 ( " + CLAUSE + " or " + CLAUSE + " ) trigger " + CALL + " end end")
+    # no opener: 16 stand behind it
+    accepted("rank-is-no-opener", EK + "rules when rank 3" + "(" * 16 + CLAUSE + ")" * 16 + "trigger " + CALL + " end end")
+    accepted("rank-of-some-rules", EK + "rules " + RULE % "rank 2 " + RULE % "" + RULE % "rank 2 " + "end")
+    accepted("rank-tight-words", RANKED % "rank#9\n8")
+    # case is kept, and a name is as long as can be
+    accepted(
+        "rank-in-longer-names",
+        "interface Rank { attribute ranks : whole event rank_ : whole action rank1 ( whole ) } entity RANK : Rank { ranks = 1 } "
+        "rules when rank 1 event rank_ from ranks : Rank value changed trigger action rank1 ( ranks.ranks ) on ranks end end",
+    )
+    # the grammar takes a number of any size, but only one, and a whole
+    for number in ("10", "010", "2147483647"):
+        refused("rank-" + number, 44, RANKED % ("rank @%s " % number))
+    refused("rank-2147483648", 12, RANKED % "rank @2147483648 ")
+    for name, text in (
+        ("real", "rank @3r "),
+        ("real-above-9", "rank @10r "),
+        ("minus", "rank @-1 "),
+        ("without-number", "rank @"),
+        ("twice", "rank 1 @rank 2 "),
+    ):
+        refused("rank-" + name, 13, RANKED % text)
+    refused("rank-before-when", 13, EK + "rules @rank 1 " + RULE % "" + "end")
+    refused("rank-after-condition", 13, EK + "rules when " + CLAUSE + " @rank 1 trigger " + CALL + " end end")
+    refused("rank-ends-the-text", 13, "rules when rank # 1\n@")
+    # 13 before 44
+    refused("rank-10-ends-the-text", 13, "rules when rank 10@")
+    # reserved
+    refused("rank-names-interface", 13, "interface @rank { } rules end")
+    refused("rank-names-attribute", 13, "interface I { attribute @rank : whole } rules end")
+    refused("rank-names-event", 13, "interface I { event @rank : whole } rules end")
+    refused("rank-names-entity", 13, "interface I { } entity @rank : I { } rules end")
+    refused("rank-names-variable", 13, EK + "rules when event e from @rank : I value changed trigger " + CALL + " end end")
+    refused("rank-assigned", 13, "interface I { } entity s : I { @rank = 1 } rules end")
+
+
+def make_order_of_ranks():
+    # "The first rank above 9": not the greatest
+    refused("rank-first-above-9", 44, EK + "rules " + RULE % "rank 9 " + RULE % "rank @11 " + RULE % "rank 12 " + RULE % "rank 10 " + "end")
+    # "after 13", and so after 12
+    refused("rank-after-12", 12, RANKED % "rank 10 " + " @;")
+    refused("rank-after-13", 13, EK + "rules " + RULE % "rank 10 " + "when " + CLAUSE + " trigger @end end")
+    refused("rank-after-13-of-a-rank", 13, EK + "rules " + RULE % "rank 10 " + RULE % "rank @9r " + "end")
+    # "before 14", though what is beyond a count stands earlier
+    refused("rank-before-14-interfaces", 44, "interface A { } " * 17 + RANK_10)
+    refused(
+        "rank-before-14-variables",
+        44,
+        EK + "rules when event e from x : I value changed and event e from y : I value changed "
+        "trigger action k ( 1 ) on z : I , action k ( 1 ) on w : I end " + RULE % "rank @10 " + "end",
+    )
+    nine_clauses, nine_calls = " or ".join([CLAUSE] * 9), " , ".join([CALL] * 9)
+    refused("rank-before-14-clauses", 44, EK + "rules when " + nine_clauses + " trigger " + CALL + " end " + RULE % "rank @10 " + "end")
+    refused("rank-before-14-calls", 44, EK + "rules when " + CLAUSE + " trigger " + nine_calls + " end " + RULE % "rank @10 " + "end")
+    # and before 15 to 18
+    refused("rank-before-15", 44, "interface A { } interface A { } " + RANK_10)
+    refused("rank-before-16", 44, "entity s : A { } " + RANK_10)
+    refused("rank-before-17", 44, "interface A { attribute a : whole } entity s : A { } " + RANK_10)
+    refused(
+        "rank-before-18",
+        44,
+        "interface I { attribute a : bool event e : whole action k ( whole ) } entity s : I { a = 1 } " + RANK_10,
+    )
+
+
+# --------------------------------------------------------------------------
 # Readings: the trial table, headers, refusals
 # --------------------------------------------------------------------------
 
@@ -659,28 +737,30 @@ def make_writes():
         "interface A { attribute n : whole event t : whole } interface B { attribute n : whole action w ( whole ) } "
         "entity b : B { n = 10 } entity a : A { n = 1 } entity c : A { n = 2 } entity d : B { n = 20 } entity z : O { } "
         "rules when event t from x : A value changed "
-        "trigger action o ( x.n * 100 + y.n + 0 / ( 220 - x.n * 100 - y.n ) ) on z , "
+        "trigger action o ( x.n * 100 + y.n + 0 / ( 110 - x.n * 100 - y.n ) ) on z , "
         "action p ( x.n * 100 + y.n ) on z , action w ( x.n ) on y : B end end",
         [
             ("by n a.t c.t c", "by n b.w d.w z.o z.p z.q"),
-            ("a 1 1 1 -", "a 1 2 2 210 220 -"),
-            ("a 2 2 - -", "a 2 1 1 120 120 -"),
-            ("a 3 - 2 -", "a 3 2 2 210 220 -"),
-            ("a 4 3 - false", "a 4 1 1 120 120 -"),
+            # 110, for which o is unset, then 120, 210, 220: the earliest write stands
+            ("a 1 1 1 -", "a 1 1 1 120 110 -"),
+            ("a 2 2 - -", "a 2 1 1 120 110 -"),
+            ("a 3 - 2 -", "a 3 2 2 210 210 -"),
+            ("a 4 3 - false", "a 4 1 1 120 110 -"),
             ("a 5 - - true", "a 5 - - - - -"),
         ],
     )
     ran(
-        "run-last-write-stands",
+        # document 02, order 6: "The case keep(1), keep(2) now leaves 1"
+        "run-first-write-stands",
         "interface S { event e : whole action keep ( whole ) } entity s : S { } "
-        "rules when event e from s value changed trigger action keep ( 1 ) on s , action keep ( 2 ) on s end "
-        "when event e from s value = 5 trigger action keep ( 3 ) on s , action keep ( 1 / 0 ) on s end end",
+        "rules when event e from s value = 5 trigger action keep ( 1 / 0 ) on s , action keep ( 3 ) on s end "
+        "when event e from s value changed trigger action keep ( 1 ) on s , action keep ( 2 ) on s end end",
         [
             ("by n s.e", "by n s.keep"),
-            ("a 1 4", "a 1 2"),
+            ("a 1 4", "a 1 1"),
             ("a 2 5", "a 2 3"),
             ("a 3 5", "a 3 -"),
-            ("a 4 4", "a 4 2"),
+            ("a 4 4", "a 4 1"),
         ],
     )
 
@@ -1590,6 +1670,344 @@ def make_nine_senders():
 
 
 # --------------------------------------------------------------------------
+# Readings: ranks (document 02, order 6)
+# --------------------------------------------------------------------------
+
+BOX = "interface B { event x : whole event y : whole event z : whole } "
+LAMP = "interface L { action set ( whole ) } "
+
+
+def bench_of(interfaces, entities, *rules):
+    """A bench with a box b, whose events x, y and z the rules read."""
+    return BOX + interfaces + "entity b : B { } " + entities + "rules " + " ".join(rules) + " end"
+
+
+def lamp_bench(*rules):
+    """A lamp l that the rules set."""
+    return bench_of(LAMP, "entity l : L { } ", *rules)
+
+
+def follows(event, rank=""):
+    """A rule by which the lamp follows an event of the box."""
+    return "when %sevent %s from b value changed trigger action set ( b.%s ) on l end" % (rank, event, event)
+
+
+def make_ranks_of_two_rules():
+    # x is of higher rank
+    table = [
+        ("by n b.x b.y", "by n l.set"),
+        ("a 1 1 2", "a 1 1"),
+        ("a 2 - 3", "a 2 3"),
+        ("a 3 4 -", "a 3 4"),
+        ("a 4 5 6", "a 4 5"),
+        ("a 5 - -", "a 5 -"),
+        ("a 6 ? 7", "a 6 7"),
+    ]
+    ran("run-rank-higher-first", lamp_bench(follows("x", "rank 5 "), follows("y", "rank 2 ")), table)
+    ran("run-rank-higher-last", lamp_bench(follows("y", "rank 2 "), follows("x", "rank 5 ")), table)
+    # y is written earlier; of two ranks that are equal, and not 0
+    ran("run-rank-equal", lamp_bench(follows("y", "rank 4 "), follows("x", "rank 4 ")), [
+        ("by n b.x b.y", "by n l.set"),
+        ("a 1 1 2", "a 1 2"),
+        ("a 2 3 -", "a 2 3"),
+        ("a 3 - 4", "a 3 4"),
+        ("a 4 5 6", "a 4 6"),
+        # y changes, but there is no value to write
+        ("a 5 6 ?", "a 5 6"),
+    ])
+    bench = lamp_bench(follows("x", "rank 9 "), follows("y", "rank 10 "))
+    ran_text("run-rank-refused-bench", bench, "by n b.x\na 1 1\n", "refused 44 %d\n" % bench.index("10"))
+
+
+def make_ranks_of_three_rules():
+    # "without it the rank is 0": none is before 0, and 0 before none
+    ran("run-rank-0-and-none", lamp_bench(follows("x"), follows("y", "rank 0 "), follows("z")), [
+        ("by n b.x b.y b.z", "by n l.set"),
+        ("a 1 1 2 3", "a 1 1"),
+        ("a 2 - 4 5", "a 2 4"),
+        ("a 3 6 - 7", "a 3 6"),
+        ("a 4 - - 8", "a 4 8"),
+    ])
+    ran("run-rank-earliest-of-the-highest", lamp_bench(follows("x", "rank 5 "), follows("y", "rank 9 "), follows("z", "rank 9 ")), [
+        ("by n b.x b.y b.z", "by n l.set"),
+        ("a 1 1 2 3", "a 1 2"),
+        ("a 2 4 - 5", "a 2 5"),
+        ("a 3 6 7 -", "a 3 7"),
+        ("a 4 8 - -", "a 4 8"),
+        ("a 5 - 9 10", "a 5 9"),
+    ])
+    # the numbers are compared, not their digits
+    ran("run-rank-leading-zeros", lamp_bench(follows("x", "rank 8 "), follows("y", "rank 09 "), follows("z", "rank 0000000009 ")), [
+        ("by n b.x b.y b.z", "by n l.set"),
+        ("a 1 1 2 3", "a 1 2"),
+        ("a 2 4 - 5", "a 2 5"),
+        ("a 3 6 - -", "a 3 6"),
+        ("a 4 - 7 8", "a 4 7"),
+    ])
+    # "lab managers want the safety rule to stand wherever it is written"
+    safety = "when rank 9 event z from b value = 1 trigger action set ( 0 ) on l end"
+    for place, name in enumerate(("first", "in-the-middle", "last")):
+        rules = [follows("x", "rank 1 "), follows("y")]
+        rules.insert(place, safety)
+        ran("run-rank-safety-" + name, lamp_bench(*rules), [
+            ("by n b.x b.y b.z", "by n l.set"),
+            ("a 1 5 6 0", "a 1 5"),
+            ("a 2 7 8 1", "a 2 0"),
+            # z stays
+            ("a 3 9 - 1", "a 3 9"),
+            ("a 4 - 10 0", "a 4 10"),
+            ("a 5 - - 1", "a 5 0"),
+            ("a 6 11 12 ?", "a 6 11"),
+            ("a 7 13 14 1", "a 7 0"),
+            ("a 7 13 14 1", "a 7 0"),
+        ])
+
+
+BOXES_OF_BAYS = (
+    "interface B { attribute id : whole event t : whole } interface L { action set ( whole ) } "
+    "entity c : B { id = 2 } entity b : B { id = 1 } entity d : B { id = 3 } entity l : L { } rules "
+)
+
+
+def make_ranks_of_choices_and_calls():
+    # c stands first in the file
+    ran(
+        "run-rank-first-choice-stands",
+        BOXES_OF_BAYS + "when rank 3 event t from x : B value changed trigger action set ( x.id ) on l end end",
+        [
+            ("by n b.t c.t d.t c", "by n l.set"),
+            ("a 1 1 1 1 -", "a 1 2"),
+            ("a 2 2 - 2 -", "a 2 1"),
+            ("a 3 - - 3 -", "a 3 3"),
+            ("a 4 3 - 4 false", "a 4 1"),
+            ("a 5 - 4 5 true", "a 5 2"),
+        ],
+    )
+    # a later choice of the second rule stands over the first one of the first rule
+    ran(
+        "run-rank-choices-of-two-rules",
+        BOXES_OF_BAYS + "when rank 1 event t from x : B value changed trigger action set ( x.id ) on l end "
+        "when rank 2 event t from x : B value = 7 trigger action set ( x.id * 10 ) on l end end",
+        [
+            ("by n b.t c.t d.t", "by n l.set"),
+            ("a 1 7 1 7", "a 1 10"),
+            ("a 2 1 7 1", "a 2 20"),
+            ("a 3 2 3 4", "a 3 2"),
+            ("a 4 - - 7", "a 4 30"),
+            ("a 5 7 - -", "a 5 10"),
+            # d stays 7
+            ("a 6 8 7 7", "a 6 20"),
+        ],
+    )
+    # of one rule the first call with a value; y's rule is written earlier
+    ran(
+        "run-rank-first-call-stands",
+        lamp_bench(
+            follows("y", "rank 2 "),
+            "when rank 7 event x from b value changed "
+            "trigger action set ( 12 / b.x ) on l , action set ( b.x ) on l , action set ( 99 ) on l end",
+        ),
+        [
+            ("by n b.x b.y", "by n l.set"),
+            ("a 1 4 1", "a 1 3"),
+            ("a 2 0 2", "a 2 0"),
+            ("a 3 ? 3", "a 3 99"),
+            ("a 4 - 5", "a 4 5"),
+            ("a 5 -5 6", "a 5 -3"),
+        ],
+    )
+
+
+def make_ranks_that_write_nothing():
+    # "An unset parameter writes nothing", so the lower rank stands
+    ran(
+        "run-rank-unset-parameter",
+        lamp_bench("when rank 9 event x from b value changed trigger action set ( 12 / b.x ) on l end", follows("y")),
+        [
+            ("by n b.x b.y", "by n l.set"),
+            ("a 1 0 5", "a 1 5"),
+            ("a 2 3 6", "a 2 4"),
+            ("a 3 ? 7", "a 3 7"),
+            ("a 4 2 -", "a 4 6"),
+            ("a 5 0 -", "a 5 -"),
+            ("a 6 - 8", "a 6 8"),
+        ],
+    )
+    ran(
+        "run-rank-call-filter",
+        bench_of(
+            "interface L { attribute id : whole action set ( whole ) } ",
+            "entity l : L { id = 2 } ",
+            "when rank 9 event x from b value changed trigger action set ( 0 ) on l with id = b.z end",
+            follows("y", "rank 8 "),
+        ),
+        [
+            ("by n b.x b.y b.z", "by n l.set"),
+            ("a 1 1 5 2", "a 1 0"),
+            ("a 2 2 6 3", "a 2 6"),
+            ("a 3 3 7 2", "a 3 0"),
+            ("a 4 4 8 ?", "a 4 8"),
+            ("a 5 5 - -", "a 5 -"),
+            ("a 6 - 9 2", "a 6 9"),
+        ],
+    )
+    # a named guard, and any guard, that may be away
+    ran(
+        "run-rank-absent-guard",
+        bench_of(
+            LAMP + "interface G { event stop : bool } ",
+            "entity l : L { } entity g : G { } entity h : G { } ",
+            follows("x"),
+            "when rank 9 event stop from g value = true trigger action set ( 0 ) on l end",
+            "when rank 5 event stop from v : G value = true trigger action set ( 1 ) on l end",
+        ),
+        [
+            ("by n b.x g g.stop h.stop", "by n l.set"),
+            ("a 1 5 - true false", "a 1 0"),
+            ("a 2 6 false - true", "a 2 1"),
+            ("a 3 7 - - -", "a 3 7"),
+            ("a 4 8 true true false", "a 4 0"),
+            ("a 5 9 - false true", "a 5 1"),
+            ("a 6 10 false - -", "a 6 10"),
+            ("a 7 11 - true -", "refused 23"),
+            ("a 7 11 - - -", "a 7 11"),
+        ],
+    )
+    # at the absent lamp neither rank writes; y's rule does not write to the other lamp
+    ran(
+        "run-rank-absent-lamp",
+        bench_of(
+            LAMP,
+            "entity l : L { } entity m : L { } ",
+            "when event x from b value changed trigger action set ( b.x ) on v : L end",
+            "when rank 9 event y from b value changed trigger action set ( 0 ) on l end",
+        ),
+        [
+            ("by n b.x b.y l", "by n l.set m.set"),
+            ("a 1 1 1 -", "a 1 0 1"),
+            ("a 2 2 2 false", "a 2 - 2"),
+            ("a 3 - 3 -", "a 3 - -"),
+            ("a 4 3 4 true", "a 4 0 3"),
+            ("a 5 4 - -", "a 5 4 4"),
+            ("a 6 - 5 -", "a 6 0 -"),
+        ],
+    )
+
+
+def make_ranks_of_cells():
+    # rank decides for each cell: y's rule writes p alone
+    both = "when rank %d event %s from b value changed trigger action o ( b.%s ) on z , action p ( b.%s ) on z end"
+    ran(
+        "run-rank-for-each-cell",
+        bench_of(
+            OUT,
+            "entity z : O { } ",
+            both % (2, "x", "x", "x"),
+            "when rank 3 event y from b value changed trigger action p ( b.y ) on z end",
+            both % (1, "z", "z", "z"),
+        ),
+        [
+            ("by n b.x b.y b.z", "by n z.o z.p"),
+            ("a 1 1 2 3", "a 1 1 2"),
+            ("a 2 - 4 5", "a 2 5 4"),
+            ("a 3 6 - 7", "a 3 6 6"),
+            ("a 4 - 8 -", "a 4 - 8"),
+            ("a 5 - - 9", "a 5 9 9"),
+            ("a 6 ? 10 11", "a 6 11 10"),
+        ],
+    )
+    # zeros and truths are not compared, only ranks
+    ran(
+        "run-rank-of-all-kinds",
+        "interface B { event r : real event s : real event p : bool event q : bool } "
+        "interface L { action glow ( real ) action lit ( bool ) } entity b : B { } entity l : L { } "
+        "rules when event r from b value changed trigger action glow ( b.r ) on l , action lit ( b.p ) on l end "
+        "when rank 1 event s from b value changed trigger action glow ( b.s ) on l , action lit ( b.q ) on l end end",
+        [
+            ("by n b.r b.s b.p b.q", "by n l.glow l.lit"),
+            ("a 1 0000000000000000 8000000000000000 true false", "a 1 8000000000000000 false"),
+            # s is the other zero, which is no change
+            ("a 2 3ff0000000000000 0000000000000000 - -", "a 2 3ff0000000000000 true"),
+            ("a 3 - bff0000000000000 false ?", "a 3 bff0000000000000 -"),
+            # s has no value to write, q has
+            ("a 4 4000000000000000 ? - true", "a 4 4000000000000000 true"),
+        ],
+    )
+    # the rank is the whole condition's
+    ran(
+        "run-rank-of-whole-condition",
+        lamp_bench(
+            follows("x", "rank 1 "),
+            "when rank 2 ( event x from b value changed or event y from b value changed ) and event z from b value changed "
+            "trigger action set ( 0 ) on l end",
+        ),
+        [
+            ("by n b.x b.y b.z", "by n l.set"),
+            ("a 1 1 - 1", "a 1 0"),
+            ("a 2 2 - -", "a 2 2"),
+            ("a 3 - 1 2", "a 3 0"),
+            ("a 4 - 2 -", "a 4 -"),
+            ("a 5 3 4 3", "a 5 0"),
+            ("a 6 - - 4", "a 6 -"),
+        ],
+    )
+
+
+def make_ranks_over_cycles():
+    # what stands is seen, one cycle later, also by the highest rank
+    ran(
+        "run-rank-action-seen-one-cycle-later",
+        bench_of(
+            "interface L { action set ( whole ) action o ( whole ) } ",
+            "entity l : L { } ",
+            "when rank 9 event set from l value changed trigger action o ( l.set ) on l end",
+            follows("x"),
+            follows("y", "rank 5 "),
+        ),
+        [
+            ("by n b.x b.y", "by n l.set l.o"),
+            ("a 1 1 2", "a 1 2 -"),
+            ("a 2 3 -", "a 2 3 2"),
+            ("a 3 4 5", "a 3 5 3"),
+            ("a 4 - -", "a 4 - 5"),
+            # set has become unset: there is no value to write
+            ("a 5 - -", "a 5 - -"),
+            ("a 6 6 -", "a 6 6 -"),
+            ("a 7 7 7", "a 7 7 6"),
+        ],
+    )
+    # from line 2 on the lamp counts down, and x is not heard before the lamp has left
+    ran(
+        "run-rank-feeds-itself",
+        lamp_bench(follows("x"), "when rank 9 event set from l value changed trigger action set ( l.set - 1 ) on l end"),
+        [
+            ("by n b.x l", "by n l.set"),
+            ("a 1 5 -", "a 1 5"),
+            ("a 2 9 -", "a 2 4"),
+            ("a 3 - -", "a 3 3"),
+            ("a 4 7 -", "a 4 2"),
+            ("a 4 7 -", "a 4 2"),
+            ("a 5 - -", "a 5 1"),
+            ("a 6 - false", "a 6 -"),
+            ("a 7 8 true", "a 7 8"),
+            ("a 8 9 -", "a 8 7"),
+        ],
+    )
+    ran("run-rank-resent", lamp_bench(follows("y"), follows("x", "rank 1 ")), [
+        ("by n b.x b.y", "by n l.set"),
+        ("a 1 1 2", "a 1 1"),
+        ("c 1 - 3", "c 1 3"),
+        ("a 1 1 2", "a 1 1"),
+        ("c 1 - 3", "c 1 3"),
+        ("a 1 1 3", "refused 25"),
+        ("c 2 4 5", "c 2 4"),
+        ("a 1 1 2", "a 1 1"),
+        ("a 2 - 6", "a 2 6"),
+        ("c 2 4 5", "c 2 4"),
+    ])
+
+
+# --------------------------------------------------------------------------
 # Readings drawn at random
 # --------------------------------------------------------------------------
 
@@ -1641,19 +2059,22 @@ def make_random():
     columns = ["a", "a.on_", "a.v", "b", "b.on_", "b.v", "h.w"]
     draw.shuffle(columns)
     case = add("run-random", MAZE, random_readings(draw, columns))
-    # worked out by hand.  Document 02, order 2: a.flag is true as line 2 of x_1 sees it, so sum takes - h.w / b.id, which
-    # is -1 / 2; in east's line each set takes that sum less its v, -3 and 1.  Order 5: then the lines of west, which was
-    # the first, and of x_1 are sent again
+    # worked out by hand.  Order 6: the earlier choice stands in west 1 (-29 before -28), in x_1 2, which sees a.flag
+    # true (- h.w / a.id before - h.w / b.id), and the earlier rule in west 2 (22 and 21 before 0).  Order 2: -1 / 2 is -1.
+    # Order 5: after east's line the lines of west, which was the first, and of x_1 are sent again
     assert "\nx_1 2 ? - true - ? -3 1\neast 1 false - ? true 1 -3 2\nwest 1 " in case["readings"], case
-    assert case["printed"].split("\n")[2:10] == [
-        "west 1 - - - - -28",
-        "x_1 1 -30 true -28 - 22",
+    assert case["printed"].split("\n")[2:13] == [
+        "west 1 - - - - -29",
+        "x_1 1 -31 true -29 - 22",
         "x_1 2 25 - - - -1",
         "east 1 2 - -2 - 11",
-        "west 1 - - - - -28",
+        "west 1 - - - - -29",
         "x_1 2 25 - - - -1",
         "x_1 2 25 - - - -1",
-        "west 1 - - - - -28",
+        "west 1 - - - - -29",
+        "refused 23",
+        "west 2 9 false 9 - 22",
+        "east 2 22 - 20 - -",
     ], case
 
 
@@ -2178,7 +2599,8 @@ def check_trials():
     assert one_action("(-2147483647 - 1) / -1") == b"-"
     assert one_action("1r / 3r", "real") == b"3fd5555555555555"
     keep = PEDAL.replace("action keep ( s.pos ) on k", "action keep ( 1 ) on k , action keep ( 2 ) on k")
-    assert run(keep.encode(), b"by n p.down\na 1 true\n") == b"by n k.keep\na 1 2\n"
+    # document 02, order 6: "The case keep(1), keep(2) now leaves 1"
+    assert run(keep.encode(), b"by n p.down\na 1 true\n") == b"by n k.keep\na 1 1\n"
     # document 02, order 1: "The case [...] that any such test is false in cycle 1 is dropped"; its bench fires there
     for clause, row_of_two in (("value changed", b"a 1 2\n"), ("value = 1", b"a 1 -\n")):
         text = PLAIN.replace("from s value changed", "from s with a = 1 " + clause)
@@ -2349,6 +2771,51 @@ def check_forms_of_senders():
             assert (code, row) == ((0, line) if letter or before and goes_on else (parts, None)), line
 
 
+def check_ranks():
+    """Numbers of ranks, what is none, and 44 before 14 where there are 65 rules."""
+    for number in [*range(30), 99, 100, 2147483647]:
+        for digits in ("%d", "%02d", "%010d"):
+            text = RANKED % ("rank %s " % (digits % number))
+            place = len(EK + "rules when rank ")
+            assert check(text.encode()) == ((0, 0) if number <= 9 else (44, place)), text
+    for marked in ("rank @true ", "rank @( 1 ) ", "rank @s.e ", "rank @+1 ", "rank @: 1 ", "rank 1 @2 ", "rank 1 @, ", "@1 ", "( @rank 1 "):
+        assert check((RANKED % marked.replace("@", "")).encode()) == (13, (RANKED % marked).index("@")), marked
+    for places in ([64], [0], [63], [2, 64], [64, 40, 13]):
+        rules = [RULE % "rank 9 "] * 65
+        for number, place in enumerate(places, 10):
+            rules[place] = RULE % ("rank %d " % number)
+        text = EK + "rules " + "".join(rules) + "end"
+        assert check(text.encode()) == (44, len(EK + "rules " + "".join(rules[: min(places)]) + "when rank ")), places
+    text = EK + "rules " + RULE % "rank 9 " * 64
+    assert check((text + "end").encode()) == (0, 0)
+    assert check((text + RULE % "" + "end").encode()) == (14, len(text))
+    assert check((text + RULE % "rank 10r " + "end").encode()) == (13, len(text + "when rank "))
+
+
+def check_lists_of_rules():
+    """Rules of ranks drawn at random, of which each has an event of its own: of those that fire, one stands.
+
+    It is found by sorting: from the highest rank down, and among equal ranks in the order of the file.
+    """
+    draw = random.Random(SEED)
+    events = ["e%d" % number for number in range(11)]
+    interface = "interface S { %s action k ( whole ) } entity s : S { } " % " ".join("event %s : whole" % event for event in events)
+    names = "by n " + " ".join("s." + event for event in events)
+    for _ in range(100):
+        ranks = [draw.randrange(draw.choice([1, 3, 10])) for _ in events]
+        rules = ["when %sevent %s from s value changed trigger action k ( %d ) on s end " % (
+            "rank %d " % rank if rank or draw.random() < 0.5 else "", event, number
+        ) for number, (event, rank) in enumerate(zip(events, ranks))]
+        lines, rows = [names], ["by n s.k"]
+        for line in range(1, 20):
+            fired = [number for number in range(len(events)) if draw.random() < draw.choice([0.1, 0.5])]
+            lines.append("a %d " % line + " ".join(str(line) if number in fired else "-" for number in range(len(events))))
+            by_rank = sorted(fired, key=lambda number: (-ranks[number], number))
+            rows.append("a %d %s" % (line, by_rank[0] if by_rank else "-"))
+        printed = run((interface + "rules " + "".join(rules) + "end").encode(), "\n".join(lines).encode())
+        assert printed.decode().split("\n") == rows + [""], (ranks, lines)
+
+
 NO_LINE = (0, "- -", b"")  # number, fields and row of a sender that is not known
 
 
@@ -2507,10 +2974,10 @@ def check_folder_of_cases():
     for case in CASES:
         if senders_taken(case) == 8:
             assert case["bench"] == FIRE and case["readings"].count("\n") <= 11, case["name"]
-    assert 70 <= len(CASES) <= 150, len(CASES)
+    assert 70 <= len(CASES) <= 210, len(CASES)
     codes = [case["check"][0] for case in CASES if case["readings"] is None]
     assert codes.count(0) >= 3
-    for code in range(12, 19):
+    for code in [*range(12, 19), 44]:
         assert codes.count(code) >= 3, code
     printed = "".join(case["printed"] or "" for case in CASES)
     for row in REFUSED_ROWS:
@@ -2526,6 +2993,8 @@ def make_all():
     make_names()
     make_mixed_names()
     make_kinds()
+    make_ranks()
+    make_order_of_ranks()
     check_trials()
     make_headers()
     make_refused_lines()
@@ -2542,6 +3011,12 @@ def make_all():
     make_names_of_senders()
     make_order_of_refusals()
     make_nine_senders()
+    make_ranks_of_two_rules()
+    make_ranks_of_three_rules()
+    make_ranks_of_choices_and_calls()
+    make_ranks_that_write_nothing()
+    make_ranks_of_cells()
+    make_ranks_over_cycles()
     make_random()
     check_quotients()
     check_classes()
@@ -2550,6 +3025,8 @@ def make_all():
     check_missing_columns()
     check_kept_rows()
     check_forms_of_senders()
+    check_ranks()
+    check_lists_of_rules()
     check_lists_of_lines()
     check_folder_of_cases()
 

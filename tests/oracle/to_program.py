@@ -74,7 +74,8 @@ def add_trials():
     add("trial-rules-end", b"rules end", lines(b"by n", b"a 1"), lines(b"by n", b"a 1"))
     add("trial-no-bytes", b"", None, b"refused 13 0\n")
     twice = PLAIN.replace(b"action k ( s.e ) on s", b"action k ( 1 ) on s , action k ( 2 ) on s")
-    add("trial-keep-twice", twice, lines(b"by n s.e", b"a 1 7"), lines(b"by n s.k", b"a 1 2"))
+    # document 02, order 6: "The case keep(1), keep(2) now leaves 1"
+    add("trial-keep-twice", twice, lines(b"by n s.e", b"a 1 7"), lines(b"by n s.k", b"a 1 1"))
     for name, test in ((b"changed", b"value changed"), (b"equal", b"value = s.e")):
         text = PLAIN.replace(b"from s value changed", b"from s with a = 1 " + test)
         row = b"a 2 8" if name == b"changed" else b"a 2 -"
@@ -110,12 +111,26 @@ def add_bench_limits():
     rules = b"".join(b"when event e from s value = %d trigger action k ( %d ) on s end " % (number, number + 100) for number in range(64))
     printed = lines(b"by n s.k", b"a 1 100", b"a 2 163", b"a 3 -")
     add("rules-64", begun + rules + b"end", lines(b"by n s.e", b"a 1 0", b"a 2 63", b"a 3 64"), printed)
+    add_rank_limits(begun)
     three = b"when event e from x : I value changed and event e from y : I value changed trigger action k ( x.e + y.e ) on z : I end end"
     add("variables-3", begun + three, lines(b"by n s.e", b"a 1 5"), lines(b"by n s.k", b"a 1 10"))
     eight = b"when " + b" and ".join([CLAUSE] * 8) + b" trigger " + b" , ".join([CALL] * 8) + b" end end"
     add("clauses-8-calls-8", begun + eight, lines(b"by n s.e", b"a 1 5"), lines(b"by n s.k", b"a 1 5"))
     numbers = PLAIN.replace(b"s.e ) on", b"s.e - 2147483647 + 0000000007 ) on")
     add("number-2147483647", numbers, lines(b"by n s.e", b"a 1 2147483647"), lines(b"by n s.k", b"a 1 7"))
+
+
+def add_rank_limits(begun):
+    """64 rules that write one cell, the safety rule first or last among them, and 66 rules, the last of a rank above 9."""
+    ordinary = b"".join(b"when rank %d event e from s value changed trigger action k ( %d ) on s end " % (number % 9, number) for number in range(63))
+    safety = b"when rank 9 event e from s value = 5 trigger action k ( 100 ) on s end "
+    # 8 is the first of the highest rank below 9
+    readings = lines(b"by n s.e", b"a 1 4", b"a 2 5", b"a 2 5", b"a 3 5", b"a 4 6")
+    printed = lines(b"by n s.k", b"a 1 8", b"a 2 100", b"a 2 100", b"a 3 -", b"a 4 8")
+    add("rules-64-safety-first", begun + safety + ordinary + b"end", readings, printed)
+    add("rules-64-safety-last", begun + ordinary + safety + b"end", readings, printed)
+    many = begun + safety + ordinary + safety + safety.replace(b"9", b"10") + b"end"
+    add("rules-66-rank-10", many, readings, b"refused 44 %d\n" % many.rindex(b"10 event"))
 
 
 # --------------------------------------------------------------------------

@@ -1,5 +1,6 @@
 -- Steps of the proofs of functions: for this crate alone.
 pub mod CountScanLaws
+pub mod PriorityScanLaws
 pub mod CountLaws
 pub mod ColumnCountLaws
 pub mod PlaceLaws

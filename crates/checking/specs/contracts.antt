@@ -13,6 +13,7 @@ pub mod RuleWalk
 pub mod RuleParts
 pub mod Called
 pub mod CheckedBench
+pub mod PriorityScan
 pub mod FileWalk
 pub mod CheckSteps
 pub mod Resolution

@@ -19,6 +19,7 @@ use crate::layout::MOST_BYTES;
 use crate::layout::MOST_RULES;
 use crate::layout::RULE_COUNT_ROW;
 use crate::layout::RULE_ROWS;
+use crate::priorities::priority_fault;
 use crate::rules::rule_faults;
 use crate::table::row;
 use text::Syntax;
@@ -84,18 +85,27 @@ fn otherwise(first: Found, second: Found) -> Found
     }
 }
 
-// The fault that a grammatical file is refused for: its counts come first, then its names, then its kinds. Fills the directory.
-fn judged(text: &[u8], classes: &[u8], offsets: &[u16], lengths: &[u8], d: &mut [u16]) -> Found
+// The fault that a grammatical file is refused for: its priorities come first, then its counts, its names, its kinds. Fills the directory.
+fn judged(
+    text: &[u8],
+    classes: &[u8],
+    offsets: &[u16],
+    lengths: &[u8],
+    values: &[u32],
+    d: &mut [u16],
+) -> Found
     ensures { λ r. ⌜
-        Judged (now (text .entry)) (now (classes .entry)) (now (offsets .entry)) (now (lengths .entry)) (now (d .entry)) (now (d .exit)) r ⌝ }
+        Judged (now (text .entry)) (now (classes .entry)) (now (offsets .entry)) (now (lengths .entry)) (now (values .entry)) (now (d .entry))
+        (now (d .exit)) r ⌝ }
 {
+    let priorities = priority_fault(classes, offsets, values);
     let counts = count_fault(classes, offsets);
     build(classes, d);
     link_entities(text, offsets, lengths, d);
     let found = file_faults(text, classes, offsets, lengths, d);
     let names = found.names;
     let kinds = found.kinds;
-    otherwise(counts, otherwise(names, kinds))
+    otherwise(priorities, otherwise(counts, otherwise(names, kinds)))
 }
 
 // ---- the answer
@@ -137,10 +147,12 @@ fn settled(
     classes: &[u8],
     offsets: &[u16],
     lengths: &[u8],
+    values: &[u32],
     d: &mut [u16],
 ) -> Checked
     ensures { λ r. ⌜
-        Settles (now (text .entry)) (now (classes .entry)) (now (offsets .entry)) (now (lengths .entry)) (now (d .entry)) (now (d .exit)) syntax r ⌝ }
+        Settles (now (text .entry)) (now (classes .entry)) (now (offsets .entry)) (now (lengths .entry)) (now (values .entry)) (now (d .entry))
+        (now (d .exit)) syntax r ⌝ }
 {
     match syntax {
         Syntax::NoRoom => Checked::NoRoom,
@@ -149,7 +161,7 @@ fn settled(
         Syntax::UnfitAt(p) => refused(13, p),
         Syntax::File(n) => {
             let rows = first_rows(classes, n);
-            let found = judged(text, rows, offsets, lengths, d);
+            let found = judged(text, rows, offsets, lengths, values, d);
             concluded(n, found)
         }
     }
@@ -171,5 +183,5 @@ pub fn check(
         return Checked::NoRoom;
     }
     let syntax = read(text, classes, offsets, lengths, values);
-    settled(syntax, text, classes, offsets, lengths, d)
+    settled(syntax, text, classes, offsets, lengths, values, d)
 }

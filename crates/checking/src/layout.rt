@@ -15,6 +15,9 @@ pub const MOST_CLAUSES: usize = 8;
 
 pub const MOST_CALLS: usize = 8;
 
+// "one number 0 to 9"
+pub const MOST_PRIORITY: u32 = 9;
+
 // "At most 32,768 bytes", and so at most that many tokens.
 pub const MOST_BYTES: usize = 32768;
 

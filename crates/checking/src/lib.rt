@@ -11,6 +11,7 @@ pub mod interfaces; // the interfaces of a file
 pub mod layout; // the counts, and the rows of a directory
 pub mod meanings; // what the names in a rule mean
 pub mod names; // an entity's name by its number
+pub mod priorities; // the priorities of rules
 pub mod resolver; // what the names of rules refer to, as numbers
 pub mod rules; // names and kinds of rules
 pub mod table; // what the columns and the directory say

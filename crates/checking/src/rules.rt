@@ -9,6 +9,7 @@ use crate::faults::Found;
 use crate::faults::earlier;
 use crate::meanings::repeated;
 use text::grammar::OPENERS;
+use text::walks::priority_end;
 use text::walks::skip;
 
 // The faults of the rule whose `when` is token number `at`.
@@ -31,7 +32,7 @@ pub fn rule_faults(
         lengths,
         d,
         at,
-        skip(at, size),
+        priority_end(classes, skip(at, size)),
         OPENERS,
     );
     let first = call(text, classes, offsets, lengths, d, at, skip(c.next, size));

@@ -7,7 +7,7 @@ ghost use Rattle.checking.specs.contracts.Directory.{ENTITY-COUNT-ROW, rule-row
 ghost use Rattle.checking.specs.definitions.CountFaults.{MOST-INTERFACES};
 ghost use Rattle.cycles.specs.contracts.AllRules.{complete, candidate, Ranged, Ranges, Bindings-put, Rules-put};
 ghost use Rattle.cycles.specs.contracts.Guards.{ALL-GUARD-ROWS, Guards-found, Marks-set};
-ghost use Rattle.cycles.specs.definitions.Planes.{MOST-CELL-BYTES};
+ghost use Rattle.cycles.specs.contracts.Evaluation.{MOST-PENDING-BYTES};
 use crate::calls::rule_at;
 use crate::evaluate::Binding;
 use crate::evaluate::is_present;
@@ -130,7 +130,7 @@ fn bind(
     b: Binding,
     area: &mut [u8],
 )
-    requires { ⌜ MOST-CELL-BYTES ≤ length (now area) ⌝ }
+    requires { ⌜ MOST-PENDING-BYTES ≤ length (now area) ⌝ }
     requires { ⌜ Ranges (now d) (now flags) (getD (now d) ENTITY-COUNT-ROW 0) (now ranges) ⌝ }
     requires { ⌜ Guards-found (now classes) (now refs) (getD (now d) (rule-row k) 0 + 1) (now guards) count ⌝ }
     ensures { λ _. ⌜
@@ -239,7 +239,7 @@ pub fn all_rules(
     previous_cells: &[u8],
     area: &mut [u8],
 )
-    requires { ⌜ MOST-CELL-BYTES ≤ length (now area) ⌝ }
+    requires { ⌜ MOST-PENDING-BYTES ≤ length (now area) ⌝ }
     ensures { λ _. ⌜
         Rules-put (now (classes .entry)) (now (values .entry)) (now (d .entry)) (now (refs .entry)) (now (scopes .entry)) (now (flags .entry))
         (now (cells .entry)) (now («previous_flags» .entry)) (now («previous_cells» .entry)) (now (area .entry)) (now (area .exit)) ⌝ }

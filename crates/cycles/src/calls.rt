@@ -4,8 +4,8 @@ ghost use lib.ListN.{length};
 ghost use Rattle.text.specs.definitions.Tokens.{COMMA};
 ghost use Rattle.text.specs.definitions.Readers.{many};
 ghost use Rattle.text.specs.definitions.Grammar.{call-reader, call-after};
-ghost use Rattle.cycles.specs.contracts.Evaluation.{Call-walk, Calls-walk, Rule-puts};
-ghost use Rattle.cycles.specs.definitions.Planes.{MOST-CELL-BYTES};
+ghost use Rattle.cycles.specs.contracts.Evaluation.{MOST-PENDING-BYTES, Priority-read, Call-walk, Calls-walk, Rule-puts};
+ghost use Rattle.checking.specs.definitions.PriorityFaults.{MOST-PRIORITY};
 use crate::conditions::both;
 use crate::conditions::condition;
 use crate::conditions::filter;
@@ -17,12 +17,16 @@ use crate::evaluate::member;
 use crate::evaluate::owner;
 use crate::evaluate::put;
 use crate::expressions::expression;
+use checking::layout::MOST_PRIORITY;
 use text::classes::COMMA;
+use text::classes::RANK;
 use text::grammar::OPENERS;
 use text::walks::class_at;
+use text::walks::priority_end;
 use text::walks::skip;
+use text::walks::value_at;
 
-// One call: what it writes goes into the area. The number of the token after it.
+// One call, in a rule of this priority: what it writes goes into the area. The number of the token after it.
 fn call(
     classes: &[u8],
     values: &[u32],
@@ -30,13 +34,15 @@ fn call(
     b: Binding,
     flags: &[u8],
     cells: &[u8],
+    priority: u8,
     at: usize,
     area: &mut [u8],
 ) -> usize
-    requires { ⌜ MOST-CELL-BYTES ≤ length (now area) ⌝ }
+    requires { ⌜ MOST-PENDING-BYTES ≤ length (now area) ⌝ }
+    requires { ⌜ priority ≤ MOST-PRIORITY ⌝ }
     ensures { λ r. ⌜
-        Call-walk (now (classes .entry)) (now (values .entry)) (now (refs .entry)) b (now (flags .entry)) (now (cells .entry)) (now (area .entry))
-        call-reader at (now (area .exit)) r ⌝ }
+        Call-walk (now (classes .entry)) (now (values .entry)) (now (refs .entry)) b (now (flags .entry)) (now (cells .entry)) priority
+        (now (area .entry)) call-reader at (now (area .exit)) r ⌝ }
 {
     let size = classes.len();
     let name = skip(at, size);
@@ -68,7 +74,7 @@ fn call(
         OPENERS,
     );
     let made = both(is_present_at(flags, e, m), both(f.holds, values::is_set(v)));
-    put(area, made, e, m, v);
+    put(area, made, priority, e, m, v);
     f.next
 }
 
@@ -80,13 +86,15 @@ fn further_calls(
     b: Binding,
     flags: &[u8],
     cells: &[u8],
+    priority: u8,
     at: usize,
     area: &mut [u8],
 ) -> usize
-    requires { ⌜ MOST-CELL-BYTES ≤ length (now area) ⌝ }
+    requires { ⌜ MOST-PENDING-BYTES ≤ length (now area) ⌝ }
+    requires { ⌜ priority ≤ MOST-PRIORITY ⌝ }
     ensures { λ r. ⌜
-        Calls-walk (now (classes .entry)) (now (values .entry)) (now (refs .entry)) b (now (flags .entry)) (now (cells .entry)) (now (area .entry))
-        (many COMMA call-after) at (now (area .exit)) r ⌝ }
+        Calls-walk (now (classes .entry)) (now (values .entry)) (now (refs .entry)) b (now (flags .entry)) (now (cells .entry)) priority
+        (now (area .entry)) (many COMMA call-after) at (now (area .exit)) r ⌝ }
 {
     let mut i = at;
     while class_at(classes, i) == COMMA {
@@ -97,11 +105,26 @@ fn further_calls(
             b,
             flags,
             cells,
+            priority,
             skip(i, classes.len()),
             area,
         );
     }
     i
+}
+
+// The priority of the rule whose tokens after `when` begin at number `at`: 0 if it says none, and if it is above the greatest, as in no checked file.
+fn priority_at(classes: &[u8], values: &[u32], at: usize) -> u8
+    ensures { λ r. ⌜ Priority-read (now (classes .entry)) (now (values .entry)) at r ⌝ }
+{
+    if class_at(classes, at) != RANK {
+        return 0;
+    }
+    let n = value_at(values, skip(at, classes.len()));
+    if MOST_PRIORITY < n {
+        return 0;
+    }
+    n as u8
 }
 
 // The rule whose tokens after `when` begin at number `at`.
@@ -117,7 +140,7 @@ pub fn rule_at(
     at: usize,
     area: &mut [u8],
 )
-    requires { ⌜ MOST-CELL-BYTES ≤ length (now area) ⌝ }
+    requires { ⌜ MOST-PENDING-BYTES ≤ length (now area) ⌝ }
     ensures { λ _. ⌜
         Rule-puts (now (classes .entry)) (now (values .entry)) (now (refs .entry)) b (now (flags .entry)) (now (cells .entry))
         (now («previous_flags» .entry)) (now («previous_cells» .entry)) at (now (area .entry)) (now (area .exit)) ⌝ }
@@ -131,12 +154,13 @@ pub fn rule_at(
         cells,
         previous_flags,
         previous_cells,
-        at,
+        priority_end(classes, at),
         OPENERS,
     );
     if !c.holds {
         return;
     }
+    let priority = priority_at(classes, values, at);
     let next = call(
         classes,
         values,
@@ -144,8 +168,9 @@ pub fn rule_at(
         b,
         flags,
         cells,
+        priority,
         skip(c.next, classes.len()),
         area,
     );
-    further_calls(classes, values, refs, b, flags, cells, next, area);
+    further_calls(classes, values, refs, b, flags, cells, priority, next, area);
 }

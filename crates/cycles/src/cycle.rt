@@ -12,6 +12,7 @@ use crate::layout::CELL_BYTES;
 use crate::layout::ENTITY_BYTES;
 use crate::layout::ENTITY_CELLS;
 use crate::layout::MOST_CELL_BYTES;
+use crate::layout::MOST_PENDING_BYTES;
 use crate::layout::NO_READING;
 use crate::planes::cell_token;
 use crate::planes::is_sort;
@@ -156,7 +157,7 @@ fn put_next(classes: &[u8], d: &[u16], n: usize, cells: &[u8], area: &mut [u8])
     }
 }
 
-// The cycle of a line. The area of writes begins as unset cells: bytes of 0.
+// The cycle of a line. The area of writes begins as unset cells to which nothing was written: bytes of 0.
 pub fn cycle(
     classes: &[u8],
     values: &[u32],
@@ -181,7 +182,7 @@ pub fn cycle(
     let previous_cells = previous + n;
     let mut flags = [0u8; MOST_ENTITIES];
     let mut cells = [0u8; MOST_CELL_BYTES];
-    let mut area = [0u8; MOST_CELL_BYTES];
+    let mut area = [0u8; MOST_PENDING_BYTES];
     let before = &stores[..];
     see_flags(n, before, input_flags, &mut flags);
     see_cells(

@@ -5,11 +5,12 @@ ghost use Prim.Native.Nat.{_≤_, _/_, _%_};
 ghost use lib.Dec.{ltb, eqb};
 ghost use lib.ListN.{length, getD};
 ghost use Rattle.checking.specs.contracts.Directory.{NO-MEMBER};
-ghost use Rattle.cycles.specs.contracts.Evaluation.{bound, Cell-read, Put};
+ghost use Rattle.cycles.specs.contracts.Evaluation.{bound, Cell-read, MOST-PENDING-BYTES, Put};
 ghost use Rattle.cycles.specs.contracts.AllRules.{Entity-added};
-ghost use Rattle.cycles.specs.definitions.Planes.{MOST-CELL-BYTES};
+ghost use Rattle.checking.specs.definitions.PriorityFaults.{MOST-PRIORITY};
 use crate::layout::CELL_BYTES;
 use crate::layout::ENTITY_CELLS;
+use crate::layout::MOST_CELL_BYTES;
 use crate::layout::MOST_CELLS;
 use checking::layout::FIRST_VARIABLE_8;
 use checking::layout::NO_MEMBER_8;
@@ -102,10 +103,11 @@ pub fn read_cell(flags: &[u8], cells: &[u8], e: u8, m: u8) -> Value
     values::cell(cells, i)
 }
 
-// The write of a value to member m of entity e, if it is to be made and there is such a member.
-pub fn put(area: &mut [u8], made: bool, e: u8, m: u8, v: Value)
-    requires { ⌜ MOST-CELL-BYTES ≤ length (now area) ⌝ }
-    ensures { λ _. ⌜ Put (now (area .entry)) made e m v (now (area .exit)) ⌝ }
+// The write of a value to member m of entity e, by a rule of this priority, if it is to be made and there is such a member.
+pub fn put(area: &mut [u8], made: bool, priority: u8, e: u8, m: u8, v: Value)
+    requires { ⌜ MOST-PENDING-BYTES ≤ length (now area) ⌝ }
+    requires { ⌜ priority ≤ MOST-PRIORITY ⌝ }
+    ensures { λ _. ⌜ Put (now (area .entry)) made priority e m v (now (area .exit)) ⌝ }
 {
     if !made {
         return;
@@ -117,5 +119,5 @@ pub fn put(area: &mut [u8], made: bool, e: u8, m: u8, v: Value)
     if MOST_CELLS <= i {
         return;
     }
-    values::put_cell(area, i, v);
+    writes::put_write(area, MOST_CELL_BYTES, i, priority, v);
 }

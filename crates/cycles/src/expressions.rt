@@ -27,6 +27,7 @@ use text::classes::TRUE;
 use text::classes::WHOLE_NUMBER;
 use text::walks::class_at;
 use text::walks::skip;
+use text::walks::value_at;
 use values::Operator;
 use values::Value;
 
@@ -34,15 +35,6 @@ use values::Value;
 pub struct Valued {
     pub value: Value,
     pub next: usize,
-}
-
-fn number(values: &[u32], i: usize) -> u32
-    ensures { λ r. ⌜ r ≡ getD (now (values .entry)) i 0 ⌝ }
-{
-    if values.len() <= i {
-        return 0;
-    }
-    values[i]
 }
 
 fn whole_literal(n: u32) -> Value
@@ -149,13 +141,13 @@ fn leaf(
     }
     if class == WHOLE_NUMBER {
         return Valued {
-            value: whole_literal(number(values, at)),
+            value: whole_literal(value_at(values, at)),
             next,
         };
     }
     if class == REAL_NUMBER {
         return Valued {
-            value: real_literal(number(values, at)),
+            value: real_literal(value_at(values, at)),
             next,
         };
     }

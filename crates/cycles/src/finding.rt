@@ -26,6 +26,7 @@ use text::classes::WITH;
 use text::walks::atom_end;
 use text::walks::class_at;
 use text::walks::expression_end;
+use text::walks::priority_end;
 use text::walks::skip;
 
 // How many guards stand in memory, and the number of the token after what was read.
@@ -378,7 +379,8 @@ pub fn find_guards(classes: &[u8], refs: &[u16], at: usize, guards: &mut [usize]
     requires { ⌜ ALL-GUARD-ROWS ≤ length (now guards) ⌝ }
     ensures { λ r. ⌜ Guards-found (now (classes .entry)) (now (refs .entry)) at (now (guards .exit)) r ⌝ }
 {
-    let cheap = conjuncts(classes, refs, at, guards, 0, false);
+    let start = priority_end(classes, at);
+    let cheap = conjuncts(classes, refs, start, guards, 0, false);
     if class_at(classes, cheap.next) == OR {
         return 0;
     }
@@ -389,6 +391,6 @@ pub fn find_guards(classes: &[u8], refs: &[u16], at: usize, guards: &mut [usize]
         guards,
         cheap.count,
     );
-    let dear = conjuncts(classes, refs, at, guards, called, true);
+    let dear = conjuncts(classes, refs, start, guards, called, true);
     dear.count
 }

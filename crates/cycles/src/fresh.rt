@@ -2,7 +2,7 @@
 ghost use mathlib.Core.Path.{_≡_};
 ghost use mathlib.Core.List.{_∷_};
 ghost use Prim.Native.Nat.{_+_, _*_, _≤_};
-ghost use lib.ListN.{length, getD};
+ghost use lib.ListN.{length};
 ghost use Rattle.values.specs.definitions.Bytes.{low-first};
 ghost use Rattle.text.specs.definitions.Syntax.{whole-number, real-number, literal-value};
 ghost use Rattle.cycles.specs.definitions.Planes.{CELL-BYTES, MOST-STORES-BYTES};
@@ -22,19 +22,10 @@ use text::classes::MINUS;
 use text::classes::NAME;
 use text::classes::TRUE;
 use text::classes::WHOLE_NUMBER;
+use text::walks::value_at;
 use values::Value;
 
 // ---- literals
-
-// The value of token number i, or 0.
-fn value_at(values: &[u32], i: usize) -> u32
-    ensures { λ r. ⌜ r ≡ getD (now (values .entry)) i 0 ⌝ }
-{
-    if values.len() <= i {
-        return 0;
-    }
-    values[i]
-}
 
 fn whole_value(negative: bool, n: u32) -> Value
     ensures { λ r. ⌜ r ≡ literal-value (whole-number negative n) ⌝ }

@@ -17,6 +17,9 @@ pub const MOST_CELLS: usize = MOST_ENTITIES * ENTITY_CELLS;
 
 pub const MOST_CELL_BYTES: usize = MOST_ENTITIES * ENTITY_CELL_BYTES;
 
+// Pending cells: their bytes, and behind these a byte for each cell, its mark.
+pub const MOST_PENDING_BYTES: usize = MOST_CELL_BYTES + MOST_CELLS;
+
 // The tag of a cell with no reading.
 pub const NO_READING: u8 = 4;
 

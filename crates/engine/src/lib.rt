@@ -24,7 +24,7 @@ const BENCH: usize = NUMBER_BYTES + MOST_BYTES;
 
 const ROW: usize = MOST_ROW_BYTES;
 
-// Checks a bench file and writes its image: 31, 11 to 18 with the offset of the fault, or 0.
+// Checks a bench file and writes its image: 31, 11 to 18 or 44 with the offset of the fault, or 0.
 #[no_mangle]
 pub extern "C" fn bench_check(text: &[u8], bench: &mut [u8]) -> u64
     ensures { λ r. ⌜ Check-contract (now (text .entry)) (now (bench .entry)) (now (bench .exit)) r ⌝ }

@@ -70,3 +70,5 @@ pub const MINUS: u8 = 33;
 pub const TIMES: u8 = 34;
 
 pub const DIVIDE: u8 = 35;
+
+pub const RANK: u8 = 36;

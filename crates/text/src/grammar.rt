@@ -8,7 +8,7 @@ ghost use Rattle.text.specs.definitions.Readers.{give, expect, many};
 ghost use Rattle.text.specs.definitions.Grammar.{kind-reader, member-after, action-after, interface-after, number-reader, literal-reader};
 ghost use Rattle.text.specs.definitions.Grammar.{assignment-after, entity-after, member-reader, factor-reader, opener-reader, term-reader};
 ghost use Rattle.text.specs.definitions.Grammar.{expression-reader, target-reader, filter-reader, test-reader, clause-reader, atom-reader};
-ghost use Rattle.text.specs.definitions.Grammar.{conjunction-reader, condition-reader, call-reader, call-after, rule-after, file-reader};
+ghost use Rattle.text.specs.definitions.Grammar.{conjunction-reader, condition-reader, call-reader, call-after, priority-reader, rule-after, file-reader};
 ghost use Rattle.text.specs.contracts.ParseAnswers.{parsed-of, Reads-from, any-token, refused-at, Parses-as};
 ghost use Rattle.text.specs.contracts.ParseAnswers.{classes-from, first-class, first-passes, is-class, is-either, is-unsigned};
 use crate::classes::ACTION;
@@ -34,6 +34,7 @@ use crate::classes::NAME;
 use crate::classes::ON;
 use crate::classes::OR;
 use crate::classes::PLUS;
+use crate::classes::RANK;
 use crate::classes::REAL;
 use crate::classes::REAL_NUMBER;
 use crate::classes::ROUND_CLOSE;
@@ -460,11 +461,22 @@ fn calls(classes: &[u8], from: usize) -> usize
     p
 }
 
-// After `when`: condition `trigger` calls `end`.
+// Optionally `rank` and a number without `r`.
+fn priority(classes: &[u8], from: usize) -> usize
+    ensures { λ r. ⌜ Reads-from (now (classes .entry)) priority-reader from r ⌝ }
+{
+    if next_class(classes, from) != RANK {
+        return from;
+    }
+    token(classes, any_token(classes, from), WHOLE_NUMBER)
+}
+
+// After `when`: its priority, condition `trigger` calls `end`.
 fn rule(classes: &[u8], from: usize) -> usize
     ensures { λ r. ⌜ ((start : Token) → Reads-from (now (classes .entry)) (rule-after start) from r) ⌝ }
 {
-    let condition = condition(classes, from, OPENERS);
+    let priority = priority(classes, from);
+    let condition = condition(classes, priority, OPENERS);
     let trigger = token(classes, condition, TRIGGER);
     let first = call(classes, trigger);
     let others = calls(classes, first);

@@ -126,7 +126,8 @@ fn class_of_two(name: &[u8], first: &[u8], class: u8, second: &[u8], other: u8) 
 fn class_of_four(name: &[u8]) -> u8
     ensures { λ r. ⌜ r ≡ Option·getD (class-in (of-length 4 reserved) (now (name .entry))) NAME ⌝ }
 {
-    let c = class_if(name, b"real", classes::REAL, classes::NAME);
+    let c = class_if(name, b"rank", classes::RANK, classes::NAME);
+    let c = class_if(name, b"real", classes::REAL, c);
     let c = class_if(name, b"bool", classes::BOOL, c);
     let c = class_if(name, b"true", classes::TRUE, c);
     let c = class_if(name, b"with", classes::WITH, c);

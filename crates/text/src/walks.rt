@@ -4,11 +4,12 @@ ghost use mathlib.Core.Path.{_≡_};
 ghost use lib.ListN.{getD};
 ghost use Rattle.text.specs.definitions.Readers.{halt};
 ghost use Rattle.text.specs.definitions.Syntax.{OPENERS};
-ghost use Rattle.text.specs.definitions.Grammar.{simple-or, expression-reader, atom-reader};
+ghost use Rattle.text.specs.definitions.Grammar.{simple-or, expression-reader, priority-reader, atom-reader};
 ghost use Rattle.text.specs.contracts.ParseAnswers.{Next, parsed-of};
 ghost use Rattle.text.specs.contracts.Walks.{Steps, Ends};
 use crate::classes::NAME;
 use crate::classes::PLUS;
+use crate::classes::RANK;
 use crate::classes::REAL;
 use crate::grammar::OPENERS;
 use crate::grammar::REFUSED;
@@ -33,6 +34,16 @@ pub fn class_at(classes: &[u8], i: usize) -> u8
         return 0;
     }
     classes[i]
+}
+
+// A row of the numbers' values; 0 if there is none.
+pub fn value_at(values: &[u32], i: usize) -> u32
+    ensures { λ r. ⌜ r ≡ getD (now (values .entry)) i 0 ⌝ }
+{
+    if values.len() <= i {
+        return 0;
+    }
+    values[i]
 }
 
 // Where what was read from number `at` on ends; `at`, if it was refused.
@@ -81,6 +92,17 @@ pub fn expression_end(classes: &[u8], at: usize) -> usize
         return parsed_end(classes, at);
     }
     next
+}
+
+// The number of the token after the priority that may stand at number `at`.
+pub fn priority_end(classes: &[u8], at: usize) -> usize
+    ensures { λ r. ⌜ Ends (now (classes .entry)) priority-reader at r ⌝ }
+{
+    if class_at(classes, at) != RANK {
+        return at;
+    }
+    let size = classes.len();
+    skip(skip(at, size), size)
 }
 
 // The number of the token after the clause, or the condition in parentheses, at number `at`.

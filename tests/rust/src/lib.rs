@@ -1,4 +1,4 @@
-//! A second interpreter of the Pantagruel bench engine, written from document 01 and orders 1 to 5 of document 02, and the means to
+//! A second interpreter of the Pantagruel bench engine, written from document 01 and orders 1 to 6 of document 02, and the means to
 //! compare it with the engine. The calls and the layout of memory (`image`) are the engine's own, by its header and a description of its bytes.
 //!
 //! What needs the engine's archive exists only with it: the interpreter is never compared with itself.
@@ -15,6 +15,7 @@ pub mod interpreter;
 pub mod memory;
 pub mod options;
 pub mod places;
+pub mod ranks;
 pub mod replay;
 pub mod resent;
 pub mod runner;

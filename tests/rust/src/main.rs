@@ -3,9 +3,10 @@
 use second::compare::{self, Mismatch};
 use second::generate::{self, case::Case};
 use second::interpreter::line::SENDERS_MOST;
-use second::memory::Tally;
+use second::memory::{Tally, NUMBERS};
 use second::options::{Options, USAGE};
 use second::places::coverage::place_name;
+use second::ranks;
 use second::resent::Seen;
 use second::two_runs::{self, Verdict};
 use second::{archive, shrink};
@@ -18,8 +19,6 @@ const TWO_RUNS_EVERY: u64 = 6;
 const AGAIN_EVERY: u64 = 10;
 /// Only the first failing cases are shown.
 const SHOWN_MOST: u64 = 3;
-/// Every number that the table knows, and acceptance.
-const NUMBERS: [u8; 19] = [0, 11, 12, 13, 14, 15, 16, 17, 18, 21, 22, 23, 24, 25, 31, 32, 33, 42, 43];
 
 /// What all cases showed.
 #[derive(Default)]
@@ -40,6 +39,9 @@ struct Report {
     late: u64,
     /// Trials with eight senders.
     eight: u64,
+    /// Trials in which a rule with a rank above 0 can write to the set.
+    ranked: u64,
+    proper_ranked_differing: u64,
     /// Bytes whose classes differ.
     other_classes: u64,
     /// Texts with one byte at one kind of place, and those of them that are checked otherwise.
@@ -90,7 +92,8 @@ impl Report {
         // Each of these counts for what it is made for alone: the answers of the table are for the other cases to draw.
         let put_in = self.compared(number, &generate::places::case(seed, number), |tally, of| tally.places.add(&of.places));
         let spoilt = self.compared(number, &generate::spoils::case(seed, number), |tally, of| tally.senders.add(&of.senders));
-        let passed = put_in && spoilt && ran;
+        let ranked = self.compared(number, &generate::ranks::case(seed, number), |tally, of| tally.ranks.add(&of.ranks));
+        let passed = put_in && spoilt && ranked && ran;
         self.passed += u64::from(passed);
         self.failed += u64::from(!passed);
     }
@@ -129,6 +132,8 @@ impl Report {
                 self.again += shown.again;
                 self.late += shown.late;
                 self.eight += u64::from(shown.senders == SENDERS_MOST);
+                self.ranked += u64::from(shown.ranked);
+                self.proper_ranked_differing += u64::from(shown.proper && shown.gave_way && shown.differing);
                 true
             }
             Verdict::Parts(case, mismatch) => self.show(number, &case, &mismatch),
@@ -168,6 +173,8 @@ impl Report {
         self.tally.places.print();
         self.tally.sheets.print();
         self.tally.senders.print();
+        println!("texts and lines by what they try of ranks, each being in many:");
+        self.tally.ranks.print();
         let Seen { again, late, asked } = self.tally.resent;
         println!("{again} lines sent again that were taken in the same run, {late} of them after lines of others; {asked} rows of such asked for");
         println!(
@@ -182,6 +189,10 @@ impl Report {
             self.proper_late_differing
         );
         println!("{} pairs sent again, {} of them after lines of others; {} trials with eight senders", self.again, self.late, self.eight);
+        println!(
+            "{} trials with a rule of a rank above 0 that can write to the set; {} with a nonempty proper closed set, other readings elsewhere and a write to the set that gives way to a higher rank",
+            self.ranked, self.proper_ranked_differing
+        );
     }
 
     fn count(&self, number: u8) -> u64 {
@@ -199,6 +210,14 @@ impl Report {
         let Tally { places, sheets, senders, .. } = &self.tally;
         for lack in [places.lacking(least), sheets.lacking(least), senders.lacking(least)].concat() {
             println!("{lack}");
+            complete = false;
+        }
+        for (group, name) in self.tally.ranks.lacking(ranks::required(), least) {
+            println!("ranks, {group}: {name}: less than {least}");
+            complete = false;
+        }
+        if self.ranked * 2 < self.trials || self.proper_ranked_differing < (cases / 500).max(1) {
+            println!("too few trials of two runs had ranks at the set, or a write to it that gives way to a higher rank");
             complete = false;
         }
         if self.proper_fired_differing < (cases / 200).max(1) {

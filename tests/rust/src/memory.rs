@@ -1,10 +1,12 @@
 //! Lent memory and the six calls on it, the same for both sides of a comparison.
 
 use crate::calls;
+use crate::counts::Counts;
 use crate::generate::case::{Call, Case, Lent, Step, LONGER_MOST};
 use crate::generate::prng::Prng;
 use crate::image::{BENCH_SIZE, ROW_SIZE, STATE_SIZE};
 use crate::places::coverage::Coverage as Places;
+use crate::ranks;
 use crate::resent;
 use crate::senders::coverage::Coverage as Senders;
 use crate::sheets::coverage::Coverage as Sheets;
@@ -93,6 +95,9 @@ fn overwrite(memory: &mut [u8], at: usize, bytes: &[u8]) -> Option<u64> {
     None
 }
 
+/// Every number that the table knows, but for 41, which only a sheet gets; and acceptance.
+pub const NUMBERS: [u8; 20] = [0, 11, 12, 13, 14, 15, 16, 17, 18, 21, 22, 23, 24, 25, 31, 32, 33, 42, 43, 44];
+
 /// How often each number was answered.
 #[derive(Clone, Debug, Default)]
 pub struct Tally {
@@ -106,6 +111,8 @@ pub struct Tally {
     pub resent: resent::Seen,
     /// Of the texts that were checked.
     pub places: Places,
+    /// Of texts and lines.
+    pub ranks: Counts,
 }
 
 impl Tally {
@@ -119,6 +126,7 @@ impl Tally {
         self.senders.add(&other.senders);
         self.resent.add(other.resent);
         self.places.add(&other.places);
+        self.ranks.add(&other.ranks);
     }
 
     /// Counts one step and its answer, with the bench text and the memory before and after it.
@@ -126,11 +134,13 @@ impl Tally {
         let Some(answer) = answer else { return self.senders.written(step, before, after) };
         if matches!(step.call, Call::Check) {
             self.places.take(text, answer);
+            self.ranks.take(ranks::of_text(text, answer));
         }
         if matches!(step.call, Call::Sheet { .. }) {
             return self.sheets.take(step, answer, after);
         }
         self.senders.take(step, answer, before);
+        self.ranks.take(ranks::of_line(step, answer, before));
         let row = &after.row;
         self.calls += 1;
         *self.answers.entry((answer & 255) as u8).or_default() += 1;

@@ -12,11 +12,11 @@ use crate::image;
 use crate::interpreter::accept;
 use crate::interpreter::grammar::{Bench, Filter, Rule, Sort, Sum, Test};
 use crate::interpreter::line::SENDERS_MOST;
-use crate::interpreter::machine::{Reading, Readings, State, Store};
+use crate::interpreter::machine::{writes_of, Reading, Readings, State, Store, RIGHT};
 use crate::interpreter::value::{Cell, Value};
 use crate::memory::Tally;
 use crate::show::show_bytes;
-use crate::thin;
+use crate::{ranks, thin};
 
 /// In so many of a hundred lines an entity of the set comes with its readings, or goes so that it can come later.
 const SWITCH_PERCENT: usize = 30;
@@ -72,6 +72,10 @@ pub struct Shown {
     /// One of the latter gave a fired action of the set again.
     pub fired_late: bool,
     pub senders: usize,
+    /// A rule with a rank above 0 can write to the set.
+    pub ranked: bool,
+    /// Some write to a cell of the set gave way to one of a higher rank.
+    pub gave_way: bool,
 }
 
 // Closed sets.
@@ -436,16 +440,23 @@ impl Judge<'_> {
         self.shown.fired |= fired;
         self.shown.fired_joining |= fired && self.joins(&before, &states[0]);
         self.shown.pairs += 1;
-        self.again(&before, &states[0], sender, fired);
+        if number(&before, &sender) == number(&states[0], &sender) {
+            self.again(sender, fired);
+        } else {
+            self.shown.gave_way |= self.gives_way(&before, readings[0]);
+            self.sent.push(sender);
+        }
         Ok(())
     }
 
+    /// Whether in a new line with these readings a write to a cell of the set gives way to one of a higher rank.
+    fn gives_way(&self, before: &State, readings: &Readings) -> bool {
+        let (_, writes) = writes_of(RIGHT, self.bench, before, readings).expect("the machine never stops on an accepted bench");
+        ranks::by_cell(&writes).iter().any(|(cell, writes)| self.inside[cell.0] && ranks::gives_way(writes))
+    }
+
     /// Counts lines sent again.
-    fn again(&mut self, before: &State, after: &State, sender: Vec<u8>, fired: bool) {
-        let number = |state: &State| state.sender(&sender).map(|place| state.senders[place].number);
-        if number(before) != number(after) {
-            return self.sent.push(sender);
-        }
+    fn again(&mut self, sender: Vec<u8>, fired: bool) {
         let late = self.sent.last() != Some(&sender);
         self.shown.again += 1;
         self.shown.late += u64::from(late);
@@ -504,9 +515,16 @@ impl Judge<'_> {
 
     fn finish(mut self) -> Shown {
         self.shown.proper = self.inside.contains(&true) && self.inside.contains(&false);
+        let at_set = |rule: &Rule| called(self.bench, rule).iter().any(|&entity| self.inside[entity]);
+        self.shown.ranked = self.bench.rules.iter().any(|rule| rule.rank() > 0 && at_set(rule));
         self.runs.into_iter().for_each(|sides| self.shown.tally.add(&sides.tally()));
         self.shown
     }
+}
+
+/// A sender's last number, if it is known.
+fn number(state: &State, sender: &[u8]) -> Option<u32> {
+    state.sender(sender).map(|place| state.senders[place].number)
 }
 
 /// What the two states keep of a sender's readings, if both know it.

@@ -38,6 +38,7 @@ fn placed_bytes_agree() {
 fn cases_agree() {
     for number in 0..100 {
         assert!(compare::run(&generate::case(3, number)).is_ok(), "case {number}");
+        assert!(compare::run(&generate::ranks::case(3, number)).is_ok(), "text {number} with ranks");
     }
 }
 
@@ -54,15 +55,16 @@ fn lines_sent_again_after_every_step_agree() {
     assert!(late >= 350, "only {late} lines were sent again after lines of others");
 }
 
-/// Catches trials that fail, and trials whose sets hardly ever have an entity come in a line that fires, or an action given again after
-/// lines of others.
+/// Catches trials that fail, and trials whose sets hardly ever have an entity come in a line that fires, an action given again after lines
+/// of others, or a write that gives way to a higher rank.
 #[test]
 fn trials_hold() {
-    let (mut joining, mut late) = (0, 0);
+    let (mut joining, mut late, mut gave_way) = (0, 0, 0);
     for number in 0..60 {
         let Verdict::Holds(shown) = judge(&trial(5, number)) else { panic!("trial {number}") };
         joining += u64::from(shown.fired_joining);
         late += u64::from(shown.fired_late);
+        gave_way += u64::from(shown.gave_way);
     }
-    assert!(joining >= 13 && late >= 10, "only {joining} and {late} of 60 trials");
+    assert!(joining >= 13 && late >= 10 && gave_way >= 8, "only {joining}, {late} and {gave_way} of 60 trials");
 }

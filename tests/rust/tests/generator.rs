@@ -1,6 +1,7 @@
 //! The generator itself: its valid benches are accepted, its cases draw every answer of the table, have bytes of every class at every kind
-//! of place, and tell machines that read clause filters in the wrong cycle or divide wholes by another rule from the right one, a seed
-//! makes a case again. Its sheets are tried in tests/wrong_sheets.rs, what it does with senders in tests/wrong_senders.rs.
+//! of place, try ranks in every way, and tell machines that read clause filters in the wrong cycle, divide wholes by another rule or let
+//! other writes stand from the right one, a seed makes a case again. Its sheets are tried in tests/wrong_sheets.rs, what it does with
+//! senders in tests/wrong_senders.rs, its texts with ranks in tests/wrong_ranks.rs.
 
 use second::generate::bench::{bench, render, LARGE, LOOSE, SMALL};
 use second::generate::case::{Call, Case};
@@ -9,15 +10,15 @@ use second::generate::states::odd_state;
 use second::image::{decode_bench, decode_state, state_bytes, state_image, store_at, COUNT_AT};
 use second::interpreter::accept;
 use second::interpreter::grammar::{Bench, Sort};
-use second::interpreter::machine::{cycle_of, fresh, Given, Sender, Stands, State, Variant, RIGHT};
+use second::interpreter::machine::{cycle_of, fresh, standing, writes_of, Given, Sender, Standing, Stands, State, Variant, Write, RIGHT};
 use second::interpreter::row::row_of;
 use second::interpreter::value::{quotient, whole, Cell};
-use second::memory::{self, Memory, Tally, OURS};
+use second::memory::{self, Memory, Tally, NUMBERS, OURS};
 use second::resent::Seen;
-use second::{generate, show};
+use second::{generate, ranks, show};
 use std::cell::RefCell;
-
-const NUMBERS: [u8; 19] = [0, 11, 12, 13, 14, 15, 16, 17, 18, 21, 22, 23, 24, 25, 31, 32, 33, 42, 43];
+use std::cmp::Reverse;
+use std::collections::BTreeSet;
 
 #[test]
 fn valid_benches_are_accepted() {
@@ -297,6 +298,101 @@ fn cases_show_how_wholes_are_divided() {
     }
 }
 
+/// The right rule after another order of the writes. Those with the same key stay in their order.
+fn reordered<K: Ord>(writes: &[Write], key: impl Fn(&Write) -> K) -> Standing {
+    let mut writes = writes.to_vec();
+    writes.sort_by_key(key);
+    standing(&writes)
+}
+
+/// The right rule by other ranks.
+fn reranked(writes: &[Write], rank: impl Fn(i32) -> i32) -> Standing {
+    standing(&writes.iter().map(|write| Write { rank: rank(write.rank), ..*write }).collect::<Vec<_>>())
+}
+
+/// The right rule for those of the writes that are wanted.
+fn only(writes: &[Write], wanted: impl Fn(&Write) -> bool) -> Standing {
+    standing(&writes.iter().filter(|write| wanted(write)).copied().collect::<Vec<_>>())
+}
+
+/// Those that come later come first; the writes of the last rule, of its last choice.
+fn backwards(writes: &[Write]) -> Vec<Write> {
+    writes.iter().rev().copied().collect()
+}
+
+/// A higher rank takes not only its cell, but each that is taken with it.
+fn wider(writes: &[Write], with: impl Fn((usize, usize), (usize, usize)) -> bool) -> Standing {
+    let stands = standing(writes);
+    only(writes, |write| stands.iter().all(|(cell, other)| !with(*cell, write.cell) || other.rank <= write.rank))
+}
+
+/// A rule that gives way in one cell writes to none.
+fn by_rule(writes: &[Write]) -> Standing {
+    let stands = standing(writes);
+    let gives_way = |write: &&Write| write.rank < stands[&write.cell].rank;
+    let beaten: BTreeSet<usize> = writes.iter().filter(gives_way).map(|write| write.rule).collect();
+    only(writes, |write| !beaten.contains(&write.rule))
+}
+
+/// What stands of all writes of a cycle.
+type Stand = fn(&[Write]) -> Standing;
+
+/// Wrong rules for which writes stand, and how many cases at least must tell each from the right one.
+const STANDING: [(&str, Stand, usize); 15] = [
+    ("the last of equal ranks", |writes| standing(&backwards(writes)), 590),
+    ("the lower rank", |writes| reranked(writes, |rank| -rank), 410),
+    ("the last of the lowest rank", |writes| reranked(&backwards(writes), |rank| -rank), 760),
+    ("ranks ignored", |writes| reranked(writes, |_| 0), 240),
+    ("ranks ignored, the last", |writes| reranked(&backwards(writes), |_| 0), 680),
+    ("all ranks above 0 alike", |writes| reranked(writes, |rank| rank.min(1)), 65),
+    ("9 like 8", |writes| reranked(writes, |rank| rank.min(8)), 5),
+    ("ranks by their last bit", |writes| reranked(writes, |rank| rank & 1), 130),
+    ("0 above all", |writes| reranked(writes, |rank| if rank == 0 { 10 } else { rank }), 350),
+    ("the last rule of equal ranks", |writes| reordered(writes, |write| Reverse(write.rule)), 340),
+    ("the last choice and call of a rule", |writes| reordered(&backwards(writes), |write| write.rule), 390),
+    ("calls before choices", |writes| reordered(writes, |write| (write.rule, write.call)), 40),
+    ("by entity", |writes| wider(writes, |cell, other| cell.0 == other.0), 150),
+    ("by rule", by_rule, 185),
+    ("by line", |writes| wider(writes, |_, _| true), 325),
+];
+
+/// Catches a generator whose rows seldom show which write stands: whose rules seldom write to one cell, or to it but the same value, or
+/// seldom with other ranks, or mostly in the order of their ranks.
+#[test]
+fn cases_show_which_writes_stand() {
+    let mut told = [0; STANDING.len()];
+    for case in (0..10_000).map(|number| generate::plain(3, number)) {
+        let mut found = [false; STANDING.len()];
+        each_cycle(&case, |bench, before, after| {
+            let line = sender(before, after).expect("a line between two states");
+            let (_, writes) = writes_of(RIGHT, bench, before, &line.last).expect("the machine never stops on an accepted bench");
+            if writes.len() > 1 {
+                for (found, (_, wrong, _)) in found.iter_mut().zip(STANDING) {
+                    *found = *found || other_row(Variant { standing: &wrong, ..RIGHT }, bench, before, after);
+                }
+            }
+        });
+        told.iter_mut().zip(found).for_each(|(count, found)| *count += usize::from(found));
+    }
+    for ((name, _, least), count) in STANDING.iter().zip(told) {
+        println!("{name}: {count} of {least}");
+    }
+    for ((name, _, least), count) in STANDING.iter().zip(told) {
+        assert!(count >= *least, "{name}: told by {count} cases");
+    }
+}
+
+/// Catches a generator that no longer tries some rank, some fault at one, or some order of writes to one cell.
+#[test]
+fn cases_make_every_sort_of_rank() {
+    let mut tally = Tally::default();
+    for number in 0..3_000 {
+        tally.ranks.add(&memory::answers(&generate::without_sheets(3, number)).ranks);
+        tally.ranks.add(&memory::answers(&generate::ranks::case(3, number)).ranks);
+    }
+    assert_eq!(tally.ranks.lacking(ranks::required(), 6), []);
+}
+
 /// Catches a generator whose states never have an attribute unset one cycle before, or all of them, at an entity that was absent; and one
 /// that never unsets one at an entity that was present, which alone makes it no state.
 #[test]
@@ -411,7 +507,7 @@ fn a_seed_makes_a_case_again() {
         assert_eq!(case, generate::case(3, number));
         assert_ne!(case, generate::case(4, number));
         assert_ne!(case, generate::case(3, number + 1));
-        for make in [generate::places::case, generate::spoils::case] {
+        for make in [generate::places::case, generate::spoils::case, generate::ranks::case] {
             let case = make(3, number);
             assert_eq!(case, make(3, number));
             assert_ne!(case, make(4, number));

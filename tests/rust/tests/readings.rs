@@ -1,5 +1,6 @@
 //! The points that document 01 leaves open and that were decided, and what order 1 of document 02 changes. What order 2 changes is in
-//! tests/division.rs, what order 3 adds in tests/sheet.rs, what order 5 changes in tests/senders.rs.
+//! tests/division.rs, what order 3 adds in tests/sheet.rs, what order 5 changes in tests/senders.rs, what order 6 changes in
+//! tests/ranks.rs.
 
 mod common;
 use common::{accepted, keeping, printed, prints, sum};
@@ -92,7 +93,8 @@ fn choices_turn_the_first_variable_slowest() {
     let bench = "interface I { attribute a : whole event x : bool } interface K { action k ( whole ) } \
         entity a : I { a = 1 } entity b : I { a = 2 } entity c : K { } \
         rules when event x from v : I value = true or event x from w : I value = true trigger action k ( v.a * 10 + w.a ) on c end end";
-    prints(bench, "by n a.x b.x|a 1 true -|a 2 - true|a 3 ? ?", "by n c.k|a 1 21|a 2 22|a 3 -");
+    // Of the choices that fire, a and b come before b and a in line 2.
+    prints(bench, "by n a.x b.x|a 1 true -|a 2 - true|a 3 ? ?", "by n c.k|a 1 11|a 2 12|a 3 -");
 }
 
 #[test]

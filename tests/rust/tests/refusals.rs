@@ -75,6 +75,121 @@ fn number_13() {
     refused_at_mark(13, "rules when event x from e value = 1r@eal trigger action z ( 1 ) on e end end");
 }
 
+/// `rank` is reserved, so it is no name anywhere.
+#[test]
+fn number_13_at_rank() {
+    refused_at_mark(13, "interface @rank { } rules end");
+    refused_at_mark(13, "interface I { attribute @rank : whole } rules end");
+    refused_at_mark(13, "interface I { event @rank : whole } rules end");
+    refused_at_mark(13, "interface I { action @rank ( whole ) } rules end");
+    refused_at_mark(13, "interface I { } entity @rank : I { } rules end");
+    refused_at_mark(13, "interface I { } entity e : @rank { } rules end");
+    refused_at_mark(13, "interface I { attribute a : whole } entity e : I { @rank = 1 } rules end");
+    refused_at_mark(13, &ruled("event x from @rank : I value changed", CALL));
+    refused_at_mark(13, &ruled("event x from v : @rank value changed", CALL));
+    refused_at_mark(13, &ruled("event @rank from e value changed", CALL));
+    refused_at_mark(13, &ruled("event x from e with @rank = 1 value changed", CALL));
+    refused_at_mark(13, &ruled("event x from e value = @rank", CALL));
+    refused_at_mark(13, &ruled("event x from e value = e.@rank", CALL));
+    refused_at_mark(13, &ruled(CLAUSE, "action z ( 1 ) on @rank"));
+    // Names that only begin so, or in other letters, are names.
+    let benches = [
+        "interface N { attribute N : whole event x : whole action z ( whole ) } entity e : N { N = 1 } \
+         rules when event x from N : N with N = N.N value changed trigger action z ( 1 ) on e end end",
+        "interface I { event N : whole } interface J { action N ( whole ) } entity N : I { } entity j : J { } \
+         rules when rank 1 event N from N value changed trigger action N ( N.N ) on j end end",
+    ];
+    for name in ["ranks", "rank_1", "rank1", "ran", "Rank", "RANK", "rankrank"] {
+        benches.iter().for_each(|bench| accepted(&bench.replace('N', name)));
+    }
+}
+
+#[test]
+fn number_13_in_a_rank() {
+    for number in ["3r", "0r", "10r", "2147483647r", "- 1", "-", "( 1 )", "true", "a", "e.x", "=", ":", ",", "rank 1", "rank", "when"] {
+        refused_at_mark(13, &ruled(&format!("rank @{number} {CLAUSE}"), CALL));
+    }
+    refused_at_mark(13, &ruled(&format!("rank @{CLAUSE}"), CALL));
+    refused_at_mark(13, &ruled("rank 1 @trigger", CALL));
+    refused_at_mark(13, &ruled(&format!("rank 1 @2 {CLAUSE}"), CALL));
+    refused_at_mark(13, &ruled(&format!("rank 1 @, {CLAUSE}"), CALL));
+    refused_at_mark(13, &ruled(&format!("rank 1 @: {CLAUSE}"), CALL));
+    refused_at_mark(13, &ruled(&format!("@1 {CLAUSE}"), CALL));
+    refused_at_mark(13, &ruled(&format!("@rank1 {CLAUSE}"), CALL));
+    // Twice, and at a wrong place.
+    refused_at_mark(13, &ruled(&format!("rank 1 @rank 1 {CLAUSE}"), CALL));
+    refused_at_mark(13, &ruled(&format!("( @rank 1 {CLAUSE} )"), CALL));
+    refused_at_mark(13, &ruled(&format!("{CLAUSE} @rank 1"), CALL));
+    refused_at_mark(13, &ruled(&format!("{CLAUSE} and @rank 1 {CLAUSE}"), CALL));
+    refused_at_mark(13, &ruled(CLAUSE, &format!("@rank 1 {CALL}")));
+    refused_at_mark(13, &ruled(CLAUSE, &format!("{CALL} @rank 1")));
+    refused_at_mark(13, &format!("{HEAD}@rank 1 when {CLAUSE} trigger {CALL} end end"));
+    refused_at_mark(13, &format!("{HEAD}@rank 1 end"));
+    refused_at_mark(13, "@rank 1 rules end");
+    // A text that ends early.
+    refused_at_mark(13, &format!("{HEAD}when rank@"));
+    refused_at_mark(13, &format!("{HEAD}when rank 1 @"));
+    refused_at_mark(12, &ruled(&format!("rank @00000000001 {CLAUSE}"), CALL));
+    refused_at_mark(12, &ruled(&format!("rank @2147483648 {CLAUSE}"), CALL));
+}
+
+#[test]
+fn number_44() {
+    for number in ["0", "1", "8", "9", "00", "09", "0000000000", "0000000009"] {
+        accepted(&ruled(&format!("rank {number} {CLAUSE}"), CALL));
+    }
+    for number in ["10", "11", "19", "90", "99", "100", "255", "256", "265", "65536", "2147483647", "010", "0000000010"] {
+        refused_at_mark(44, &ruled(&format!("rank @{number} {CLAUSE}"), CALL));
+    }
+    // No blank is needed after the number, nor one blank alone before it.
+    accepted(&ruled(&format!("rank 9{CLAUSE}"), CALL));
+    refused_at_mark(44, &ruled(&format!("rank @10{CLAUSE}"), CALL));
+    refused_at_mark(44, &ruled(&format!("rank\t# 9\n  @10( {CLAUSE} )"), CALL));
+    // The first of them, wherever it stands.
+    let rule = |rank: &str| format!("when {rank} {CLAUSE} trigger {CALL} end ");
+    let rules = |ranks: [&str; 3]| format!("{HEAD}{} end", ranks.map(rule).concat());
+    refused_at_mark(44, &rules(["rank @10", "rank 9", ""]));
+    refused_at_mark(44, &rules(["rank 9", "rank @11", "rank 1"]));
+    refused_at_mark(44, &rules(["", "rank 0", "rank @256"]));
+    refused_at_mark(44, &rules(["rank 9", "rank @10", "rank 99"]));
+    refused_at_mark(44, &rules(["rank @10", "", "rank 2147483647"]));
+    refused_at_mark(44, &rules(["rank @99", "rank 98", "rank 10"]));
+}
+
+#[test]
+fn number_44_comes_after_13_and_before_14() {
+    let above = ruled(&format!("rank @10 {CLAUSE}"), CALL);
+    assert_eq!(refusal(&(above.replacen('@', "", 1) + &" ".repeat(32_768))), (11, 32_768));
+    refused_at_mark(12, &(above.replacen('@', "", 1) + " @;"));
+    refused_at_mark(13, &(above.replacen('@', "", 1) + " @end"));
+    refused_at_mark(13, &ruled(&format!("rank 10 @rank 1 {CLAUSE}"), CALL));
+    refused_at_mark(13, &ruled(&format!("rank 10 @, {CLAUSE}"), CALL));
+    refused_at_mark(13, &format!("{HEAD}when rank 10 {CLAUSE} trigger {CALL} end when rank @3r {CLAUSE} trigger {CALL} end end"));
+    refused_at_mark(13, &ruled(&format!("rank 10 {}@( {CLAUSE} {}", "( ".repeat(16), ") ".repeat(17)), CALL));
+    // Whatever counts, names and kinds do, before it and after it.
+    let interfaces: String = (0..17).map(|number| format!("interface i{number} {{ }} ")).collect();
+    refused_at_mark(44, &(interfaces + &above));
+    let calls = [CALL; 9].join(" , ");
+    refused_at_mark(44, &ruled(&format!("rank @10 {CLAUSE}"), &calls));
+    let rule = format!("when {CLAUSE} trigger {CALL} end ");
+    refused_at_mark(44, &format!("{HEAD}{}when rank @10 {CLAUSE} trigger {CALL} end end", rule.repeat(64)));
+    refused_at_mark(44, &format!("interface I {{ }} {above}"));
+    refused_at_mark(44, &ruled("rank @10 event q from f : K value changed", CALL));
+    refused_at_mark(
+        44,
+        &format!("{HEAD}when event x from f value changed trigger {CALL} end when rank @10 {CLAUSE} trigger {CALL} end end"),
+    );
+    refused_at_mark(44, &above.replace("a = 1 b = true", "a = 1"));
+    refused_at_mark(44, &above.replace("a = 1 b = true", "a = 1r b = 1"));
+    refused_at_mark(44, &ruled("rank @10 event x from e value = true", CALL));
+    // A good rank changes nothing of theirs.
+    refused_at_mark(14, &format!("{HEAD}{}@when rank 1 {CLAUSE} trigger {CALL} end end", rule.repeat(64)));
+    refused_at_mark(14, &ruled(&format!("rank 1 {}@{CLAUSE}", format!("{CLAUSE} or ").repeat(8)), CALL));
+    refused_at_mark(15, &ruled("rank 1 event x from @j : J value changed", CALL));
+    refused_at_mark(16, &ruled("rank 1 event x from @f value changed", CALL));
+    refused_at_mark(18, &ruled("rank 1 event x from e value @= true", CALL));
+}
+
 #[test]
 fn number_15() {
     refused_at_mark(15, "interface I { } interface @I { } rules end");

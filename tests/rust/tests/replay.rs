@@ -10,7 +10,7 @@ use second::replay::benches::{self, Mirror, SHORT_NAMES};
 use second::replay::draft::Draft;
 use second::replay::judge::difference;
 use second::replay::program::{start, Ended};
-use second::replay::required::required;
+use second::replay::required::{required, TEXT_REFUSALS};
 use second::replay::{coverage, exact, folder, Folder};
 use second::runner;
 use std::path::Path;
@@ -107,7 +107,7 @@ fn printing_comes_to_its_length() {
 #[test]
 fn refused_benches_are_refused() {
     let mut prng = Prng::new(4);
-    for number in 11..=18 {
+    for number in TEXT_REFUSALS {
         let text = benches::refused(&mut prng, number);
         assert_eq!(accept(&text).expect_err("refused").number, number);
     }

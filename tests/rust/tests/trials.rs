@@ -1,5 +1,5 @@
 //! Every trial of document 01, but for what document 02 makes of them: order 1 drops the one that any clause `with` is false in cycle 1,
-//! order 2 amends that of -7 / 2.
+//! order 2 amends that of -7 / 2, order 6 that of keep(1), keep(2).
 
 mod common;
 use common::{keeping, prints, refusal, sum, PEDAL};
@@ -31,9 +31,10 @@ fn sums() {
 }
 
 #[test]
-fn last_write_stands() {
+fn earliest_write_stands() {
     let bench = keeping("whole", "1").replace("on x end", "on x , action keep ( 2 ) on x end");
-    prints(&bench, "by n x.go|a 1 true", "by n x.keep|a 1 2");
+    // The amended trial.
+    prints(&bench, "by n x.go|a 1 true", "by n x.keep|a 1 1");
 }
 
 /// The dropped trial's bench: the attribute is set now, and that is what the filter reads.

@@ -15,7 +15,9 @@
   (progn$ (?reading ?fields) (bind ?now (create$ ?now (taken (nth$ ?reading-index ?*was*) ?reading))))
   (bind ?w ?*was*)
   (bind ?*facts* (create$))
-  (loop-for-count (?k 0 7) do
+  ; What is asserted last fires first, so the first entities come last: then few writes fire before the one that stands.
+  (loop-for-count (?after 0 7) do
+    (bind ?k (- 7 ?after))
     (bind ?room (div ?k 2))
     (bind ?gain (+ 1 (mod ?k 4)))
     (bind ?level (+ 1 (* 2 ?k)))

@@ -13,7 +13,7 @@ for k = 0, 7 do
   valves[k + 1] = { room = room }
 end
 
--- `was_x` is the value in the line before; an action is seen in the line after it, `new_x` is what fires now.
+-- `was_x` is the value in the line before; an action is seen in the line after it, `new_x` is what fires now: the earliest write stands.
 local rules = require(arg[1] or "heavy_rules")(sensors, gates, meters, valves)
 
 local function whole(old, text)

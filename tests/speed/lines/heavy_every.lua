@@ -16,7 +16,7 @@ return function(sensors, gates, meters, valves)
           local level = becomes(s.level, i, s.was_level, i)
           local with = g.room == s.room
           local open = g.open ~= g.was_open
-          if level and with and open and v.room == g.room then v.new_turn = s.level * s.gain + i end
+          if level and with and open and v.room == g.room and v.new_turn == nil then v.new_turn = s.level * s.gain + i end
         end
       end
     end
@@ -30,8 +30,8 @@ return function(sensors, gates, meters, valves)
           local with = m.room == s.room
           local flow = m.flow ~= m.was_flow
           if lit and with and flow then
-            if m.flow and s.level then m.new_mark = m.flow * m.scale + (s.level + i) end
-            if v.room == m.room then v.new_warn = true end
+            if m.flow and s.level and m.new_mark == nil then m.new_mark = m.flow * m.scale + (s.level + i) end
+            if v.room == m.room and v.new_warn == nil then v.new_warn = true end
           end
         end
       end
@@ -45,7 +45,7 @@ return function(sensors, gates, meters, valves)
           local level = becomes(a.level, b.level and b.level + i, a.was_level, b.was_level and b.was_level + i)
           local with = b.room == a.room
           local changed = b.level ~= b.was_level
-          if level and with and changed and g.room == b.room then g.new_set = a.level - b.level end
+          if level and with and changed and g.room == b.room and g.new_set == nil then g.new_set = a.level - b.level end
         end
       end
     end
@@ -59,7 +59,7 @@ return function(sensors, gates, meters, valves)
           local closed = becomes(g.open, false, g.was_open, false)
           local with = v.room == g.room
           local turned = v.turn ~= v.was_turn
-          if (opened or closed) and with and turned and h.room == g.room then h.new_set = v.room + i end
+          if (opened or closed) and with and turned and h.room == g.room and h.new_set == nil then h.new_set = v.room + i end
         end
       end
     end
@@ -71,7 +71,7 @@ return function(sensors, gates, meters, valves)
         for _, v in ipairs(valves) do
           local mark = m.mark ~= m.was_mark
           local level = becomes(s.level, i, s.was_level, i)
-          if mark and level and v.room == s.room then v.new_warn = false end
+          if mark and level and v.room == s.room and v.new_warn == nil then v.new_warn = false end
         end
       end
     end
@@ -84,7 +84,7 @@ return function(sensors, gates, meters, valves)
           local with = m.scale == s.gain
           local flow = m.flow ~= m.was_flow
           local lit = becomes(s.lit, true, s.was_lit, true)
-          if with and flow and lit and v.room == m.room then v.new_turn = s.gain + i end
+          if with and flow and lit and v.room == m.room and v.new_turn == nil then v.new_turn = s.gain + i end
         end
       end
     end
@@ -97,13 +97,14 @@ return function(sensors, gates, meters, valves)
           local set = becomes(g.set, i, g.was_set, i)
           local with = s.room == g.room
           local level = s.level ~= s.was_level
-          if set and with and level and s.level and m.room == s.room then m.new_mark = s.level / 2 end
+          if set and with and level and s.level and m.room == s.room and m.new_mark == nil then m.new_mark = s.level / 2 end
         end
       end
     end
   end
 
   rules[8] = function(i)
+    local g = gates[i + 1]
     for _, a in ipairs(sensors) do
       for _, b in ipairs(sensors) do
         for _, c in ipairs(sensors) do
@@ -112,8 +113,8 @@ return function(sensors, gates, meters, valves)
           local second_level = b.level ~= b.was_level
           local with_c = c.room == b.room + 1
           local third_level = becomes(c.level, a.level, c.was_level, a.was_level)
-          if first_level and with_b and second_level and with_c and third_level and b.level then
-            gates[i + 1].new_set = a.level + b.level + c.level
+          if first_level and with_b and second_level and with_c and third_level and b.level and g.new_set == nil then
+            g.new_set = a.level + b.level + c.level
           end
         end
       end

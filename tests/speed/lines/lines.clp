@@ -43,17 +43,17 @@
   (bind ?from (from (member$ ?by ?*senders*)))
   (subseq$ ?*kept* (+ ?from 2) (+ ?from (width) -1)))
 
-; What the usual and the heavy bench share besides: readings by line, reals as decimals, `nil` for unset, the last write to a cell stands.
-(defglobal ?*row* = (create$) ?*by* = (create$) ?*blank* = (create$) ?*zeros* = (create$))
+; What the usual and the heavy bench share besides: readings by line, reals as decimals, `nil` for unset, the earliest write to a cell stands.
+(defglobal ?*row* = (create$) ?*by* = (create$) ?*blank* = (create$) ?*ends* = (create$))
 
 (deffunction cells (?count)
-  (bind ?blank (create$)) (bind ?zeros (create$))
-  (loop-for-count ?count do (bind ?blank (create$ ?blank -)) (bind ?zeros (create$ ?zeros -1)))
-  (bind ?*blank* ?blank) (bind ?*zeros* ?zeros))
+  (bind ?blank (create$)) (bind ?ends (create$))
+  (loop-for-count ?count do (bind ?blank (create$ ?blank -)) (bind ?ends (create$ ?ends 32768)))
+  (bind ?*blank* ?blank) (bind ?*ends* ?ends))
 
-; Rules fire in an order of their own, so a write says where it stands: by rule and choice.
+; Rules fire in an order of their own, so a write says where it stands: by rule and choice, below 64 * 512, which is for no write yet.
 (deffunction write-cell (?cell ?by ?value)
-  (if (>= ?by (nth$ ?cell ?*by*)) then
+  (if (< ?by (nth$ ?cell ?*by*)) then
     (bind ?*by* (replace$ ?*by* ?cell ?cell ?by))
     (bind ?*row* (replace$ ?*row* ?cell ?cell ?value))))
 
@@ -85,7 +85,7 @@
       (case new then
         (take-line (subseq$ ?fields 3 (length$ ?fields)))
         (bind ?*row* ?*blank*)
-        (bind ?*by* ?*zeros*)
+        (bind ?*by* ?*ends*)
         (run)
         (keep ?by ?n ?line ?*row*)
         (print-row ?by ?n ?*row*))

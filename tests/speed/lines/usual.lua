@@ -87,13 +87,13 @@ local function cycle(pos, edge, dir, count, held, width, t1, o1, t2, o2, t3, o3,
       switch = pedal.held
     end
     local temp_changed = probe.temp ~= probe.was_temp
-    if temp_changed and probe.desk == stage.desk and probe.temp then
+    if temp_changed and not drift and probe.desk == stage.desk and probe.temp then
       drift = probe.temp - probe.limit
     end
     if lamp.switch and not lamp.was_switch and pedal.count then
       dim = lamp.level * 10 + pedal.count
     end
-    if temp_changed and probe.alarm ~= probe.was_alarm then
+    if temp_changed and not hot and probe.alarm ~= probe.was_alarm then
       hot = probe.desk
     end
     probe.was_alarm, probe.alarm = probe.alarm, alarm

@@ -5,7 +5,7 @@
 enum {
     NAME, WHOLE_NUMBER, REAL_NUMBER, INTERFACE, ATTRIBUTE, EVENT, ACTION, ENTITY, RULES, WHEN, FROM, WITH, VALUE, CHANGED, TRIGGER, ON,
     END, AND, OR, TRUE, FALSE, WHOLE, BOOL, REAL, BRACE_OPEN, BRACE_CLOSE, ROUND_OPEN, ROUND_CLOSE, COLON, EQUALS, COMMA, DOT, PLUS,
-    MINUS, TIMES, DIVIDE, NONE = 255
+    MINUS, TIMES, DIVIDE, RANK, NONE = 255
 };
 
 /* What a byte begins, or may go on with: a blank, a letter, a digit, `_`, `#`, or a mark with its class. */
@@ -26,7 +26,7 @@ static uint8_t name_class(const uint8_t *s, size_t n) {
     switch (n) {
     case 2: IS("on", ON); IS("or", OR); break;
     case 3: IS("end", END); IS("and", AND); break;
-    case 4: IS("when", WHEN); IS("from", FROM); IS("with", WITH); IS("true", TRUE); IS("bool", BOOL); IS("real", REAL); break;
+    case 4: IS("when", WHEN); IS("from", FROM); IS("with", WITH); IS("true", TRUE); IS("bool", BOOL); IS("real", REAL); IS("rank", RANK); break;
     case 5: IS("event", EVENT); IS("rules", RULES); IS("value", VALUE); IS("false", FALSE); IS("whole", WHOLE); break;
     case 6: IS("action", ACTION); IS("entity", ENTITY); break;
     case 7: IS("changed", CHANGED); IS("trigger", TRIGGER); break;
@@ -223,8 +223,12 @@ static int call(parser *p) {
     return take(p, ACTION) && take(p, NAME) && take(p, ROUND_OPEN) && expression(p, 16) && take(p, ROUND_CLOSE) && take(p, ON) && target(p) && filter(p, 16);
 }
 
+static int rank(parser *p) {
+    return !take(p, RANK) || take(p, WHOLE_NUMBER);
+}
+
 static int rule(parser *p) {
-    if (!(condition(p, 16) && take(p, TRIGGER) && call(p))) return 0;
+    if (!(rank(p) && condition(p, 16) && take(p, TRIGGER) && call(p))) return 0;
     while (take(p, COMMA)) {
         if (!call(p)) return 0;
     }

@@ -48,7 +48,7 @@ static void same(const uint8_t *text, size_t n, const char *what) {
 }
 
 static const char *const pieces[] = {
-    "interface", "attribute", "event", "action", "entity", "rules", "when", "from", "with", "value", "changed", "trigger", "on", "end",
+    "interface", "attribute", "event", "action", "entity", "rules", "when", "rank", "from", "with", "value", "changed", "trigger", "on", "end",
     "and", "or", "true", "false", "whole", "bool", "real", "{", "}", "(", ")", ":", "=", ",", ".", "+", "-", "*", "/", "a", "End", "0",
     "2147483647", "2147483648", "00000000000", "1r", "1real", "abcdefghijklmnopqrstuvwx", "abcdefghijklmnopqrstuvwxy", "# c\n", "# \x7f", "_",
     "((((((((((((((((", "- - - - - - - - - - - - - - - -",

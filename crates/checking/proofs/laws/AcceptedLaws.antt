@@ -3,15 +3,17 @@ use Prim.Native.Nat.{ℕ, _≤_}
 use native.Mathlib.Omega.{arith}
 use mathlib.Core.Path.{_≡_, refl, ap, _∙_}
 use mathlib.Core.Bool.{Bool, true, false}
-use mathlib.Core.List.{List, [], _∷_, map, flatMap, List·Memᴰ}
+use mathlib.Core.List.{List, [], _∷_, map, flatMap, List·Memᴰ, cons≢nil}
 use mathlib.Core.Option.{Option, none, some}
 use lib.Dec.{leb}
 use lib.ListN.{length, length-map, drop, getElem?}
+use borrow.Author.Tests.{leb-true}
 use Rattle.text.specs.definitions.Tokens.{Token, Lexing, tokens, no-token-at, tokens-of}
-use Rattle.text.specs.definitions.Syntax.{Member, Interface, Entity, Rule, File}
+use Rattle.text.specs.definitions.Syntax.{Member, Interface, Entity, Priority, Rule, priority-given, priority-of, File}
 use Rattle.text.specs.definitions.Parse.{Parse-verdict, grammatical, ungrammatical-at, parse}
-use Rattle.checking.specs.definitions.Faults.{Fault, fault, earliest}
+use Rattle.checking.specs.definitions.Faults.{Fault, fault, fault-unless, earliest}
 use Rattle.checking.specs.definitions.Scope.{Indexed, look-up, item-of, interface-named, interface-of-entity, interface-of}
+use Rattle.checking.specs.definitions.PriorityFaults.{MOST-PRIORITY, number-faults, given-faults, priority-faults}
 use Rattle.checking.specs.definitions.CountFaults.{beyond, interface-count-faults, rule-count-faults, count-faults}
 use Rattle.checking.specs.definitions.NameFaults.{name-faults}
 use Rattle.checking.specs.definitions.KindFaults.{kind-faults}
@@ -28,7 +30,7 @@ use Rattle.checking.specs.definitions.Verdict.{
 }
 use Rattle.checking.specs.definitions.Admitted.{Faultless}
 use Rattle.checking.proofs.laws.WithinCounts.{Within-counts}
-use Rattle.text.proofs.laws.ListLaws.{some-injective, none-some, five-empty, flatMap-empty, mapped-empty, drop-empty}
+use Rattle.text.proofs.laws.ListLaws.{some-injective, none-some, five-empty, flatMap-empty, mapped-empty, drop-empty, number-member}
 use Rattle.checking.proofs.laws.LookUpLaws.{found-member}
 
 refused-accepted : {c p : ℕ} {f : File} → refused-at c p ≡ accepted f → ⊥
@@ -44,10 +46,11 @@ no-refusal (x ∷ fs) v h = absurd (refused-accepted h)
 verdict-parts : (g : File) {f : File} → file-verdict g ≡ accepted f → Faultless g × (accepted g ≡ accepted f)
 unfolding file-verdict
 verdict-parts g h =
-    let (a, i) = no-refusal (count-faults g) _ h in
+    let (n, h′) = no-refusal (priority-faults g) _ h in
+    let (a, i) = no-refusal (count-faults g) _ h′ in
     let (b, j) = no-refusal (name-faults g) _ i in
     let (c, k) = no-refusal (kind-faults g) _ j in
-    (record { counts = a; names = b; kinds = c }, k)
+    (record { priorities = n; counts = a; names = b; kinds = c }, k)
 
 pub accepted-faultless : (f : File) → file-verdict f ≡ accepted f → Faultless f
 accepted-faultless f h = verdict-parts f h .0
@@ -122,3 +125,19 @@ within-counts f h =
           let (x, p, n) = entity-interface f e q in
           within 12 (λ (m : Member). m .at) (i .members) (flatMap-empty interface-count-faults (f .interfaces) (c .1) (named-interface f (x .interface .bytes) n));
     }
+
+-- ---- priorities
+
+given-few : (o : Option Priority) → given-faults o ≡ [] → priority-given o ≤ MOST-PRIORITY
+unfolding given-faults number-faults fault-unless priority-given
+given-few none h = omega arith
+given-few (some k) h = go (leb (k .number) MOST-PRIORITY) refl h
+  where
+    go : (b : Bool) → leb (k .number) MOST-PRIORITY ≡ b → fault-unless b 44 (k .at) ≡ [] → k .number ≤ MOST-PRIORITY
+    go true e h = leb-true (k .number) MOST-PRIORITY e
+    go false e h = absurd (cons≢nil h)
+
+pub priorities-few : (f : File) → file-verdict f ≡ accepted f → (r : Rule) (k : ℕ) → getElem? (f .rules) k ≡ some r → priority-of r ≤ MOST-PRIORITY
+unfolding priority-faults priority-of
+priorities-few f h r k e =
+    given-few (r .priority) (flatMap-empty (λ x. given-faults (x .priority)) (f .rules) (accepted-faultless f h .priorities) (number-member (f .rules) k e))

@@ -150,21 +150,21 @@ checks-short {text} {t} {d} h = record {
 }
 
 -- the rows of classes that were judged
-pub judged-rows : {text cs firsts os ls d e : List ℕ} {r : Found} → cs ≡ firsts → Judged text cs os ls d e r → Judged text firsts os ls d e r
-judged-rows {text} {cs} {firsts} {os} {ls} {d} {e} {r} q j = subst (λ l. Judged text l os ls d e r) q j
+pub judged-rows : {text cs firsts os ls vs d e : List ℕ} {r : Found} → cs ≡ firsts → Judged text cs os ls vs d e r → Judged text firsts os ls vs d e r
+judged-rows {text} {os = os} {ls = ls} {vs = vs} {d = d} {e = e} {r = r} q j = subst (λ l. Judged text l os ls vs d e r) q j
 
-module _ {text cs os ls d e : List ℕ} {s : Syntax} where
+module _ {text cs os ls vs d e : List ℕ} {s : Syntax} where
   -- an answer that is not NoRoom
   room-told : {r : Checked} → (s ≡ Short → ⊥)
-      → ((vs : List ℕ) (t : Token-columns) → Reads-text text t (columns-of cs os ls vs) s → DIRECTORY ≤ length d
+      → ((t : Token-columns) → Reads-text text t (columns-of cs os ls vs) s → DIRECTORY ≤ length d
       → (r ≡ NoRoom → ⊥) × Says text (columns-of cs os ls vs) e r)
-      → Settles text cs os ls d e s r
+      → Settles text cs os ls vs d e s r
   room-told a h = record {
-    told = λ vs t l k size. record {
-      answer = said-answer text t (columns-of cs os ls vs) d e _ (room-enough text t d k l a) (h vs t l k .0) (h vs t l k .1);
+    told = λ t l k size. record {
+      answer = said-answer text t (columns-of cs os ls vs) d e _ (room-enough text t d k l a) (h t l k .0) (h t l k .1);
       short = λ x. absurd (true≢false (sym (room-enough text t d k l a) ∙ x));
-      enough = λ x. h vs t l k .0;
-      says = h vs t l k .1;
+      enough = λ x. h t l k .0;
+      says = h t l k .1;
       classes-kept = l .classes-kept;
       offsets-kept = l .offsets-kept;
       lengths-kept = l .lengths-kept;
@@ -173,9 +173,9 @@ module _ {text cs os ls d e : List ℕ} {s : Syntax} where
     };
   }
 
-  pub settles-short : s ≡ Short → Settles text cs os ls d e s NoRoom
+  pub settles-short : s ≡ Short → Settles text cs os ls vs d e s NoRoom
   settles-short x = record {
-    told = λ vs t l k size. record {
+    told = λ t l k size. record {
       answer = short-answer text t t d d (columns-short text t d k (said l x .0) (said l x .1));
       short = λ y. refl;
       enough = λ y z. true≢false (sym y ∙ columns-short text t d k (said l x .0) (said l x .1));
@@ -189,24 +189,24 @@ module _ {text cs os ls d e : List ℕ} {s : Syntax} where
   }
 
   refusal-told : {r : Checked} {code p : ℕ} → (s ≡ Short → ⊥)
-      → ((vs : List ℕ) (t : Token-columns) → Reads-text text t (columns-of cs os ls vs) s → (p ≤ MOST-BYTES) × (verdict text ≡ refused-at code p))
-      → Refuses code p r → Settles text cs os ls d e s r
-  refusal-told a h f = room-told a λ vs t l k.
-      let q = f .is (h vs t l .0) in
-      (λ z. refused-room (sym q ∙ z), subst (Says text (columns-of cs os ls vs) e) (sym q) (h vs t l .1))
+      → ((t : Token-columns) → Reads-text text t (columns-of cs os ls vs) s → (p ≤ MOST-BYTES) × (verdict text ≡ refused-at code p))
+      → Refuses code p r → Settles text cs os ls vs d e s r
+  refusal-told a h f = room-told a λ t l k.
+      let q = f .is (h t l .0) in
+      (λ z. refused-room (sym q ∙ z), subst (Says text (columns-of cs os ls vs) e) (sym q) (h t l .1))
 
-  pub settles-long : {r : Checked} → s ≡ TooLong → Refuses 11 32768 r → Settles text cs os ls d e s r
-  settles-long x = refusal-told (λ z. long-short (sym x ∙ z)) (λ vs t l. (omega arith, long-verdict l x))
+  pub settles-long : {r : Checked} → s ≡ TooLong → Refuses 11 32768 r → Settles text cs os ls vs d e s r
+  settles-long x = refusal-told (λ z. long-short (sym x ∙ z)) (λ t l. (omega arith, long-verdict l x))
 
-  pub settles-bad : {r : Checked} {p : ℕ} → s ≡ NoTokenAt p → Refuses 12 p r → Settles text cs os ls d e s r
-  settles-bad x = refusal-told (λ z. bad-short (sym x ∙ z)) (λ vs t l. let h = said l x in (omega (arith, h .within, h .allowed), bad-verdict l x))
+  pub settles-bad : {r : Checked} {p : ℕ} → s ≡ NoTokenAt p → Refuses 12 p r → Settles text cs os ls vs d e s r
+  settles-bad x = refusal-told (λ z. bad-short (sym x ∙ z)) (λ t l. let h = said l x in (omega (arith, h .within, h .allowed), bad-verdict l x))
 
-  pub settles-unfit : {r : Checked} {p : ℕ} → s ≡ UnfitAt p → Refuses 13 p r → Settles text cs os ls d e s r
-  settles-unfit x = refusal-told (λ z. unfit-short (sym x ∙ z)) (λ vs t l. let h = said l x in (omega (arith, h .within, h .allowed), unfit-verdict l x))
+  pub settles-unfit : {r : Checked} {p : ℕ} → s ≡ UnfitAt p → Refuses 13 p r → Settles text cs os ls vs d e s r
+  settles-unfit x = refusal-told (λ z. unfit-short (sym x ∙ z)) (λ t l. let h = said l x in (omega (arith, h .within, h .allowed), unfit-verdict l x))
 
   -- a file of n tokens, judged by its first n rows
-  module _ {n : ℕ} (x : s ≡ File n) {found : Found} (j : Judged text (take n cs) os ls d e found) where
-    module _ (vs : List ℕ) (t : Token-columns) (l : Reads-text text t (columns-of cs os ls vs) s) (k : DIRECTORY ≤ length d) where
+  module _ {n : ℕ} (x : s ≡ File n) {found : Found} (j : Judged text (take n cs) os ls vs d e found) where
+    module _ (t : Token-columns) (l : Reads-text text t (columns-of cs os ls vs) s) (k : DIRECTORY ≤ length d) where
       abbrev columns : Token-columns
       columns = columns-of cs os ls vs
 
@@ -219,11 +219,12 @@ module _ {text cs os ls d e : List ℕ} {s : Syntax} where
       class-rows : n ≤ length cs
       class-rows = omega (arith, file .within, room .classes)
 
-      abbrev held : Columned text (take n cs) os ls d
+      abbrev held : Columned text (take n cs) os ls vs d
       held = record {
         file = file .tree;
         tokens = rows n columns text;
         columns = rows-columns n columns text class-rows;
+        valued = rows-values n columns text;
         reads = file .reads ∙ ap (read (file .tree)) (sym (file .count));
         numbers = omega (arith, length-take-le n cs class-rows, file .within, file .allowed);
         room = k;
@@ -254,7 +255,7 @@ module _ {text cs os ls d e : List ℕ} {s : Syntax} where
           reads = held .reads;
           few = j .few held q;
           few-rules = j .few-rules held q;
-          valued = rows-values n columns text;
+          valued = held .valued;
         };
       }
 
@@ -263,7 +264,7 @@ module _ {text cs os ls d e : List ℕ} {s : Syntax} where
       file-says variants.Nothing q = (accepted-room, accepts (ap found-as q))
       file-says (variants.Fault code at) q = (refused-room, found-verdict ∙ ap (λ y. refused-by (found-as y) (accepted (file .tree))) q)
 
-    pub settles-file : {r : Checked} → r ≡ concluded n found → Settles text cs os ls d e s r
-    settles-file q = room-told (λ z. file-short (sym x ∙ z)) λ vs t l k.
-        let (a, b) = file-says vs t l k found refl in
+    pub settles-file : {r : Checked} → r ≡ concluded n found → Settles text cs os ls vs d e s r
+    settles-file q = room-told (λ z. file-short (sym x ∙ z)) λ t l k.
+        let (a, b) = file-says t l k found refl in
         (λ z. a (sym q ∙ z), subst (Says text (columns-of cs os ls vs) e) (sym q) b)

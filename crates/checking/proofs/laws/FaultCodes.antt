@@ -1,4 +1,4 @@
--- Codes of refusals: what holds of 11 to 18 holds of the code of every refused text.
+-- Codes of refusals: what holds of 11 to 18 and of 44 holds of the code of every refused text.
 use Prim.Native.Nat.{ℕ}
 use native.Mathlib.Omega.{arith}
 use mathlib.Core.Path.{_≡_, refl}
@@ -28,6 +28,7 @@ use Rattle.text.specs.definitions.Syntax.{
   equals,
   Clause,
   Call,
+  Priority,
   Rule,
   File,
 }
@@ -46,6 +47,7 @@ use Rattle.checking.specs.definitions.Scope.{
   is-event,
   is-member,
 }
+use Rattle.checking.specs.definitions.PriorityFaults.{MOST-PRIORITY, number-faults, given-faults, priority-faults}
 use Rattle.checking.specs.definitions.CountFaults.{beyond, interface-count-faults, rule-count-faults, count-faults}
 use Rattle.checking.specs.definitions.NameFaults.{
   repeated-faults,
@@ -141,6 +143,16 @@ module _ (P : ℕ → Type 0) where
       go : (o : Option Fault) → Code-of o → Refused-by-code (refused-by o v)
       go none r = q
       go (some f) r = r
+
+  -- ---- 44
+
+  priority-codes : P 44 → (f : File) → Coded (priority-faults f)
+  unfolding priority-faults given-faults number-faults
+  priority-codes p f = coded-each (λ r. go (r .priority)) (f .rules)
+    where
+      go : (o : Option Priority) → Coded (given-faults o)
+      go none = coded-none
+      go (some k) = coded-unless (leb (k .number) MOST-PRIORITY) 44 (k .at) p
 
   -- ---- 14
 
@@ -258,15 +270,16 @@ module _ (P : ℕ → Type 0) where
     unfolding kind-faults entity-kind-faults rule-kind-faults clause-kind-faults call-kind-faults
     kind-codes f = search (coded-append, coded-each, assignment-codes, matched-codes, filter-kind-codes, test-kind-codes) depth 20
 
-  pub verdict-code : P 11 → P 12 → P 13 → P 14 → P 15 → P 16 → P 17 → P 18 → (text : List ℕ) → Refused-by-code (verdict text)
+  pub verdict-code : P 11 → P 12 → P 13 → P 44 → P 14 → P 15 → P 16 → P 17 → P 18 → (text : List ℕ) → Refused-by-code (verdict text)
   unfolding verdict lexing-verdict parsing-verdict file-verdict
-  verdict-code p11 p12 p13 p14 p15 p16 p17 p18 text = by-length (leb (length text) MOST-BYTES)
+  verdict-code p11 p12 p13 p44 p14 p15 p16 p17 p18 text = by-length (leb (length text) MOST-BYTES)
     where
       by-file : (p : Parse-verdict) → Refused-by-code (parsing-verdict p)
       by-file (grammatical f) =
-          earliest-code (count-faults f) _ (count-codes p14 f)
+          earliest-code (priority-faults f) _ (priority-codes p44 f)
+          (earliest-code (count-faults f) _ (count-codes p14 f)
           (earliest-code (name-faults f) _ (name-codes p15 p16 p17 f)
-          (earliest-code (kind-faults f) (accepted f) (kind-codes p18 f) tt))
+          (earliest-code (kind-faults f) (accepted f) (kind-codes p18 f) tt)))
       by-file (ungrammatical-at at) = p13
 
       by-tokens : (x : Lexing) → Refused-by-code (lexing-verdict (length text) x)

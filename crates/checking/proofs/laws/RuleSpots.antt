@@ -6,7 +6,7 @@ use mathlib.Core.List.{List, [], _∷_, _++_, map, flatMap, append-nil}
 use mathlib.Core.Option.{Option, none, some}
 use lib.ListN.{take, drop}
 use Rattle.text.specs.definitions.Tokens.{Token, EVENT, ACTION, WHEN, COLON}
-use Rattle.text.specs.definitions.Syntax.{Name, Target, Clause, Condition, clause, both, either, Call, Rule}
+use Rattle.text.specs.definitions.Syntax.{Name, Target, Clause, Condition, clause, both, either, Call, Priority, Rule}
 use Rattle.text.specs.definitions.Readers.{read}
 use Rattle.text.specs.definitions.Grammar.{rule-after}
 use Rattle.text.proofs.laws.LanguageLaws.{is}
@@ -18,6 +18,7 @@ use Rattle.text.proofs.laws.RuleMarks.{
   Variable-at,
   Ruled,
   rule-mark,
+  priority-mark,
   variable-mark,
   clause-mark,
   call-mark,
@@ -26,6 +27,7 @@ use Rattle.text.proofs.laws.RuleMarks.{
   target-marks,
   condition-marks,
   call-marks,
+  priority-marks,
   rule-marks,
   is-ruling,
   rule-after-marks,
@@ -35,6 +37,7 @@ use Rattle.checking.specs.definitions.Scope.{Variable, clauses, declared
 
 unfoldable pub variable-in : Ruled → List Variable
 variable-in (rule-mark r) = []
+variable-in (priority-mark k) = []
 variable-in (variable-mark n i) = record { name = n; interface = i } ∷ []
 variable-in (clause-mark c) = []
 variable-in (call-mark c) = []
@@ -44,7 +47,7 @@ variable-in (call-mark c) = []
 -- of a condition's marks those that are picked, by its clauses; of a call's, by the call
 module _ {X : Type 0} (pick : Ruled → List X) (of-clause : Clause → List X) (of-call : Call → List X)
     (clause-picks : (c : Clause) → flatMap pick (condition-marks (clause c)) ≡ of-clause c)
-    (call-picks : (c : Call) → flatMap pick (call-marks c) ≡ of-call c) where
+    (call-picks : (c : Call) → flatMap pick (call-marks c) ≡ of-call c) (priority-picks : (k : Priority) → pick (priority-mark k) ≡ []) where
   condition-pick : (c : Condition) → flatMap pick (condition-marks c) ≡ flatMap of-clause (clauses c)
   unfolding condition-marks clauses flatMap
   condition-pick (clause c) = clause-picks c ∙ sym (append-nil (of-clause c))
@@ -56,10 +59,15 @@ module _ {X : Type 0} (pick : Ruled → List X) (of-clause : Clause → List X) 
       ∙ rw (condition-pick a, condition-pick b) (sym (flatMap-append of-clause (clauses a) (clauses b)))
 
   rule-pick : (r : Rule) → flatMap pick (rule-marks r) ≡ flatMap of-clause (clauses (r .condition)) ++ flatMap of-call (r .calls)
-  unfolding rule-marks
+  unfolding rule-marks priority-marks flatMap
   rule-pick r =
-      flatMap-append pick (condition-marks (r .condition)) (flatMap call-marks (r .calls))
-      ∙ rw (condition-pick (r .condition), flatMap-flatMap pick call-marks of-call call-picks (r .calls))
+      flatMap-append pick (priority-marks (r .priority)) (condition-marks (r .condition) ++ flatMap call-marks (r .calls))
+      ∙ rw (no-priority (r .priority)) (flatMap-append pick (condition-marks (r .condition)) (flatMap call-marks (r .calls))
+      ∙ rw (condition-pick (r .condition), flatMap-flatMap pick call-marks of-call call-picks (r .calls)))
+    where
+      no-priority : (o : Option Priority) → flatMap pick (priority-marks o) ≡ []
+      no-priority none = refl
+      no-priority (some k) = rw (priority-picks k)
 
 -- a target's mark is of no clause and no call
 module _ {X : Type 0} (pick : Ruled → List X) (skips : (n i : Name) → pick (variable-mark n i) ≡ []) where
@@ -75,21 +83,21 @@ pub marks-clauses : (r : Rule) → flatMap clause-in (rule-marks r) ≡ clauses 
 unfolding clause-in condition-marks call-marks flatMap
 marks-clauses r =
     rule-pick clause-in (λ c. c ∷ []) (λ c. []) (λ c. ap (λ l. c ∷ l) (target-none clause-in (λ n i. refl) (c .target)))
-    (λ c. target-none clause-in (λ n i. refl) (c .target)) r
+    (λ c. target-none clause-in (λ n i. refl) (c .target)) (λ k. refl) r
     ∙ rw (flatMap-self (clauses (r .condition)), flatMap-none {B = Clause} (r .calls)) (append-nil (clauses (r .condition)))
 
 pub marks-calls : (r : Rule) → flatMap call-in (rule-marks r) ≡ r .calls
 unfolding call-in condition-marks call-marks flatMap
 marks-calls r =
     rule-pick call-in (λ c. []) (λ c. c ∷ []) (λ c. target-none call-in (λ n i. refl) (c .target))
-    (λ c. ap (λ l. c ∷ l) (target-none call-in (λ n i. refl) (c .target))) r
+    (λ c. ap (λ l. c ∷ l) (target-none call-in (λ n i. refl) (c .target))) (λ k. refl) r
     ∙ rw (flatMap-none {B = Call} (clauses (r .condition)), flatMap-self (r .calls))
 
 pub marks-variables : (r : Rule) → flatMap variable-in (rule-marks r) ≡ variables r
 unfolding variable-in condition-marks call-marks target-marks variables
 marks-variables r =
     rule-pick variable-in (λ c. of (c .target)) (λ c. of (c .target)) (λ c. target (c .target .name) (c .target .declares))
-    (λ c. target (c .target .name) (c .target .declares)) r
+    (λ c. target (c .target .name) (c .target .declares)) (λ k. refl) r
     ∙ rw (← flatMap-map of (λ c. c .target) (clauses (r .condition)), ← flatMap-map of (λ c. c .target) (r .calls))
     (sym (flatMap-append of (map (λ c. c .target) (clauses (r .condition))) (map (λ c. c .target) (r .calls))))
   where
@@ -115,6 +123,7 @@ module _ (ts : List Token) (t : Token) (p : ℕ) (r : Rule) (n : ℕ) (e : rule-
     where
       here : (q : ℕ) (x : Ruled) → Ruled-at ts q x → Spots ts (is EVENT) (λ q c. First-at ts q EVENT (c .at)) q (suc q) (clause-in x)
       here q (rule-mark y) a = unchosen (ruled-class-at (rule-mark y) a) refl
+      here q (priority-mark k) a = unchosen (a .word) refl
       here q (variable-mark m i) a = unchosen (ruled-class-at (variable-mark m i) a) refl
       here q (clause-mark c) a = chosen-one (ruled-class-at (clause-mark c) a) refl a
       here q (call-mark c) a = unchosen (ruled-class-at (call-mark c) a) refl
@@ -125,6 +134,7 @@ module _ (ts : List Token) (t : Token) (p : ℕ) (r : Rule) (n : ℕ) (e : rule-
     where
       here : (q : ℕ) (x : Ruled) → Ruled-at ts q x → Spots ts (is ACTION) (λ q c. First-at ts q ACTION (c .at)) q (suc q) (call-in x)
       here q (rule-mark y) a = unchosen (ruled-class-at (rule-mark y) a) refl
+      here q (priority-mark k) a = unchosen (a .word) refl
       here q (variable-mark m i) a = unchosen (ruled-class-at (variable-mark m i) a) refl
       here q (clause-mark c) a = unchosen (ruled-class-at (clause-mark c) a) refl
       here q (call-mark c) a = chosen-one (ruled-class-at (call-mark c) a) refl a
@@ -136,6 +146,7 @@ module _ (ts : List Token) (t : Token) (p : ℕ) (r : Rule) (n : ℕ) (e : rule-
     where
       here : (q : ℕ) (x : Ruled) → Ruled-at ts q x → Spots ts (is WHEN) (Rule-at ts) q (suc q) (rule-in x)
       here q (rule-mark y) a = chosen-one (ruled-class-at (rule-mark y) a) refl a
+      here q (priority-mark k) a = unchosen (a .word) refl
       here q (variable-mark m i) a = unchosen (ruled-class-at (variable-mark m i) a) refl
       here q (clause-mark c) a = unchosen (ruled-class-at (clause-mark c) a) refl
       here q (call-mark c) a = unchosen (ruled-class-at (call-mark c) a) refl
@@ -153,6 +164,7 @@ module _ (ts : List Token) (t : Token) (p : ℕ) (r : Rule) (n : ℕ) (e : rule-
     where
       here : (q : ℕ) (x : Ruled) → Ruled-at ts q x → Spots ts (is COLON) (λ q v. Variable-at ts q (v .name) (v .interface)) q (suc q) (variable-in x)
       here q (rule-mark y) a = unchosen (ruled-class-at (rule-mark y) a) refl
+      here q (priority-mark k) a = unchosen (a .word) refl
       here q (variable-mark m i) a = chosen-one (ruled-class-at (variable-mark m i) a) refl a
       here q (clause-mark c) a = unchosen (ruled-class-at (clause-mark c) a) refl
       here q (call-mark c) a = unchosen (ruled-class-at (call-mark c) a) refl

@@ -12,6 +12,7 @@ use Rattle.text.specs.definitions.Tokens.{Lexing, tokens, no-token-at, tokens-o
 use Rattle.text.specs.definitions.Syntax.{File}
 use Rattle.text.specs.definitions.Parse.{Parse-verdict, grammatical, ungrammatical-at, parse}
 use Rattle.checking.specs.definitions.Faults.{Fault, earliest}
+use Rattle.checking.specs.definitions.PriorityFaults.{priority-faults}
 use Rattle.checking.specs.definitions.CountFaults.{count-faults}
 use Rattle.checking.specs.definitions.NameFaults.{name-faults}
 use Rattle.checking.specs.definitions.KindFaults.{kind-faults}
@@ -30,17 +31,19 @@ use Rattle.checking.specs.definitions.Verdict.{
 }
 
 -- a file with no fault is the one that is accepted
-accepted-is : (o p q : Option Fault) (g : File) {f : File} → refused-by o (refused-by p (refused-by q (accepted g))) ≡ accepted f → g ≡ f
+accepted-is : (n o p q : Option Fault) (g : File) {f : File}
+    → refused-by n (refused-by o (refused-by p (refused-by q (accepted g)))) ≡ accepted f → g ≡ f
 unfolding refused-by
-accepted-is none none none g h = cc
-accepted-is none none (some x) g h = cc
-accepted-is none (some x) q g h = cc
-accepted-is (some x) p q g h = cc
+accepted-is none none none none g h = cc
+accepted-is none none none (some x) g h = cc
+accepted-is none none (some x) q g h = cc
+accepted-is none (some x) p q g h = cc
+accepted-is (some x) o p q g h = cc
 
 file-accepted : (g : File) {f : File} → file-verdict g ≡ accepted f → file-verdict f ≡ accepted f
 unfolding file-verdict
 file-accepted g {f} h =
-    let e : g ≡ f = accepted-is (earliest (count-faults g)) (earliest (name-faults g)) (earliest (kind-faults g)) g h in
+    let e : g ≡ f = accepted-is (earliest (priority-faults g)) (earliest (count-faults g)) (earliest (name-faults g)) (earliest (kind-faults g)) g h in
     subst (λ x. file-verdict x ≡ accepted f) e h
 
 parsing-accepted : (p : Parse-verdict) {f : File} → parsing-verdict p ≡ accepted f → file-verdict f ≡ accepted f

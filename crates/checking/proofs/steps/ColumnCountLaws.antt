@@ -15,7 +15,7 @@ use Rattle.text.proofs.laws.LanguageLaws.{is}
 use Rattle.text.proofs.laws.ListLaws.{flatMap-none}
 use Rattle.text.proofs.laws.SpotLaws.{Spots, over, skip, spot, spots-append, spots-le, spots-none, spots-select, stands-below}
 use Rattle.text.proofs.laws.DeclarationMarks.{Class-at, sort-token, Declared, interface-mark, member-mark, entity-mark, close-mark, Declared-at, is-leading}
-use Rattle.text.proofs.laws.RuleMarks.{Ruled, rule-mark, variable-mark, clause-mark, call-mark, Ruled-at, is-ruling}
+use Rattle.text.proofs.laws.RuleMarks.{Ruled, rule-mark, priority-mark, variable-mark, clause-mark, call-mark, Ruled-at, is-ruling}
 use Rattle.text.proofs.laws.FlatLaws.{
   declarations,
   rulings,
@@ -108,6 +108,7 @@ module _ {classes offsets : List ℕ} {ts : List Token} (w : Classes-of classes 
     unfolding ruled-step ruled-late ruled-count ruled-class name-of
     ruled-one p (rule-mark r) y a b c d =
         rw (class-in (ruled-class-at (rule-mark r) y)) (one-late a p (r .at) _ _ (offset-in p (y .starts .stands) (y .offset)) (h (a - 1) 3 8 8))
+    ruled-one p (priority-mark k) y a b c d = rw (class-in (y .word)) (h a b c d)
     ruled-one p (variable-mark n i) y a b c d =
         let e : p - 1 ≡ y .before = omega arith in
         rw (class-in (ruled-class-at (variable-mark n i) y))

@@ -11,7 +11,7 @@ use lib.Seq.{drop-nil}
 use Rattle.text.specs.definitions.Syntax.{Member, Interface, Entity, Rule, File}
 use Rattle.text.proofs.laws.ListLaws.{map-flatMap}
 use Rattle.text.proofs.laws.DeclarationMarks.{Declared, interface-mark, member-mark, entity-mark, close-mark, interface-marks, entity-marks}
-use Rattle.text.proofs.laws.RuleMarks.{Ruled, rule-mark, variable-mark, clause-mark, call-mark, rule-marks}
+use Rattle.text.proofs.laws.RuleMarks.{Ruled, rule-mark, priority-mark, variable-mark, clause-mark, call-mark, rule-marks}
 use Rattle.text.proofs.laws.FlatLaws.{declarations, rulings, rule-in, clause-in, call-in, rule-within}
 use Rattle.checking.specs.definitions.Faults.{fault, earliest}
 use Rattle.checking.specs.contracts.FoundFaults.{merged}
@@ -56,6 +56,7 @@ declared-late a b c (close-mark ∷ xs) = declared-late a b c xs
 unfoldable pub ruled-late : ℕ → ℕ → ℕ → ℕ → List Ruled → List ℕ
 ruled-late a b c d [] = []
 ruled-late a b c d (rule-mark r ∷ xs) = drop a (r .at ∷ []) ++ ruled-late (a - 1) 3 8 8 xs
+ruled-late a b c d (priority-mark k ∷ xs) = ruled-late a b c d xs
 ruled-late a b c d (variable-mark n i ∷ xs) = drop b (n .at ∷ []) ++ ruled-late a (b - 1) c d xs
 ruled-late a b c d (clause-mark k ∷ xs) = drop c (k .at ∷ []) ++ ruled-late a b (c - 1) d xs
 ruled-late a b c d (call-mark k ∷ xs) = drop d (k .at ∷ []) ++ ruled-late a b c (d - 1) xs
@@ -123,6 +124,7 @@ late-within : (a b c d : ℕ) (xs ys : List Ruled) → flatMap rule-in xs ≡ []
 unfolding ruled-late flatMap rule-in variable-in clause-in call-in least lower
 late-within a b c d [] ys h = (b, c, d, rw (drop-nil {A = ℕ} b, drop-nil {A = ℕ} c, drop-nil {A = ℕ} d))
 late-within a b c d (rule-mark r ∷ xs) ys h = absurd (cons≢nil h)
+late-within a b c d (priority-mark k ∷ xs) ys h = late-within a b c d xs ys h
 late-within a b c d (variable-mark n i ∷ xs) ys h =
     let (b′, c′, d′, e) = late-within a (b - 1) c d xs ys h in (
       b′,

@@ -37,11 +37,11 @@ use Rattle.checking.specs.contracts.CountScan.{
 use Rattle.checking.proofs.laws.FaultLaws.{merged-none-right, merged-assoc, earliest-append}
 
 -- what is found, and what the rest has
-abbrev With-rest : Option Fault → Found → List Fault → Type 0
+abbrev pub With-rest : Option Fault → Found → List Fault → Type 0
 With-rest all found rest = merged (found-as found) (earliest rest) ≡ all
 
 -- the first part of the rest is found too
-found-part : {all : Option Fault} (found now : Found) (scan part rest : List Fault) → scan ≡ part ++ rest → With-rest all found scan
+pub found-part : {all : Option Fault} (found now : Found) (scan part rest : List Fault) → scan ≡ part ++ rest → With-rest all found scan
     → found-as now ≡ merged (found-as found) (earliest part) → With-rest all now rest
 found-part found now scan part rest e h q =
     rw q (merged-assoc (found-as found) (earliest part) (earliest rest)

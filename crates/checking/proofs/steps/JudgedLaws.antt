@@ -1,4 +1,4 @@
--- Which fault of a grammatical file is reported: the counts come before the names, and these before the kinds.
+-- Which fault of a grammatical file is reported: the priorities come before the counts, these before the names, and these before the kinds.
 use Prim.Native.Nat.{ℕ, _≤_}
 use native.Mathlib.Omega.{arith}
 use mathlib.Core.Path.{_≡_, refl, sym, ap, ap₂, _∙_}
@@ -13,11 +13,13 @@ use Rattle.checking.specs.declared.faults.Found.{Found}
 use Rattle.checking.specs.declared.faults.Faulted.{Faulted}
 use Rattle.checking.specs.definitions.Faults.{Fault, earliest}
 use Rattle.checking.specs.contracts.FoundFaults.{found-as}
+use Rattle.checking.specs.definitions.PriorityFaults.{priority-faults}
 use Rattle.checking.specs.definitions.CountFaults.{interface-count-faults, count-faults}
 use Rattle.checking.specs.definitions.NameFaults.{name-faults}
 use Rattle.checking.specs.definitions.KindFaults.{kind-faults}
 use Rattle.checking.specs.definitions.Verdict.{Verdict, accepted, refused-by, file-verdict}
 use Rattle.checking.specs.contracts.CountChecked.{Count-checked}
+use Rattle.checking.specs.contracts.PriorityScan.{Priority-checked}
 use Rattle.checking.specs.contracts.Directory.{DIRECTORY, Directory-of, Bench}
 use Rattle.checking.specs.contracts.DirectoryReads.{Few}
 use Rattle.checking.specs.contracts.DirectoryItems.{Directory-built}
@@ -54,13 +56,22 @@ unfolding or-else
 first-none none b h = refl
 first-none (some f) b h = absurd (none-some (sym h))
 
+second-none : (a b : Option Fault) → or-else a b ≡ none → b ≡ none
+unfolding or-else
+second-none none b h = h
+second-none (some f) b h = absurd (none-some (sym h))
+
 -- ---- the steps
 
-module _ {text classes offsets lengths d built e : List ℕ} {counts : Found} {later first : Option Fault} {done : Bool} {found : Faulted} (c : Count-checked classes offsets counts)
+module _ {text classes offsets lengths values d built e : List ℕ} {priorities counts : Found} {later after first : Option Fault} {done : Bool} {found : Faulted}
+    (z : Priority-checked classes offsets values priorities) (c : Count-checked classes offsets counts)
     (b : Directory-built classes d built done) (size : length built ≡ length d) (l : Entities-linked text offsets lengths built e)
     (g : File-found text classes offsets lengths e found) (o : later ≡ or-else (found-as (found .names)) (found-as (found .kinds)))
-    (a : first ≡ or-else (found-as counts) later) where
-  module _ (w : Columned text classes offsets lengths d) where
+    (a : after ≡ or-else (found-as counts) later) (y : first ≡ or-else (found-as priorities) after) where
+  module _ (w : Columned text classes offsets lengths values d) where
+    priorities-found : found-as priorities ≡ earliest (priority-faults (w .file))
+    priorities-found = z .found (w .tokens) (w .file) (columns-classes (w .columns)) (columns-offsets (w .columns)) (w .valued) (w .reads)
+
     counts-found : found-as counts ≡ earliest (count-faults (w .file))
     counts-found = c .found (w .tokens) (w .file) (columns-classes (w .columns)) (columns-offsets (w .columns)) (w .reads)
 
@@ -89,9 +100,10 @@ module _ {text classes offsets lengths d built e : List ℕ} {counts : Found} {l
           ap (λ (x : Option Fault). refused-by x (accepted (w .file))) (o ∙ ap₂ or-else names-found kinds-found)
           ∙ refused-first (earliest (name-faults (w .file))) (earliest (kind-faults (w .file))) (accepted (w .file))
 
-    judged-verdict : refused-by first (accepted (w .file)) ≡ file-verdict (w .file)
-    unfolding file-verdict refused-by
-    judged-verdict =
+    after-verdict : refused-by after (accepted (w .file)) ≡ refused-by (earliest (count-faults (w .file)))
+        (refused-by (earliest (name-faults (w .file))) (refused-by (earliest (kind-faults (w .file))) (accepted (w .file))))
+    unfolding refused-by
+    after-verdict =
         ap (λ (x : Option Fault). refused-by x (accepted (w .file))) a
         ∙ refused-first (found-as counts) later (accepted (w .file))
         ∙ ap (λ (x : Option Fault). refused-by x (refused-by later (accepted (w .file)))) counts-found
@@ -102,10 +114,19 @@ module _ {text classes offsets lengths d built e : List ℕ} {counts : Found} {l
         go none k = later-verdict (k refl)
         go (some y) k = refl
 
-    faultless-counts : first ≡ none → count-faults (w .file) ≡ []
-    faultless-counts n = earliest-none (count-faults (w .file)) (sym counts-found ∙ first-none (found-as counts) later (sym a ∙ n))
+    judged-verdict : refused-by first (accepted (w .file)) ≡ file-verdict (w .file)
+    unfolding file-verdict
+    judged-verdict =
+        ap (λ (x : Option Fault). refused-by x (accepted (w .file))) y
+        ∙ refused-first (found-as priorities) after (accepted (w .file))
+        ∙ ap₂ refused-by priorities-found after-verdict
 
-  pub judged-told : {r : Found} → found-as r ≡ first → Judged text classes offsets lengths d e r
+    faultless-counts : first ≡ none → count-faults (w .file) ≡ []
+    faultless-counts n =
+        let none-after = second-none (found-as priorities) after (sym y ∙ n) in
+        earliest-none (count-faults (w .file)) (sym counts-found ∙ first-none (found-as counts) later (sym a ∙ none-after))
+
+  pub judged-told : {r : Found} → found-as r ≡ first → Judged text classes offsets lengths values d e r
   judged-told q = record {
     verdict = λ w. ap (λ (x : Option Fault). refused-by x (accepted (w .file))) q ∙ judged-verdict w;
     directory = λ w n. made w (faultless-counts w (sym q ∙ n));

@@ -30,6 +30,7 @@ use Rattle.text.specs.definitions.Tokens.{
   MINUS,
   TIMES,
   DIVIDE,
+  RANK,
 }
 use Rattle.text.specs.definitions.Syntax.{Name, Expression, Target, Clause, Condition, both, Call, Rule}
 use Rattle.text.specs.definitions.Readers.{
@@ -80,6 +81,7 @@ use Rattle.text.specs.definitions.Grammar.{
   condition-reader,
   call-reader,
   call-after,
+  priority-reader,
   rule-after,
 }
 use Rattle.text.specs.definitions.Syntax.{OPENERS}
@@ -400,6 +402,15 @@ module _ {classes : List ℕ} (w : Rows classes) where
       then-declares (expression-plain left before _) λ e m.
       give-declares _ refl)
 
+  priority-plain : Plain priority-reader
+  unfolding priority-reader
+  priority-plain before q =
+      if-next-declares RANK
+      (expect-declares refl refl λ t e₁.
+      expect-declares refl refl λ n e₂.
+      give-declares _ refl)
+      (give-declares _ refl)
+
   -- ---- what declares variables
 
   target-variables : Target → List Variable
@@ -497,7 +508,8 @@ module _ {classes : List ℕ} (w : Rows classes) where
   rule-adds : (start : Token) (q : ℕ) → Declares (λ i. []) [] q (rule-after start) rule-variables
   unfolding rule-after condition-reader rule-variables call-after flatMap
   rule-adds start q =
-      then-declares (condition-of-adds (atom-reader OPENERS) (atom-adds OPENERS) [] q) λ c m.
+      then-declares (priority-plain [] q) λ k m.
+      then-declares (condition-of-adds (atom-reader OPENERS) (atom-adds OPENERS) [] _) λ c m.
       expect-declares refl refl λ t e₁.
       then-declares (call-adds _ _) λ first m.
       then-declares (many-declares COMMA call-after call-variables refl refl λ t. call-adds) λ others m.
@@ -529,6 +541,7 @@ module _ {classes : List ℕ} (w : Rows classes) where
   rule-ends : (start : Token) (q : ℕ) → Ends q (rule-after start)
   unfolding rule-after
   rule-ends start q =
+      then-ends priority-reader λ k m.
       then-ends (condition-reader OPENERS) λ c m.
       expect-ends TRIGGER λ t.
       then-ends call-reader λ first m.

@@ -26,11 +26,11 @@ use Rattle.text.specs.definitions.Syntax.{
   Rule,
 }
 use Rattle.text.specs.definitions.Readers.{read, many}
-use Rattle.text.specs.definitions.Grammar.{name-of, operator-of, apply-at, both-at, either-at, condition-reader, call-reader, call-after, rule-after}
+use Rattle.text.specs.definitions.Grammar.{name-of, operator-of, apply-at, both-at, either-at, condition-reader, call-reader, call-after, priority-reader, rule-after}
 use Rattle.text.specs.definitions.Syntax.{OPENERS}
-use Rattle.text.specs.contracts.Walks.{no-token, nth-token, Steps, Walks}
+use Rattle.text.specs.contracts.Walks.{no-token, nth-token, Steps, Walks, Ends}
 use Rattle.text.proofs.laws.ListLaws.{flatMap-append}
-use Rattle.text.proofs.laws.WalkLaws.{next-steps, getElem?-inside, walk-yields}
+use Rattle.text.proofs.laws.WalkLaws.{next-steps, getElem?-inside, walk-yields, walk-in}
 use Rattle.text.proofs.laws.ConditionWalks.{rule-walk}
 use Rattle.checking.specs.contracts.DirectoryReads.{Few}
 use Rattle.checking.specs.declared.faults.Found.{Found}
@@ -343,12 +343,13 @@ module _ {text classes offsets lengths d : List ℕ} {at : ℕ} where
       Part-of (flatMap (clause-name-faults (world-scope c)) (clauses (x .condition)) ++ flatMap (call-name-faults (world-scope c)) (x .calls))
       (flatMap (clause-kind-faults (world-scope c)) (clauses (x .condition)) ++ flatMap (call-kind-faults (world-scope c)) (x .calls)) r
 
-  module _ {i m : ℕ} {x y z p q : Part} (s : Steps (length classes) at i) (f : Condition-walk text classes offsets lengths d at (condition-reader OPENERS) i x)
+  module _ {i o m : ℕ} {x y z p q : Part} (s : Steps (length classes) at i) (b : Ends classes priority-reader i o)
+      (f : Condition-walk text classes offsets lengths d at (condition-reader OPENERS) o x)
       (t : Steps (length classes) (x .next) m) (g : Call-walk text classes offsets lengths d at call-reader m y)
       (h : Calls-walk text classes offsets lengths d at (many COMMA call-after) (y .next) z) (j : Joined y z p) (k : Joined x p q) where
     rule-walked : (start : Token) → Walks world-rows rule-yields (rule-after start) i q (z .next + 1)
     unfolding rule-yields flatMap
-    rule-walked start = rule-walk start f t g h (next-steps (z .next)) λ c a b bs u v w. k .part _ _ _ _ u (j .part _ _ _ _ v w)
+    rule-walked start = rule-walk start (walk-in world-rows b) f t g h (next-steps (z .next)) λ c n a b bs l u v w. k .part _ _ _ _ u (j .part _ _ _ _ v w)
 
     rule-part : (w : Bench text classes offsets lengths d) → Few (w .file) → (r : Rule) → Begins (w .tokens) at WHEN rule-after r
         → Part-of (flatMap (clause-name-faults (scope-of (w .file) r)) (clauses (r .condition)) ++ flatMap (call-name-faults (scope-of (w .file) r)) (r .calls))

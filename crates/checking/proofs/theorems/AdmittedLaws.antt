@@ -22,7 +22,7 @@ use Rattle.checking.proofs.laws.AcceptedLaws.{accepted-faultless, accep
 
 faultless-accepted : (f : File) → Faultless f → file-verdict f ≡ accepted f
 unfolding file-verdict refused-by
-faultless-accepted f h = rw (none-earliest (h .counts), none-earliest (h .names), none-earliest (h .kinds))
+faultless-accepted f h = rw (none-earliest (h .priorities), none-earliest (h .counts), none-earliest (h .names), none-earliest (h .kinds))
 
 pub accepted-admitted : (text : List ℕ) (f : File) → verdict text ≡ accepted f → Admitted text
 accepted-admitted text f h =

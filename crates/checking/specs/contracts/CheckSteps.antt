@@ -24,9 +24,9 @@ concluded n (found.Fault code at) = Refused code at
 pub record Refuses (code p : ℕ) (r : Checked) : Type 0 where
   pub is : p ≤ MOST-BYTES → r ≡ Refused code p
 
--- the answer r for all columns with these classes, offsets and lengths that `read` left with the answer s
-pub record Settles (text cs os ls d e : List ℕ) (s : Syntax) (r : Checked) : Type 0 where
-  pub told : (vs : List ℕ) (t : Token-columns) → Reads-text text t (columns-of cs os ls vs) s → DIRECTORY ≤ length d → length e ≡ length d
+-- the answer r for columns that `read` left with the answer s
+pub record Settles (text cs os ls vs d e : List ℕ) (s : Syntax) (r : Checked) : Type 0 where
+  pub told : (t : Token-columns) → Reads-text text t (columns-of cs os ls vs) s → DIRECTORY ≤ length d → length e ≡ length d
       → Checks text t (columns-of cs os ls vs) d e r
 
 -- the name of entity number n, by the answer of a check that had room

@@ -1,4 +1,4 @@
--- What the check of a text into columns and a directory answers: document 01's 11 to 18, or an accepted file that they stand for.
+-- What the check of a text into columns and a directory answers: document 01's 11 to 18 and document 02's 44, or an accepted file that they stand for.
 use Prim.Native.Nat.{ℕ, _≤_}
 use mathlib.Core.Path.{_≡_}
 use mathlib.Core.List.{List}

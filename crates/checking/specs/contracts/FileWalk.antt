@@ -18,6 +18,7 @@ use Rattle.checking.specs.definitions.KindFaults.{rule-kind-faults, kind
 use Rattle.checking.specs.definitions.Verdict.{accepted, refused-by, file-verdict}
 use Rattle.checking.specs.contracts.Directory.{Columns-of, DIRECTORY, Directory-of, Bench}
 use Rattle.checking.specs.contracts.DirectoryReads.{Few}
+use Rattle.checking.specs.contracts.CheckedBench.{Values-of}
 
 pub record Rules-found (text classes offsets lengths d : List ℕ) (r : Faulted) : Type 0 where
   pub names : (w : Bench text classes offsets lengths d) → Few (w .file) → length (w .file .rules) ≤ MOST-RULES
@@ -37,17 +38,18 @@ or-else none b = b
 or-else (some f) b = some f
 
 -- a grammatical file, its tokens in the columns, and room for its directory
-pub record Columned (text classes offsets lengths d : List ℕ) : Type 0 where
+pub record Columned (text classes offsets lengths values d : List ℕ) : Type 0 where
   pub file : File
   pub tokens : List Token
   pub columns : Columns-of text classes offsets lengths tokens
+  pub valued : Values-of values tokens
   pub reads : file-reader tokens ≡ read file (length tokens)
   pub numbers : length classes ≤ 65535
   pub room : DIRECTORY ≤ length d
 
 -- the fault that a file is refused for, and the directory, which was d and is e: that of the file, if there is no fault
-pub record Judged (text classes offsets lengths d e : List ℕ) (r : Found) : Type 0 where
-  pub verdict : (w : Columned text classes offsets lengths d) → refused-by (found-as r) (accepted (w .file)) ≡ file-verdict (w .file)
-  pub directory : (w : Columned text classes offsets lengths d) → found-as r ≡ none → Directory-of (w .file) (w .tokens) e
-  pub few : (w : Columned text classes offsets lengths d) → found-as r ≡ none → Few (w .file)
-  pub few-rules : (w : Columned text classes offsets lengths d) → found-as r ≡ none → length (w .file .rules) ≤ MOST-RULES
+pub record Judged (text classes offsets lengths values d e : List ℕ) (r : Found) : Type 0 where
+  pub verdict : (w : Columned text classes offsets lengths values d) → refused-by (found-as r) (accepted (w .file)) ≡ file-verdict (w .file)
+  pub directory : (w : Columned text classes offsets lengths values d) → found-as r ≡ none → Directory-of (w .file) (w .tokens) e
+  pub few : (w : Columned text classes offsets lengths values d) → found-as r ≡ none → Few (w .file)
+  pub few-rules : (w : Columned text classes offsets lengths values d) → found-as r ≡ none → length (w .file .rules) ≤ MOST-RULES

@@ -1,4 +1,4 @@
--- Which bench texts document 01 admits, said without the order of refusals: by the grammar's languages, the counts, names and kinds.
+-- Which bench texts the documents admit, said without the order of refusals: by the grammar's languages, the priorities, counts, names and kinds.
 use Prim.Native.Nat.{ℕ, _≤_}
 use mathlib.Core.Path.{_≡_}
 use mathlib.Core.List.{List, []}
@@ -7,13 +7,15 @@ use Rattle.text.specs.definitions.Tokens.{Token, tokens, tokens-of}
 use Rattle.text.specs.definitions.Syntax.{File}
 use Rattle.text.specs.definitions.Language.{Grammatical}
 use Rattle.text.specs.definitions.Parse.{grammatical, parse}
+use Rattle.checking.specs.definitions.PriorityFaults.{priority-faults}
 use Rattle.checking.specs.definitions.CountFaults.{count-faults}
 use Rattle.checking.specs.definitions.NameFaults.{name-faults}
 use Rattle.checking.specs.definitions.KindFaults.{kind-faults}
 use Rattle.checking.specs.definitions.Verdict.{MOST-BYTES}
 
--- no item beyond a count, no fault of names, none of kinds
+-- no priority above 9, no item beyond a count, no fault of names, none of kinds
 pub record Faultless (f : File) : Type 0 where
+  pub priorities : priority-faults f ≡ []
   pub counts : count-faults f ≡ []
   pub names : name-faults f ≡ []
   pub kinds : kind-faults f ≡ []

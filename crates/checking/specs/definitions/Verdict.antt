@@ -1,4 +1,4 @@
--- The verdict on a bench text: 11 to 18 in the order of document 01's table, or acceptance.
+-- The verdict on a bench text: 11 to 18 in the order of document 01's table, with document 02's 44 after 13, or acceptance.
 use Prim.Native.Nat.{ℕ}
 use mathlib.Core.List.{List, [], _∷_}
 use mathlib.Core.Bool.{Bool, true, false}
@@ -10,6 +10,7 @@ use Rattle.text.specs.definitions.Syntax.{Entity, File}
 use Rattle.text.specs.definitions.Parse.{Parse-verdict, grammatical, ungrammatical-at, parse}
 use Rattle.text.specs.definitions.Answers.{refusal-answer}
 use Rattle.checking.specs.definitions.Faults.{Fault, earliest}
+use Rattle.checking.specs.definitions.PriorityFaults.{priority-faults}
 use Rattle.checking.specs.definitions.CountFaults.{count-faults}
 use Rattle.checking.specs.definitions.NameFaults.{name-faults}
 use Rattle.checking.specs.definitions.KindFaults.{kind-faults}
@@ -22,14 +23,15 @@ unfoldable pub refused-by : Option Fault → Verdict → Verdict
 refused-by none otherwise = otherwise
 refused-by (some f) otherwise = refused-at (f .code) (f .at)
 
--- 14, then 15 to 17, then 18
+-- 44, "after 13 and before 14"; 14, then 15 to 17, then 18
 unfoldable pub file-verdict : File → Verdict
-unfolding refused-by earliest count-faults name-faults kind-faults
+unfolding refused-by earliest priority-faults count-faults name-faults kind-faults
 file-verdict f =
-    refused-by (earliest (count-faults f))
+    refused-by (earliest (priority-faults f))
+    (refused-by (earliest (count-faults f))
     (refused-by (earliest (name-faults f))
     (refused-by (earliest (kind-faults f))
-    (accepted f)))
+    (accepted f))))
 
 -- before these, 13
 unfoldable pub parsing-verdict : Parse-verdict → Verdict

@@ -25,6 +25,7 @@ use Rattle.text.specs.definitions.Syntax.{
   either,
   Call,
   Rule,
+  priority-of,
 }
 use Rattle.checking.specs.definitions.Scope.{clauses}
 use Rattle.cycles.specs.definitions.Store.{Store, Inputs, Stores}
@@ -136,9 +137,9 @@ module _ (S : ℕ → Type 0) (sp : Spots) where
     holds-agree (either a b) i =
         ap₂ _||_ (holds-agree a (λ c j. i c (among-left j (clauses b)))) (holds-agree b (λ c j. i c (among-right (clauses a) j)))
 
-    call-agree : (c : Call) → Names-in S sp (names-in-call c) → call-writes sp now c ≡ call-writes sp now′ c
+    call-agree : (priority : ℕ) (c : Call) → Names-in S sp (names-in-call c) → call-writes sp now priority c ≡ call-writes sp now′ priority c
     unfolding call-writes names-in-call
-    call-agree c i =
+    call-agree priority c i =
         let p = sp (c .target .name .bytes) (c .action .bytes) in
         let j : (m : List ℕ) → Spot-in S (sp (c .target .name .bytes) m) = i (c .target .name) here in
         rw (
@@ -152,5 +153,5 @@ module _ (S : ℕ → Type 0) (sp : Spots) where
     binding-writes-agree r i =
         ap₂ writes-if
         (holds-agree (r .condition) (λ c a n b. i n (among-left (among-flatMap names-in-clause a n b) (flatMap names-in-call (r .calls)))))
-        (flatMap-same (call-writes sp now) (call-writes sp now′) (r .calls)
-        (λ c a. call-agree c (λ n b. i n (among-right (flatMap names-in-clause (clauses (r .condition))) (among-flatMap names-in-call a n b)))))
+        (flatMap-same (call-writes sp now (priority-of r)) (call-writes sp now′ (priority-of r)) (r .calls)
+        (λ c a. call-agree (priority-of r) c (λ n b. i n (among-right (flatMap names-in-clause (clauses (r .condition))) (among-flatMap names-in-call a n b)))))

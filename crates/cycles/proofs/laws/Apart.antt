@@ -1,18 +1,19 @@
 -- Two runs of the total machine on a closed set of entities: what the others read never reaches the set.
 use Prim.Native.Nat.{ℕ}
-use mathlib.Core.Path.{_≡_, refl, sym, ap, _∙_}
+use mathlib.Core.Path.{_≡_, refl, sym, ap, ap₂, _∙_}
 use mathlib.Core.Bool.{Bool, true, false, _&&_, and-false}
-use mathlib.Core.List.{List, [], _∷_, _++_, flatMap}
+use mathlib.Core.List.{List, [], _∷_, flatMap}
 use mathlib.Core.Option.{Option, none, some}
 use mathlib.Core.Logic.{_⊎_, inl, inr}
 use lib.Dec.{T, eqb}
 use borrow.Author.Tests.{ne-eqb}
 use Rattle.values.specs.definitions.Bytes.{same-bytes}
 use Rattle.values.specs.declared.Value.{Value}
-use Rattle.values.specs.declared.Value.the-variants.{Unset}
 use Rattle.values.specs.definitions.Value.{is-set}
-use Rattle.text.specs.definitions.Syntax.{Call, Rule, File}
+use Rattle.text.specs.definitions.Syntax.{Call, Rule, File, priority-of}
 use Rattle.checking.specs.definitions.Scope.{Variable, variables}
+use Rattle.writes.specs.definitions.Writes.{Write, is-to, standing}
+use Rattle.writes.proofs.laws.StandingLaws.{strongest, standing-append}
 use Rattle.cycles.specs.definitions.Store.{Store, Inputs, Stores}
 use Rattle.cycles.specs.definitions.Spots.{Spot, spots, numbered}
 use Rattle.cycles.specs.contracts.TotalMachine.{
@@ -24,10 +25,10 @@ use Rattle.cycles.specs.contracts.TotalMachine.{
   writes-if,
   binding-writes,
 }
-use Rattle.cycles.specs.definitions.Reference.{Write, written-if}
+use Rattle.cycles.specs.definitions.Reference.{written-if}
 use Rattle.cycles.specs.definitions.Bindings.{number-if, candidates, bindings}
 use Rattle.cycles.specs.contracts.TotalMachine.{rule-writes, all-writes}
-use Rattle.cycles.specs.definitions.Cycle.{seen, after-writes}
+use Rattle.cycles.specs.definitions.Cycle.{seen}
 use Rattle.cycles.specs.contracts.TotalMachine.{cycle}
 use Rattle.cycles.specs.definitions.ClosedSet.{Among, here, there, is-of, can-be, Reads-inside, Closed}
 use Rattle.cycles.proofs.laws.AmongLaws.{All-in, all-in-cons, one-passes-or-none, numbered-at, all-in-flatMap, flatMap-same}
@@ -71,18 +72,19 @@ module _ (f : File) (S : ℕ → Type 0) (now previous now′ previous′ : Stor
 abbrev Misses : ℕ → List Write → Type 0
 Misses e ws = All-in ws (λ w. eqb (w .entity) e ≡ false)
 
--- so its cells stay
-missed-stays : (e m : ℕ) (ws : List Write) → Misses e ws → (v : Value) → after-writes ws e m v ≡ v
-unfolding after-writes
-missed-stays e m [] h v = refl
-missed-stays e m (w ∷ ws) h v = rw (h w here) (missed-stays e m ws (λ x a. h x (there a)) v)
+-- so none stands in a cell of it
+missed-none : (e m : ℕ) (ws : List Write) → Misses e ws → standing e m ws ≡ none
+unfolding standing is-to
+missed-none e m [] h = refl
+missed-none e m (w ∷ ws) h = rw (h w here) (missed-none e m ws (λ x a. h x (there a)))
 
-written-if-in : (P : ℕ → Type 0) (b : Bool) (o : Option Spot) (v : Value) → Spot-in P o → All-in (written-if b o v) (λ w. P (w .entity))
+written-if-in : (P : ℕ → Type 0) (b : Bool) (o : Option Spot) (priority : ℕ) (v : Value) → Spot-in P o
+    → All-in (written-if b o priority v) (λ w. P (w .entity))
 unfolding written-if
-written-if-in P false o v h = λ w a. elim a [ ]
-written-if-in P true none v h = λ w a. elim a [ ]
-written-if-in P true (some p) v h =
-    all-in-cons (record { entity = p .entity; member = p .member; value = v }) [] (λ w. P (w .entity)) h (λ w a. elim a [ ])
+written-if-in P false o priority v h = λ w a. elim a [ ]
+written-if-in P true none priority v h = λ w a. elim a [ ]
+written-if-in P true (some p) priority v h =
+    all-in-cons (record { entity = p .entity; member = p .member; priority = priority; value = v }) [] (λ w. P (w .entity)) h (λ w a. elim a [ ])
 
 writes-if-in : (P : Write → Type 0) (b : Bool) (ws : List Write) → All-in ws P → All-in (writes-if b ws) P
 unfolding writes-if
@@ -90,14 +92,14 @@ writes-if-in P true ws h = h
 writes-if-in P false ws h = λ w a. elim a [ ]
 
 -- a call whose target cannot be the entity
-call-misses : (f : File) (vs : List Variable) (b : List ℕ) → Binds f vs b → (now : Store) (e : ℕ) (c : Call)
-    → can-be f vs (c .target .name .bytes) e ≡ false → Misses e (call-writes (spots f vs b) now c)
+call-misses : (f : File) (vs : List Variable) (b : List ℕ) → Binds f vs b → (now : Store) (e priority : ℕ) (c : Call)
+    → can-be f vs (c .target .name .bytes) e ≡ false → Misses e (call-writes (spots f vs b) now priority c)
 unfolding call-writes
-call-misses f vs b binds now e c h =
+call-misses f vs b binds now e priority c h =
     let sp = spots f vs b in
     let p = sp (c .target .name .bytes) (c .action .bytes) in
     let v = value sp now (c .parameter) in
-    written-if-in (λ n. eqb n e ≡ false) (is-present-at now p && (filter-holds sp now (c .target) (c .filter) && is-set v)) p v
+    written-if-in (λ n. eqb n e ≡ false) (is-present-at now p && (filter-holds sp now (c .target) (c .filter) && is-set v)) p priority v
     (spots-in f vs b (c .target .name .bytes) (c .action .bytes) (λ n. eqb n e ≡ false)
     (λ n q. ne-eqb n e (λ same. rw h at (rw same at (meant-can-be f vs b binds (c .target .name .bytes) n q)))))
 
@@ -108,45 +110,38 @@ unfolding rule-writes binding-writes
 rule-misses f now previous r e h =
     all-in-flatMap (λ b. binding-writes (spots f (variables r) b) now previous r) (bindings f now (variables r)) (λ w. eqb (w .entity) e ≡ false)
     (λ b i. writes-if-in (λ w. eqb (w .entity) e ≡ false) (holds (spots f (variables r) b) now previous (r .condition))
-    (flatMap (call-writes (spots f (variables r) b) now) (r .calls))
-    (all-in-flatMap (call-writes (spots f (variables r) b) now) (r .calls) (λ w. eqb (w .entity) e ≡ false)
-    (λ c a. call-misses f (variables r) b (bindings-bind f now (variables r) b i) now e c (h c a))))
+    (flatMap (call-writes (spots f (variables r) b) now (priority-of r)) (r .calls))
+    (all-in-flatMap (call-writes (spots f (variables r) b) now (priority-of r)) (r .calls) (λ w. eqb (w .entity) e ≡ false)
+    (λ c a. call-misses f (variables r) b (bindings-bind f now (variables r) b i) now e (priority-of r) c (h c a))))
 
-after-append : (xs ys : List Write) (e m : ℕ) (v : Value) → after-writes (xs ++ ys) e m v ≡ after-writes ys e m (after-writes xs e m v)
-unfolding after-writes
-after-append [] ys e m v = refl
-after-append (x ∷ xs) ys e m v = after-append xs ys e m _
-
--- lists of writes of which each part leaves the same in a cell
-after-flatMap : {A : Type 0} (g h : A → List Write) (e m : ℕ) (xs : List A)
-    → All-in xs (λ x. (v : Value) → after-writes (g x) e m v ≡ after-writes (h x) e m v)
-    → (v : Value) → after-writes (flatMap g xs) e m v ≡ after-writes (flatMap h xs) e m v
+-- lists of writes of which in each part the same write stands in a cell
+standing-flatMap : {A : Type 0} (g h : A → List Write) (e m : ℕ) (xs : List A) → All-in xs (λ x. standing e m (g x) ≡ standing e m (h x))
+    → standing e m (flatMap g xs) ≡ standing e m (flatMap h xs)
 unfolding flatMap
-after-flatMap g h e m [] p v = refl
-after-flatMap g h e m (x ∷ xs) p v =
-    after-append (g x) (flatMap g xs) e m v
-    ∙ after-flatMap g h e m xs (λ y a. p y (there a)) (after-writes (g x) e m v)
-    ∙ ap (after-writes (flatMap h xs) e m) (p x here v)
-    ∙ sym (after-append (h x) (flatMap h xs) e m v)
+standing-flatMap g h e m [] p = refl
+standing-flatMap g h e m (x ∷ xs) p =
+    standing-append e m (g x) (flatMap g xs)
+    ∙ ap₂ strongest (p x here) (standing-flatMap g h e m xs (λ y a. p y (there a)))
+    ∙ sym (standing-append e m (h x) (flatMap h xs))
 
 module _ (f : File) (S : ℕ → Type 0) (closed : Closed f S) where
-  -- the cells of the set's entities after the writes of all rules
+  -- of the writes of all rules the same stand in the cells of the set's entities
   writes-agree : (now previous now′ previous′ : Store) → Stores-agree S now now′ → Stores-agree S previous previous′
-      → (e m : ℕ) → S e → (v : Value) → after-writes (all-writes f now previous) e m v ≡ after-writes (all-writes f now′ previous′) e m v
+      → (e m : ℕ) → S e → standing e m (all-writes f now previous) ≡ standing e m (all-writes f now′ previous′)
   unfolding all-writes
   writes-agree now previous now′ previous′ g h e m i =
-      after-flatMap (rule-writes f now previous) (rule-writes f now′ previous′) e m (f .rules)
+      standing-flatMap (rule-writes f now previous) (rule-writes f now′ previous′) e m (f .rules)
       (λ r a. one-rule r a (one-passes-or-none (λ c. can-be f (variables r) (c .target .name .bytes) e) (r .calls)))
     where
       one-rule : (r : Rule) → Among r (f .rules)
           → ((c : Call) × Among c (r .calls) × T (can-be f (variables r) (c .target .name .bytes) e))
           ⊎ All-in (r .calls) (λ c. can-be f (variables r) (c .target .name .bytes) e ≡ false)
-          → (v : Value) → after-writes (rule-writes f now previous r) e m v ≡ after-writes (rule-writes f now′ previous′ r) e m v
-      one-rule r a (inl (c, b, t)) v =
-          ap (λ ws. after-writes ws e m v) (rule-writes-agree f S now previous now′ previous′ g h r (closed .rules r c e a b i t))
-      one-rule r a (inr p) v =
-          missed-stays e m (rule-writes f now previous r) (rule-misses f now previous r e p) v
-          ∙ sym (missed-stays e m (rule-writes f now′ previous′ r) (rule-misses f now′ previous′ r e p) v)
+          → standing e m (rule-writes f now previous r) ≡ standing e m (rule-writes f now′ previous′ r)
+      one-rule r a (inl (c, b, t)) =
+          ap (standing e m) (rule-writes-agree f S now previous now′ previous′ g h r (closed .rules r c e a b i t))
+      one-rule r a (inr p) =
+          missed-none e m (rule-writes f now previous r) (rule-misses f now previous r e p)
+          ∙ sym (missed-none e m (rule-writes f now′ previous′ r) (rule-misses f now′ previous′ r e p))
 
   seen-agree : (s t : Store) (i j : Inputs) → Stores-agree S s t → Inputs-agree S i j → Stores-agree S (seen f s i) (seen f t j)
   unfolding seen
@@ -164,7 +159,7 @@ module _ (f : File) (S : ℕ → Type 0) (closed : Closed f S) where
         now = record {
           presence = n .presence;
           cells = λ e m p. rw (
-            writes-agree (seen f (s .now) i) (s .previous) (seen f (t .now) j) (t .previous) n (g .previous) e m p Unset,
+            writes-agree (seen f (s .now) i) (s .previous) (seen f (t .now) j) (t .previous) n (g .previous) e m p,
             n .cells e m p,
           );
         };

@@ -37,16 +37,18 @@ use Rattle.text.specs.definitions.Syntax.{
   Call,
   Rule,
   File,
+  priority-of,
 }
 use Rattle.text.proofs.laws.ListLaws.{some-injective, none-some, All, all-none, all-cons}
 use Rattle.text.proofs.laws.LiteralLaws.{literal-storable}
 use Rattle.checking.specs.definitions.Scope.{clauses, member-of, Scope, is-action, is-event}
 use Rattle.checking.specs.definitions.KindFaults.{kind-of}
 use Rattle.checking.proofs.laws.CheckedExpressions.{Known-equation, Known-filter, Known-test, Known-clause, Known-call}
+use Rattle.writes.specs.definitions.Writes.{Write}
 use Rattle.cycles.specs.definitions.Outcome.{Outcome, running, proceed}
 use Rattle.cycles.specs.definitions.Store.{Store}
 use Rattle.cycles.specs.definitions.Spots.{Spot, Spots}
-use Rattle.cycles.specs.definitions.Reference.{read-spot, Write, written-if}
+use Rattle.cycles.specs.definitions.Reference.{read-spot, written-if}
 use Rattle.cycles.specs.contracts.TotalMachine.{
   value-at,
   value,
@@ -175,10 +177,11 @@ module _ (f : File) (s : Scope) (sp : Spots) (resolves : Resolves f s sp) (st : 
 abbrev pub Sound-write : File → Write → Type 0
 Sound-write f w = (x : Member) × (member-of f (w .entity) (w .member) ≡ some x) × T (storable (x .kind) (w .value))
 
-written-sound : (f : File) (b : Bool) (p : Spot) (v : Value) → Stands f p → T (storable (p .what .kind) v) → All (Sound-write f) (written-if b (some p) v)
+written-sound : (f : File) (b : Bool) (p : Spot) (priority : ℕ) (v : Value) → Stands f p → T (storable (p .what .kind) v)
+    → All (Sound-write f) (written-if b (some p) priority v)
 unfolding written-if
-written-sound f true p v q h = all-cons (Sound-write f) (p .what, q, h) (all-none (Sound-write f))
-written-sound f false p v q h = all-none (Sound-write f)
+written-sound f true p priority v q h = all-cons (Sound-write f) (p .what, q, h) (all-none (Sound-write f))
+written-sound f false p priority v q h = all-none (Sound-write f)
 
 -- ---- a rule at one binding
 
@@ -224,9 +227,10 @@ module _ (f : File) (s : Scope) (sp : Spots) (resolves : Resolves f s sp) (now p
         condition-runs b (λ c m. h c (Memᴰ·append-right (clauses a) m)),
       )
 
-  call-runs : (c : Call) → Known-call s c → (ref-call sp now c ≡ running (call-writes sp now c)) × All (Sound-write f) (call-writes sp now c)
+  call-runs : (priority : ℕ) (c : Call) → Known-call s c
+      → (ref-call sp now priority c ≡ running (call-writes sp now priority c)) × All (Sound-write f) (call-writes sp now priority c)
   unfolding ref-call call-writes
-  call-runs c h =
+  call-runs priority c h =
       let k = h .parameter .cell in
       let (x, i, q) = resolves .resolve (c .target .name .bytes) (c .action .bytes) (k .interface) (k .found) (k .of-interface) (k .named) in
       let v = value sp now (c .parameter) in
@@ -238,7 +242,7 @@ module _ (f : File) (s : Scope) (sp : Spots) (resolves : Resolves f s sp) (now p
           is-true (of-kind (k .found .item .kind) v) (storable-of-kind (k .found .item .kind) v (r .fits)),
           filter-runs f s sp resolves now sound (c .target) (c .filter) (h .filter),
         ),
-        rw i (written-sound f (now .present x && (filter-holds sp now (c .target) (c .filter) && is-set v)) (found-spot x (k .found)) v q (r .fits)),
+        rw i (written-sound f (now .present x && (filter-holds sp now (c .target) (c .filter) && is-set v)) (found-spot x (k .found)) priority v q (r .fits)),
       )
 
   pub binding-runs : (r : Rule) → All (Known-clause s) (clauses (r .condition)) → All (Known-call s) (r .calls)
@@ -246,7 +250,9 @@ module _ (f : File) (s : Scope) (sp : Spots) (resolves : Resolves f s sp) (now p
   unfolding ref-binding-writes binding-writes
   binding-runs r h g = let w = by-condition (holds sp now previous (r .condition)) in (rw (condition-runs (r .condition) h) (w .0), w .1)
     where
-      by-condition : (b : Bool) → (ref-writes-if b sp now (r .calls) ≡ running (writes-if b (flatMap (call-writes sp now) (r .calls))))
-          × All (Sound-write f) (writes-if b (flatMap (call-writes sp now) (r .calls)))
-      by-condition true = collected-runs (ref-call sp now) (call-writes sp now) (Sound-write f) (r .calls) (λ c m. call-runs c (g c m))
+      by-condition : (b : Bool) → (ref-writes-if b sp now (priority-of r) (r .calls) ≡ running (writes-if b (flatMap (call-writes sp now (priority-of r)) (r .calls))))
+          × All (Sound-write f) (writes-if b (flatMap (call-writes sp now (priority-of r)) (r .calls)))
+      by-condition true =
+          collected-runs (ref-call sp now (priority-of r)) (call-writes sp now (priority-of r)) (Sound-write f) (r .calls)
+          (λ c m. call-runs (priority-of r) c (g c m))
       by-condition false = (refl, all-none (Sound-write f))

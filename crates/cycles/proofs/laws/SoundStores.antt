@@ -3,7 +3,7 @@ use Prim.Native.Nat.{ℕ}
 use native.Mathlib.Omega.{arith}
 use mathlib.Core.Path.{_≡_, refl, sym, ap, ap₂, _∙_}
 use mathlib.Core.Bool.{Bool, true, false, not, _&&_, cond}
-use mathlib.Core.List.{List, [], _∷_, List·Memᴰ·head, List·Memᴰ·tail}
+use mathlib.Core.List.{List}
 use mathlib.Core.Option.{Option, none, some, Option·getD}
 use lib.Dec.{T, eqb, eqb→eq}
 use lib.Ieee.Fits.{and-l, and-r}
@@ -14,9 +14,10 @@ use Rattle.values.proofs.laws.StorableLaws.{unset-storable}
 use Rattle.text.specs.definitions.Syntax.{Sort, attribute, event, Member, File}
 use Rattle.text.proofs.laws.ListLaws.{some-injective, none-some, All}
 use Rattle.checking.specs.definitions.Scope.{member-of, is-attribute, is-action}
+use Rattle.writes.specs.definitions.Writes.{Write, is-to, standing, written-value}
+use Rattle.writes.proofs.laws.StandingLaws.{Holds, standing-holds}
 use Rattle.cycles.specs.definitions.Store.{Store, Inputs}
-use Rattle.cycles.specs.definitions.Reference.{Write}
-use Rattle.cycles.specs.definitions.Cycle.{is-sort, leaves, seen, after-writes, stored}
+use Rattle.cycles.specs.definitions.Cycle.{is-sort, leaves, seen, stored}
 use Rattle.cycles.specs.definitions.SoundStores.{Sound-store, Sound-inputs}
 use Rattle.cycles.proofs.laws.SoundEvaluation.{Sound-write}
 
@@ -73,23 +74,25 @@ module _ (f : File) (s : Store) (i : Inputs) (sound : Sound-store f s) (taken : 
 -- ---- writes
 
 module _ (f : File) (e m : ℕ) (x : Member) (q : member-of f e m ≡ some x) where
-  written-storable : (w : Write) → Sound-write f w → (v : Value) → T (storable (x .kind) v) → (b : Bool) → (T b → (w .entity ≡ e) × (w .member ≡ m))
-      → T (storable (x .kind) (cond b (w .value) v))
-  written-storable w (y, p, h) v g true k =
-      let (a, c) = k tt in
-      let z : y ≡ x = some-injective (sym p ∙ ap₂ (member-of f) a c ∙ q) in
-      rw z at h
-  written-storable w h v g false k = g
+  abbrev Fits : Write → Type 0
+  Fits w = T (storable (x .kind) (w .value))
 
-  after-storable : (ws : List Write) → All (Sound-write f) ws → (v : Value) → T (storable (x .kind) v) → T (storable (x .kind) (after-writes ws e m v))
-  unfolding after-writes
-  after-storable [] h v g = g
-  after-storable (w ∷ ws) h v g =
-      after-storable ws (λ u n. h u (List·Memᴰ·tail n)) _
-      (written-storable w (h w (List·Memᴰ·head refl)) v g (eqb (w .entity) e && eqb (w .member) m) λ t. (
-        eqb→eq (w .entity) e (and-l (eqb (w .entity) e) (eqb (w .member) m) t),
-        eqb→eq (w .member) m (and-r (eqb (w .entity) e) (eqb (w .member) m) t),
-      ))
+  -- a write to the cell is of the cell's kind
+  write-fits : (w : Write) → Sound-write f w → T (is-to e m w) → Fits w
+  unfolding is-to
+  write-fits w (y, p, h) t =
+      let a = eqb→eq (w .entity) e (and-l (eqb (w .entity) e) (eqb (w .member) m) t) in
+      let b = eqb→eq (w .member) m (and-r (eqb (w .entity) e) (eqb (w .member) m) t) in
+      let z : y ≡ x = some-injective (sym p ∙ ap₂ (member-of f) a b ∙ q) in
+      rw z at h
+
+  held-storable : (o : Option Write) → Holds Fits o → T (storable (x .kind) (written-value o))
+  unfolding written-value
+  held-storable none h = unset-storable (x .kind)
+  held-storable (some w) h = h
+
+  written-storable : (ws : List Write) → All (Sound-write f) ws → T (storable (x .kind) (written-value (standing e m ws)))
+  written-storable ws h = held-storable (standing e m ws) (standing-holds Fits e m ws (λ w n. write-fits w (h w n)))
 
 module _ (f : File) (s : Store) (ws : List Write) where
   pub stored-sound : Sound-store f s → All (Sound-write f) ws → Sound-store f (stored f s ws)
@@ -100,13 +103,13 @@ module _ (f : File) (s : Store) (ws : List Write) where
     no-entity = sound .no-entity;
   }
     where
-      by-sort : (e m : ℕ) (x : Member) → member-of f e m ≡ some x → (b : Bool) → T (storable (x .kind) (cond b (after-writes ws e m Unset) (s .cell e m)))
-      by-sort e m x q true = after-storable f e m x q ws h Unset (unset-storable (x .kind))
+      by-sort : (e m : ℕ) (x : Member) → member-of f e m ≡ some x → (b : Bool) → T (storable (x .kind) (cond b (written-value (standing e m ws)) (s .cell e m)))
+      by-sort e m x q true = written-storable f e m x q ws h
       by-sort e m x q false = sound .of-kind e m x q
 
   pub stored-attribute : (e m : ℕ) (x : Member) → member-of f e m ≡ some x → T (is-attribute (x .sort)) → stored f s ws .cell e m ≡ s .cell e m
   unfolding stored is-attribute
   stored-attribute e m x q t = rw q (by-sort (x .sort) t)
     where
-      by-sort : (y : Sort) → T (is-attribute y) → cond (is-action y) (after-writes ws e m Unset) (s .cell e m) ≡ s .cell e m
+      by-sort : (y : Sort) → T (is-attribute y) → cond (is-action y) (written-value (standing e m ws)) (s .cell e m) ≡ s .cell e m
       by-sort attribute t = refl

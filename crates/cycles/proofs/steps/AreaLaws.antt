@@ -1,58 +1,81 @@
--- Memory of cells after writes, one after another: the last write to a cell stands.
+-- Memory of pending cells after writes, one after another: each cell has what stands there of the writes.
 use Prim.Native.Nat.{ℕ, _+_, _*_, _≤_, _<_}
 use native.Mathlib.Omega.{arith}
 use mathlib.Core.Path.{_≡_, refl, sym, ap, ap₂, _∙_, subst}
 use mathlib.Core.Bool.{Bool, true, false, cond, _&&_}
 use mathlib.Core.List.{List, [], _∷_, List·Memᴰ·head, List·Memᴰ·tail}
+use mathlib.Core.Option.{Option, none, some}
 use lib.Dec.{ltb, eqb}
 use lib.ListN.{length, replicate, getD-replicate}
 use borrow.Author.Tests.{ltb-true, ltb-false, eqb-true, eqb-false}
 use Rattle.values.specs.declared.Value.the-variants.{Unset}
 use Rattle.values.specs.definitions.Bytes.{word-at}
-use Rattle.values.specs.definitions.Cells.{unpacked, cell-at, with-cell}
-use Rattle.values.proofs.laws.CellLaws.{length-with-cell, cell-same, cell-other}
+use Rattle.values.specs.definitions.Cells.{unpacked, cell-at}
 use Rattle.text.specs.definitions.Syntax.{File}
 use Rattle.text.proofs.laws.ListLaws.{none-some, All}
+use Rattle.writes.specs.definitions.Writes.{Write, is-to, standing, written-value}
+use Rattle.writes.specs.contracts.Pending.{stamp-of, pended}
+use Rattle.writes.proofs.laws.StandingLaws.{strongest, strongest-none, strongest-chain, standing-cons}
+use Rattle.writes.proofs.laws.PendingLaws.{length-pended, Has, pended-same, pended-other}
 use Rattle.checking.proofs.laws.WithinCounts.{Within-counts}
-use Rattle.cycles.specs.definitions.Reference.{Write}
-use Rattle.cycles.specs.definitions.Cycle.{after-writes}
 use Rattle.cycles.specs.contracts.Evaluation.{puts}
-use Rattle.cycles.proofs.laws.CellNumbers.{no-member-no-cell}
+use Rattle.cycles.proofs.laws.CellNumbers.{no-entity-no-cell, no-member-no-cell}
 use Rattle.cycles.proofs.laws.SoundEvaluation.{Sound-write}
 
--- bytes of 0 are unset cells
-pub zeros-unset : (n i : ℕ) → i * 9 < n → cell-at (replicate n 0) i ≡ Unset
+-- in bytes of 0 nothing stands: the cells are unset, and their stamps are 0
+zeros-unset : (n i : ℕ) → i * 9 < n → cell-at (replicate n 0) i ≡ Unset
 unfolding unpacked
 zeros-unset n i h = ap (λ (t : ℕ). unpacked t (word-at 8 (replicate n 0) (i * 9 + 1))) (getD-replicate n (i * 9) 0 0 h)
 
--- a sound write is to one of the 12 cells of an entity
-write-small : (f : File) → Within-counts f → (w : Write) → Sound-write f w → w .member < 12
-write-small f h w (x, p, s) = go (ltb (w .member) 12) refl
-  where
-    go : (b : Bool) → ltb (w .member) 12 ≡ b → w .member < 12
-    go true e = ltb-true (w .member) 12 e
-    go false e = absurd (none-some (sym (no-member-no-cell f (w .entity) (w .member) h (ltb-false (w .member) 12 e)) ∙ p))
+pub zeros-have : (stamps n i : ℕ) → i * 9 < n → stamps + i < n → Has stamps (replicate n 0) i none
+unfolding written-value stamp-of
+zeros-have stamps n i h g = record { value = zeros-unset n i h; stamp = getD-replicate n (stamps + i) 0 0 g }
 
-module _ (f : File) (h : Within-counts f) (e m : ℕ) (l : m < 12) where
-  written-there : (w : Write) → Sound-write f w → (area : List ℕ) → (e * 12 + m) * 9 + 9 ≤ length area
-      → cell-at (with-cell area (w .entity * 12 + w .member) (w .value)) (e * 12 + m)
-      ≡ cond (eqb (w .entity) e && eqb (w .member) m) (w .value) (cell-at area (e * 12 + m))
-  written-there w s area r = go (eqb (w .entity) e) refl (eqb (w .member) m) refl (write-small f h w s)
+-- a sound write is to one of the 12 cells of one of 32 entities
+module _ (f : File) (h : Within-counts f) (w : Write) (s : Sound-write f w) where
+  write-member : w .member < 12
+  write-member = go (ltb (w .member) 12) refl
     where
-      go : (a : Bool) → eqb (w .entity) e ≡ a → (b : Bool) → eqb (w .member) m ≡ b → w .member < 12
-          → cell-at (with-cell area (w .entity * 12 + w .member) (w .value)) (e * 12 + m) ≡ cond (a && b) (w .value) (cell-at area (e * 12 + m))
-      go true p true q k =
-          ap₂ (λ (i j : ℕ). cell-at (with-cell area (i * 12 + j) (w .value)) (e * 12 + m)) (eqb-true (w .entity) e p) (eqb-true (w .member) m q)
-          ∙ cell-same (s .0 .kind) area (e * 12 + m) (w .value) r (s .2)
-      go true p false q k = cell-other area (w .entity * 12 + w .member) (e * 12 + m) (w .value) (λ z. eqb-false (w .member) m q (omega arith))
-      go false p b q k = cell-other area (w .entity * 12 + w .member) (e * 12 + m) (w .value) (λ z. eqb-false (w .entity) e p (omega arith))
+      go : (b : Bool) → ltb (w .member) 12 ≡ b → w .member < 12
+      go true e = ltb-true (w .member) 12 e
+      go false e = absurd (none-some (sym (no-member-no-cell f (w .entity) (w .member) h (ltb-false (w .member) 12 e)) ∙ s .1))
 
-  pub after-puts : (ws : List Write) → All (Sound-write f) ws → (area : List ℕ) → (e * 12 + m) * 9 + 9 ≤ length area
-      → cell-at (puts area ws) (e * 12 + m) ≡ after-writes ws e m (cell-at area (e * 12 + m))
-  unfolding puts after-writes
-  after-puts [] a area r = refl
-  after-puts (w ∷ ws) a area r =
-      let k = w .entity * 12 + w .member in
-      after-puts ws (λ u n. a u (List·Memᴰ·tail n)) (with-cell area k (w .value))
-      (subst (λ (n : ℕ). (e * 12 + m) * 9 + 9 ≤ n) (sym (length-with-cell area k (w .value))) r)
-      ∙ ap (after-writes ws e m) (written-there w (a w (List·Memᴰ·head refl)) area r)
+  write-entity : w .entity < 32
+  write-entity = go (ltb (w .entity) (length (f .entities))) refl
+    where
+      go : (b : Bool) → ltb (w .entity) (length (f .entities)) ≡ b → w .entity < 32
+      go true e = omega (arith, ltb-true (w .entity) (length (f .entities)) e, h .entities)
+      go false e = absurd (none-some (sym (no-entity-no-cell f (w .entity) (w .member) (ltb-false (w .entity) (length (f .entities)) e)) ∙ s .1))
+
+module _ (f : File) (h : Within-counts f) (e m : ℕ) (few : e < 32) (l : m < 12) where
+  -- one write: to this cell or to another
+  put-has : (w : Write) → Sound-write f w → (area : List ℕ) → 3840 ≤ length area → (o : Option Write) → Has 3456 area (e * 12 + m) o
+      → Has 3456 (pended 3456 area (w .entity * 12 + w .member) (w .priority) (w .value)) (e * 12 + m) (strongest o (standing e m (w ∷ [])))
+  unfolding standing is-to
+  put-has w s area r o p = go (eqb (w .entity) e) refl (eqb (w .member) m) refl (write-entity f h w s) (write-member f h w s)
+    where
+      go : (a : Bool) → eqb (w .entity) e ≡ a → (b : Bool) → eqb (w .member) m ≡ b → w .entity < 32 → w .member < 12
+          → Has 3456 (pended 3456 area (w .entity * 12 + w .member) (w .priority) (w .value)) (e * 12 + m) (strongest o (cond (a && b) (some w) none))
+      go true i true j k n =
+          let z : w .entity * 12 + w .member ≡ e * 12 + m = ap₂ (λ (x y : ℕ). x * 12 + y) (eqb-true (w .entity) e i) (eqb-true (w .member) m j) in
+          rw z (pended-same 3456 area (e * 12 + m) (omega arith) (omega arith) w o p (s .0 .kind) (s .2))
+      go true i false j k n =
+          rw (strongest-none o)
+          (pended-other 3456 area (w .entity * 12 + w .member) (w .priority) (w .value) p (omega arith) (omega arith)
+          (λ z. eqb-false (w .member) m j (omega arith)))
+      go false i b j k n =
+          rw (strongest-none o)
+          (pended-other 3456 area (w .entity * 12 + w .member) (w .priority) (w .value) p (omega arith) (omega arith)
+          (λ z. eqb-false (w .entity) e i (omega arith)))
+
+  pub after-puts : (ws : List Write) → All (Sound-write f) ws → (area : List ℕ) → 3840 ≤ length area → (o : Option Write) → Has 3456 area (e * 12 + m) o
+      → Has 3456 (puts area ws) (e * 12 + m) (strongest o (standing e m ws))
+  unfolding puts standing
+  after-puts [] a area r o p = rw (strongest-none o) p
+  after-puts (w ∷ ws) a area r o p =
+      let next = pended 3456 area (w .entity * 12 + w .member) (w .priority) (w .value) in
+      subst (Has 3456 (puts next ws) (e * 12 + m))
+      (strongest-chain o (standing e m (w ∷ [])) (standing e m ws) ∙ ap (strongest o) (sym (standing-cons e m w ws)))
+      (after-puts ws (λ u n. a u (List·Memᴰ·tail n)) next
+      (subst (λ (n : ℕ). 3840 ≤ n) (sym (length-pended 3456 area (w .entity * 12 + w .member) (w .priority) (w .value))) r)
+      (strongest o (standing e m (w ∷ []))) (put-has w (a w (List·Memᴰ·head refl)) area r o p))

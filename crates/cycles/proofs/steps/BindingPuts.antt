@@ -33,6 +33,7 @@ use Rattle.cycles.proofs.steps.BindingWrites.{
   writes-after,
   writes-from,
   few,
+  prioritized,
   variable-count,
   entity-count,
   face-below,
@@ -232,7 +233,7 @@ module _ {classes values d refs scopes flags cells previous-flags previous-cells
           let s : length (c .entities) ≡ length (variables (c .rule)) = omega (arith, c .size, c .most) in
           rule-puts-binding values (c .given .checked .bench) (c .given .checked .few) (c .given .checked .valued) (c .given .references)
           (c .given .checked .bench .directory .rule k (c .rule) (c .stands)) (c .entities) (c .binds) s (few c) b (c .gives)
-          (c .given .now-stored) (c .given .previous-stored) (rw n at p)
+          (c .given .now-stored) (c .given .previous-stored) (rw n at p) (prioritized c)
           ∙ ap (puts area) (sym (complete-writes c h))
 
 -- ---- marks of candidates

@@ -9,7 +9,7 @@ use mathlib.Core.Option.{some}
 use lib.Dec.{T, eqb}
 use lib.ListN.{length, getD, getElem?, drop, length-append, drop-of-length-le}
 use Rattle.values.specs.definitions.Bytes.{same-bytes}
-use Rattle.text.specs.definitions.Syntax.{Entity, Rule, File}
+use Rattle.text.specs.definitions.Syntax.{Entity, Rule, File, priority-of}
 use Rattle.text.proofs.laws.ListLaws.{none-some, flatMap-map, flatMap-flatMap}
 use Rattle.text.proofs.laws.SpotLaws.{stands-below, stands-drop}
 use Rattle.checking.specs.definitions.Scope.{Indexed, Variable, variables}
@@ -17,10 +17,13 @@ use Rattle.checking.specs.contracts.Directory.{interface-number, rule-row, enti
 use Rattle.checking.specs.contracts.RuleParts.{Rule-world}
 use Rattle.checking.specs.contracts.Resolution.{scope-row}
 use Rattle.checking.proofs.laws.DirectoryLaws.{number-inside}
+use Rattle.checking.proofs.laws.AcceptedLaws.{priorities-few}
+use Rattle.checking.proofs.laws.VerdictLaws.{accepted-verdict}
+use Rattle.writes.specs.definitions.Writes.{Write}
 use Rattle.cycles.specs.declared.evaluate.Binding.{Binding}
 use Rattle.cycles.specs.definitions.Store.{Store}
 use Rattle.cycles.specs.definitions.Spots.{spots, numbered}
-use Rattle.cycles.specs.definitions.Reference.{Write}
+use Rattle.checking.specs.definitions.PriorityFaults.{MOST-PRIORITY}
 use Rattle.cycles.specs.contracts.TotalMachine.{writes-if, binding-writes}
 use Rattle.cycles.specs.definitions.Bindings.{number-if, candidates, bindings}
 use Rattle.cycles.specs.definitions.ClosedSet.{is-of}
@@ -111,6 +114,9 @@ module _ {classes values d refs scopes flags cells previous-flags previous-cells
 
   pub few : length (variables (c .rule)) ≤ 3
   few = few-variables (c .text) file (c .given .checked .accepts) k (c .rule) (c .stands)
+
+  pub prioritized : priority-of (c .rule) ≤ MOST-PRIORITY
+  prioritized = priorities-few file (accepted-verdict (c .text) (c .given .checked .accepts)) (c .rule) k (c .stands)
 
   abbrev world : Rule-world (c .text) classes (c .offsets) (c .lengths) d (getD d (rule-row k) 0)
   world = record {

@@ -10,17 +10,18 @@ use lib.Ieee.Bits.{is-true}
 use lib.ListN.{length, getElem?}
 use borrow.Author.Tests.{ne-eqb}
 use Rattle.values.specs.definitions.Bytes.{same-bytes}
-use Rattle.text.specs.definitions.Syntax.{Name, Interface, Rule, File}
+use Rattle.text.specs.definitions.Syntax.{Name, Interface, Rule, File, priority-of}
 use Rattle.text.proofs.laws.ListLaws.{some-injective, none-some, three-empty, flatMap-empty, number-member}
 use Rattle.text.proofs.laws.SpotLaws.{stands-below}
 use Rattle.checking.specs.definitions.Scope.{Indexed, look-up, item-of, interface-named, Variable, variables}
 use Rattle.checking.specs.definitions.CountFaults.{rule-count-faults}
-use Rattle.checking.specs.definitions.Verdict.{accepted, verdict}
+use Rattle.checking.specs.definitions.Verdict.{accepted, file-verdict, verdict}
 use Rattle.checking.specs.contracts.Directory.{number-or, interface-number}
 use Rattle.checking.proofs.laws.LookUpLaws.{same-bytes-eq, same-bytes-refl, found-at, found-name}
 use Rattle.checking.proofs.laws.VerdictLaws.{accepted-verdict}
 use Rattle.checking.proofs.laws.AcceptedLaws.{accepted-faultless, within, counted}
 use Rattle.checking.proofs.laws.CheckedFile.{accepted-known}
+use Rattle.checking.specs.definitions.PriorityFaults.{MOST-PRIORITY}
 
 -- ---- numbers and names
 

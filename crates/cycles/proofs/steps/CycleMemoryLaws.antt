@@ -4,10 +4,10 @@ use native.Mathlib.Omega.{arith}
 use mathlib.Core.Path.{_≡_, sym, ap, ap₂, _∙_, subst}
 use mathlib.Core.Bool.{true, cond}
 use mathlib.Core.List.{List, _++_}
+use mathlib.Core.Option.{none}
 use lib.ListN.{length, getD, take, drop, replicate, length-drop, length-replicate}
 use lib.Seq.{drop-drop}
 use Rattle.values.specs.declared.Value.{Value}
-use Rattle.values.specs.declared.Value.the-variants.{Unset}
 use Rattle.values.specs.definitions.Cells.{cell-bytes, cell-at}
 use Rattle.text.specs.definitions.Syntax.{File}
 use Rattle.text.proofs.laws.ListLaws.{All}
@@ -17,10 +17,12 @@ use Rattle.checking.specs.contracts.Resolution.{References, Scopes}
 use Rattle.checking.proofs.laws.VerdictLaws.{accepted-verdict}
 use Rattle.checking.proofs.laws.CheckedFile.{accepted-known}
 use Rattle.checking.proofs.laws.WithinCounts.{Within-counts}
+use Rattle.writes.specs.definitions.Writes.{Write, standing, written-value}
+use Rattle.writes.proofs.laws.StandingLaws.{strongest}
+use Rattle.writes.proofs.laws.PendingLaws.{Has}
 use Rattle.cycles.specs.definitions.Store.{Store, Inputs, Stores}
-use Rattle.cycles.specs.definitions.Reference.{Write}
 use Rattle.cycles.specs.contracts.TotalMachine.{all-writes}
-use Rattle.cycles.specs.definitions.Cycle.{is-sort, seen, after-writes, stored, next-stores}
+use Rattle.cycles.specs.definitions.Cycle.{is-sort, seen, stored, next-stores}
 use Rattle.cycles.specs.contracts.TotalMachine.{cycle}
 use Rattle.cycles.specs.definitions.SoundStores.{Sound-store, Sound-inputs, Sound-stores}
 use Rattle.cycles.specs.definitions.Planes.{MOST-STORES-BYTES, table, entity-count, stores-size, decode-stores, are-stores, with-stores}
@@ -39,16 +41,16 @@ use Rattle.cycles.proofs.laws.StoredLaws.{decoded-stored}
 use Rattle.cycles.proofs.laws.SoundEvaluation.{Sound-write}
 use Rattle.cycles.proofs.laws.SoundBindings.{rules-run}
 use Rattle.cycles.proofs.laws.SoundStores.{seen-sound}
-use Rattle.cycles.proofs.steps.AreaLaws.{zeros-unset, after-puts}
+use Rattle.cycles.proofs.steps.AreaLaws.{zeros-have, after-puts}
 use Rattle.cycles.proofs.steps.SeenLaws.{flags-seen, cells-seen, tables-stored}
 
--- memory that takes writes, with unset cells in it
+-- memory that takes writes, with nothing written to it
 pub record Blank (area : List ℕ) : Type 0 where
-  pub room : 3456 ≤ length area
-  pub unset : (i : ℕ) → i < 384 → cell-at area i ≡ Unset
+  pub room : 3840 ≤ length area
+  pub nothing : (i : ℕ) → i < 384 → Has 3456 area i none
 
-pub zeros-blank : (n : ℕ) → 3456 ≤ n → Blank (replicate n 0)
-zeros-blank n h = record { room = rw (length-replicate {A = ℕ} n 0) h; unset = λ i l. zeros-unset n i (omega arith) }
+pub zeros-blank : (n : ℕ) → 3840 ≤ n → Blank (replicate n 0)
+zeros-blank n h = record { room = rw (length-replicate {A = ℕ} n 0) h; nothing = λ i l. zeros-have 3456 n i (omega arith) (omega arith) }
 
 -- what the steps of a cycle of n entities leave in memory: flags and cells that the rules see, the area of writes, the next cells, the stores
 pub record Steps-done (f : File) (classes values d refs scopes : List ℕ) (n : ℕ)
@@ -63,16 +65,16 @@ pub record Steps-done (f : File) (classes values d refs scopes : List ℕ) (n : 
 
 module _ (f : File) (h : Within-counts f) (s : Store) (ws : List Write) (sound : All (Sound-write f) ws)
     {flags cells area blank : List ℕ} (stand : Stored (entity-count f) flags cells s) (b : Blank blank) (e : area ≡ puts blank ws) where
-  written-is : (k : ℕ) → k < 12 * entity-count f → cell-at area k ≡ after-writes ws (k / 12) (k % 12) Unset
+  written-is : (k : ℕ) → k < 12 * entity-count f → cell-at area k ≡ written-value (standing (k / 12) (k % 12) ws)
+  unfolding strongest
   written-is k l =
       let few = h .entities in
-      let room = b .room in
       let z : k / 12 * 12 + k % 12 ≡ k = omega arith in
       let m : k % 12 < 12 = omega arith in
-      ap (λ (x : List ℕ). cell-at x k) e
-      ∙ subst (λ (j : ℕ). cell-at (puts blank ws) j ≡ after-writes ws (k / 12) (k % 12) (cell-at blank j)) z
-      (after-puts f h (k / 12) (k % 12) m ws sound blank (omega arith))
-      ∙ ap (after-writes ws (k / 12) (k % 12)) (b .unset k (omega arith))
+      let j : k / 12 < 32 = omega arith in
+      let i : k / 12 * 12 + k % 12 < 384 = omega arith in
+      ap (λ (x : List ℕ). cell-at x k) e ∙ ap (cell-at (puts blank ws)) (sym z)
+      ∙ after-puts f h (k / 12) (k % 12) j m ws sound blank (b .room) none (b .nothing (k / 12 * 12 + k % 12) i) .value
 
   seen-is : (k : ℕ) → k < 12 * entity-count f → cell-at cells k ≡ s .cell (k / 12) (k % 12)
   seen-is k l =

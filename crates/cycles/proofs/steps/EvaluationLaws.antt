@@ -11,15 +11,18 @@ use lib.ListN.{length, getD}
 use borrow.Author.Tests.{lt-ltb, le-ltb, eq-eqb, ne-eqb}
 use Rattle.values.specs.declared.Value.{Value}
 use Rattle.values.specs.declared.Value.the-variants.{Unset}
-use Rattle.values.specs.definitions.Cells.{cell-at, with-cell}
+use Rattle.values.specs.definitions.Cells.{cell-at}
 use Rattle.text.specs.definitions.Tokens.{NAME, EVENT, ACTION, FROM, WITH, ON, DOT}
 use Rattle.text.specs.contracts.Walks.{nth-token, Rows, Stands, Steps}
 use Rattle.text.proofs.laws.WalkLaws.{turn-less, getElem?-inside}
+use Rattle.writes.specs.definitions.Writes.{Write}
+use Rattle.writes.specs.contracts.Pending.{pended}
 use Rattle.cycles.specs.declared.evaluate.Binding.{Binding}
 use Rattle.cycles.specs.definitions.Store.{Store}
 use Rattle.cycles.specs.definitions.Spots.{Spot}
 use Rattle.cycles.specs.contracts.TotalMachine.{value-at, is-present-at}
-use Rattle.cycles.specs.definitions.Reference.{Write, written-if}
+use Rattle.cycles.specs.definitions.Reference.{written-if}
+use Rattle.cycles.specs.definitions.Planes.{ENTITY-CELLS, MOST-CELL-BYTES}
 use Rattle.cycles.specs.contracts.Evaluation.{bound, Locates, located, missing, Refers, Targeted, bare, declares, Resolved, Stored, Cell-read, puts, Put}
 
 -- ---- references
@@ -93,38 +96,38 @@ module _ {flags cells : List ℕ} {e m : ℕ} where
 pub puts-append : (area : List ℕ) (xs ys : List Write) → puts area (xs ++ ys) ≡ puts (puts area xs) ys
 unfolding puts
 puts-append area [] ys = refl
-puts-append area (w ∷ ws) ys = puts-append (with-cell area (w .entity * 12 + w .member) (w .value)) ws ys
+puts-append area (w ∷ ws) ys = puts-append (pended MOST-CELL-BYTES area (w .entity * ENTITY-CELLS + w .member) (w .priority) (w .value)) ws ys
 
 -- nothing is written where nothing was found
-none-written : (area : List ℕ) (made : Bool) (v : Value) → area ≡ puts area (written-if made none v)
+none-written : (area : List ℕ) (made : Bool) (priority : ℕ) (v : Value) → area ≡ puts area (written-if made none priority v)
 unfolding puts written-if
-none-written area true v = refl
-none-written area false v = refl
+none-written area true priority v = refl
+none-written area false priority v = refl
 
-module _ {area : List ℕ} {e m : ℕ} {v : Value} where
-  pub put-nothing : {made : Bool} → made ≡ false → Put area made e m v area
+module _ {area : List ℕ} {priority e m : ℕ} {v : Value} where
+  pub put-nothing : {made : Bool} → made ≡ false → Put area made priority e m v area
   unfolding puts written-if
   put-nothing q = record { written = λ count p k l. rw q }
 
-  pub put-missing : {made : Bool} → 12 ≤ m → Put area made e m v area
+  pub put-missing : {made : Bool} → 12 ≤ m → Put area made priority e m v area
   put-missing {made} h = record { written = λ count p k l. go l }
     where
-      go : {count : ℕ} {p : Option Spot} → Locates count p e m → area ≡ puts area (written-if made p v)
+      go : {count : ℕ} {p : Option Spot} → Locates count p e m → area ≡ puts area (written-if made p priority v)
       go (located what q k l) = absurd (omega arith)
-      go (missing q k) = rw q (none-written area made v)
+      go (missing q k) = rw q (none-written area made priority v)
 
-  pub put-beyond : {made : Bool} → 384 ≤ e * 12 + m → Put area made e m v area
+  pub put-beyond : {made : Bool} → 384 ≤ e * 12 + m → Put area made priority e m v area
   put-beyond {made} h = record { written = λ count p k l. go k l }
     where
-      go : {count : ℕ} {p : Option Spot} → count ≤ 32 → Locates count p e m → area ≡ puts area (written-if made p v)
+      go : {count : ℕ} {p : Option Spot} → count ≤ 32 → Locates count p e m → area ≡ puts area (written-if made p priority v)
       go few (located what q k l) = absurd (omega arith)
-      go few (missing q k) = rw q (none-written area made v)
+      go few (missing q k) = rw q (none-written area made priority v)
 
-  pub put-made : {made : Bool} {after : List ℕ} → made ≡ true → m < 12 → after ≡ with-cell area (e * 12 + m) v → Put area made e m v after
+  pub put-made : {made : Bool} {after : List ℕ} → made ≡ true → m < 12 → after ≡ pended MOST-CELL-BYTES area (e * 12 + m) priority v → Put area made priority e m v after
   unfolding puts written-if
   put-made {made} {after} em h a = record { written = λ count p k l. go l }
     where
-      go : {count : ℕ} {p : Option Spot} → Locates count p e m → after ≡ puts area (written-if made p v)
+      go : {count : ℕ} {p : Option Spot} → Locates count p e m → after ≡ puts area (written-if made p priority v)
       go (located what q k l) = rw (em, q) a
       go (missing q k) = absurd (omega arith)
 

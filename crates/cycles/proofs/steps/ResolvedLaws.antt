@@ -8,7 +8,7 @@ use native.Mathlib.Omega.{arith}
 use lib.Dec.{T}
 use lib.ListN.{length, getD, getElem?}
 use Rattle.text.specs.definitions.Tokens.{NAME, FROM, WITH, ON, WHEN}
-use Rattle.text.specs.definitions.Syntax.{Member, Interface, Entity, Rule, File}
+use Rattle.text.specs.definitions.Syntax.{Member, Interface, Entity, Rule, File, priority-of}
 use Rattle.text.specs.definitions.Grammar.{rule-after}
 use Rattle.text.specs.contracts.Walks.{no-token, nth-token, Rows, Stands}
 use Rattle.text.proofs.laws.ListLaws.{none-some}
@@ -49,6 +49,7 @@ use Rattle.checking.proofs.laws.DirectoryLaws.{number-below, number-inside}
 use Rattle.cycles.specs.declared.evaluate.Binding.{Binding}
 use Rattle.cycles.specs.definitions.Store.{Store}
 use Rattle.cycles.specs.definitions.Spots.{spot-at, spot-among, spot-of, meant-by, spot-if-meant, spots}
+use Rattle.checking.specs.definitions.PriorityFaults.{MOST-PRIORITY}
 use Rattle.cycles.specs.contracts.TotalMachine.{binding-writes}
 use Rattle.cycles.specs.definitions.ClosedSet.{entity-is-of, is-of}
 use Rattle.cycles.specs.contracts.Evaluation.{
@@ -225,9 +226,9 @@ module _ {text classes offsets lengths d refs : List ℕ} (values : List ℕ) (w
   -- the area after the rule has those writes that it makes at the binding
   pub rule-puts-binding : Gives b bs → {flags cells previous-flags previous-cells area after : List ℕ} {now previous : Store}
       → Stored (length (w .file .entities)) flags cells now → Stored (length (w .file .entities)) previous-flags previous-cells previous
-      → Rule-puts classes values refs b flags cells previous-flags previous-cells (start + 1) area after
+      → Rule-puts classes values refs b flags cells previous-flags previous-cells (start + 1) area after → priority-of r ≤ MOST-PRIORITY
       → after ≡ puts area (binding-writes (spots (w .file) (variables r) bs) now previous r)
-  rule-puts-binding gives {now = now} {previous = previous} h k p =
+  rule-puts-binding gives {now = now} {previous = previous} h k p prioritized =
       let whole = resolved {low = start + 1} {high = start + 1 + begins .used} (omega arith) (omega arith) (λ i l m v e q u. gives v e u) in
       p .writes (record { rule = whole; now = now; previous = previous; now-stored = h; previous-stored = k }) (omega arith)
-      (begins .token) r (begins .used) (begins .reads) (omega arith)
+      (begins .token) r (begins .used) (begins .reads) (omega arith) prioritized

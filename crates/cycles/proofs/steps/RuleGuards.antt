@@ -7,7 +7,7 @@ use mathlib.Core.Logic.{inr}
 use native.Mathlib.Omega.{arith}
 use lib.ListN.{length, getD, drop}
 use Rattle.text.specs.definitions.Tokens.{Token, NAME, ACTION, WITH, ON, OR, ROUND-OPEN, ROUND-CLOSE, COMMA}
-use Rattle.text.specs.definitions.Syntax.{Condition, Call, Rule}
+use Rattle.text.specs.definitions.Syntax.{Condition, Call, Rule, priority-of}
 use Rattle.text.specs.definitions.Readers.{read, joined, many}
 use Rattle.text.specs.definitions.Syntax.{OPENERS}
 use Rattle.text.specs.definitions.Grammar.{
@@ -18,6 +18,7 @@ use Rattle.text.specs.definitions.Grammar.{
   is-or,
   conjunction-reader,
   condition-reader,
+  priority-reader,
   call-reader,
   call-after,
   rule-after,
@@ -53,7 +54,7 @@ use Rattle.cycles.specs.contracts.Finding.{
   only-call,
 }
 use Rattle.cycles.proofs.steps.ConditionValues.{or-joins}
-use Rattle.cycles.proofs.steps.CallWrites.{rule-condition}
+use Rattle.cycles.proofs.steps.CallWrites.{rule-begins}
 use Rattle.cycles.proofs.steps.GuardPuts.{extends-put}
 use Rattle.cycles.proofs.steps.GuardWalks.{Filter-part, filter-part}
 
@@ -69,15 +70,17 @@ unfolding binding-writes
 condition-fails r sp now previous e = rw e
 
 module _ (sp : Spots) (now previous : Store) where
-  filter-fails : (k : Call) → filter-holds sp now (k .target) (k .filter) ≡ false → call-writes sp now k ≡ []
+  filter-fails : (k : Call) → filter-holds sp now (k .target) (k .filter) ≡ false → (priority : ℕ) → call-writes sp now priority k ≡ []
   unfolding call-writes
-  filter-fails k e =
+  filter-fails k e priority =
       let p = sp (k .target .name .bytes) (k .action .bytes) in
       rw (e, and-false (is-present-at now p))
 
-  only-call-fails : (r : Rule) (k : Call) → r .calls ≡ k ∷ [] → call-writes sp now k ≡ [] → binding-writes sp now previous r ≡ []
+  only-call-fails : (r : Rule) (k : Call) → r .calls ≡ k ∷ [] → ((priority : ℕ) → call-writes sp now priority k ≡ []) → binding-writes sp now previous r ≡ []
   unfolding binding-writes flatMap
-  only-call-fails r k ec e = rw (ec, e) (writes-none (holds sp now previous (r .condition)))
+  only-call-fails r k ec e =
+      ap (λ (ks : List Call). writes-if (holds sp now previous (r .condition)) (flatMap (call-writes sp now (priority-of r)) ks)) ec
+      ∙ rw (e (priority-of r)) (writes-none (holds sp now previous (r .condition)))
 
 -- ---- a call
 
@@ -133,8 +136,8 @@ module _ {classes refs : List ℕ} {at : ℕ} where
   pub no-guards : {guards : List ℕ} → Guards-found classes refs at guards 0
   no-guards = record { found = λ w l start r used e k j h. absurd (omega arith) }
 
-  module _ {next m : ℕ} {g : Growth} (s : Steps (length classes) next m) where
-    call-extends : Call-guarded classes refs m g → Walks (all-rows classes) (λ w (a : Condition) (u : Unit {0}). Unit {0}) (condition-reader OPENERS) at tt next
+  module _ {o next m : ℕ} {g : Growth} (d : Ends classes priority-reader at o) (s : Steps (length classes) next m) where
+    call-extends : Call-guarded classes refs m g → Walks (all-rows classes) (λ w (a : Condition) (u : Unit {0}). Unit {0}) (condition-reader OPENERS) o tt next
         → (w : Rows classes) → w .low ≤ at → (start : Token) (r : Rule) (used : ℕ) → rule-after start (drop at (w .tokens)) ≡ read r used
         → at + used ≤ w .high → Grown refs g w r tt
     call-extends (no-guard ea et) c w l start r used e k all = rw (ea, et) all
@@ -142,27 +145,29 @@ module _ {classes refs : List ℕ} {at : ℕ} where
         let others : Walks (all-rows classes) (λ w (ks : List Call) (u : Unit {0}). ks ≡ []) (many COMMA call-after) p tt p =
         many-stops (all-rows classes) (call-guards refs) (λ w ks u. ks ≡ []) COMMA call-after
         (many-begins (all-rows classes) (call-guards refs) (λ w ks u. ks ≡ []) COMMA call-after p (λ w. refl)) n in
-        let whole = rule-walk {yields = Grown refs g} {v = tt} start c s h others (next-steps p)
-        (λ w a b bs u x y. x .extends _ (λ sp now previous q. only-call-fails sp now previous _ b (ap (λ bs. b ∷ bs) y) q)) in
+        let whole = rule-walk {yields = Grown refs g} {v = tt} start d c s h others (next-steps p)
+        (λ w n a b bs f u x y. x .extends _ (λ sp now previous q. only-call-fails sp now previous _ b (ap (λ bs. b ∷ bs) y) q)) in
         let (y, d) = walk-yields whole w l e in
         y (omega arith) all
 
-  pub guards-are : {next m other class : ℕ} {a b c d : List ℕ} {i j k : ℕ}
-      → Condition-guards-walk classes refs (conjunction-reader OPENERS) at (record { before = a; count = 0; after = b; total = i }) next
+  pub guards-are : {o next m other class : ℕ} {a b c d : List ℕ} {i j k : ℕ} → Ends classes priority-reader at o
+      → Condition-guards-walk classes refs (conjunction-reader OPENERS) o (record { before = a; count = 0; after = b; total = i }) next
       → class ≡ getD classes next 0 → (class ≡ OR → ⊥) → Steps (length classes) next m
       → Call-guarded classes refs m (record { before = b; count = i; after = c; total = j })
-      → Condition-guards-walk classes refs (conjunction-reader OPENERS) at (record { before = c; count = j; after = d; total = k }) other
+      → Condition-guards-walk classes refs (conjunction-reader OPENERS) o (record { before = c; count = j; after = d; total = k }) other
       → Guards-found classes refs at d k
-  guards-are {next} h is n s call g =
+  guards-are {o} {next} f h is n s call g =
       let whole =
       walk-stops (all-rows classes) (λ w a p. condition-guards refs w a (p .0) × condition-guards refs w a (p .1)) is-or
       (joined (conjunction-reader OPENERS) either-at) (condition-begins OPENERS (walk-both h g)) (or-joins .no (getD classes next 0) (λ q. n (is ∙ q))) in
       record {
         found = λ w l start r used e k.
-            let (z, p, q) = rule-condition start (drop at (w .tokens)) e in
-            let (y, d) = walk-yields whole w l p in
+            let (x, a, z, b, q) = rule-begins (w .tokens) at start e in
+            let t = walk-yields f w l a .1 in
+            let there : condition-reader OPENERS (drop o (w .tokens)) ≡ read (r .condition) z = rw t b in
+            let (y, d) = walk-yields whole w (omega arith) there in
             let both = y (omega arith) in
             both .1 .extends r (condition-fails r)
-            (call-extends s call (walk-then (λ w a l k y. tt) whole) w l start r used e k
+            (call-extends f s call (walk-then (λ w a l k y. tt) whole) w l start r used e k
             (both .0 .extends r (condition-fails r) (λ j h. absurd (omega arith))));
       }

@@ -9,12 +9,14 @@ use mathlib.Core.Logic.{_⊎_}
 use lib.Dec.{ltb, eqb}
 use lib.ListN.{length, getD, getElem?, drop}
 use Rattle.values.specs.declared.Value.{Value}
-use Rattle.values.specs.definitions.Cells.{cell-at, with-cell}
+use Rattle.values.specs.definitions.Cells.{cell-at}
 use Rattle.text.specs.definitions.Tokens.{Token, NAME, EVENT, ACTION, FROM, WITH, ON, COLON, DOT}
-use Rattle.text.specs.definitions.Syntax.{Member, Expression, Target, Filter, Test, Condition, Call, Rule}
+use Rattle.text.specs.definitions.Syntax.{Member, Expression, Target, Filter, Test, Condition, Call, Priority, Rule, priority-given, priority-of}
 use Rattle.text.specs.definitions.Readers.{Parser, read}
-use Rattle.text.specs.definitions.Grammar.{target-reader, rule-after}
+use Rattle.text.specs.definitions.Grammar.{target-reader, priority-reader, rule-after}
 use Rattle.text.specs.contracts.Walks.{nth-token, Rows, Stands, Walks, Looping}
+use Rattle.writes.specs.definitions.Writes.{Write}
+use Rattle.writes.specs.contracts.Pending.{pended}
 use Rattle.checking.specs.definitions.CountFaults.{MOST-ENTITIES}
 use Rattle.checking.specs.contracts.Directory.{NO-MEMBER}
 use Rattle.checking.specs.contracts.Resolution.{FIRST-VARIABLE}
@@ -22,8 +24,10 @@ use Rattle.cycles.specs.declared.evaluate.Binding.{Binding}
 use Rattle.cycles.specs.definitions.Store.{Store}
 use Rattle.cycles.specs.definitions.Spots.{Spot, Spots}
 use Rattle.cycles.specs.contracts.TotalMachine.{value-at, value, filter-holds, test-holds, holds, call-writes, binding-writes}
-use Rattle.cycles.specs.definitions.Reference.{Write, written-if}
-use Rattle.cycles.specs.definitions.Planes.{ENTITY-CELLS, ENTITY-CELL-BYTES}
+use Rattle.checking.specs.definitions.PriorityFaults.{MOST-PRIORITY}
+use Rattle.checking.specs.contracts.CheckedBench.{Values-of}
+use Rattle.cycles.specs.definitions.Reference.{written-if}
+use Rattle.cycles.specs.definitions.Planes.{ENTITY-CELLS, ENTITY-CELL-BYTES, MOST-CELL-BYTES}
 
 -- ---- references
 
@@ -96,14 +100,27 @@ pub record Cell-read (flags cells : List ℕ) (e m : ℕ) (r : Value) : Type 0 w
 
 -- ---- writes
 
--- memory of cells after writes, one after another
+-- the pending cells of as many entities as a file may have: their bytes, and behind these a byte for each cell, its stamp
+abbrev pub MOST-CELLS : ℕ
+MOST-CELLS = MOST-ENTITIES * ENTITY-CELLS
+
+abbrev pub MOST-PENDING-BYTES : ℕ
+MOST-PENDING-BYTES = MOST-CELL-BYTES + MOST-CELLS
+
+-- memory of pending cells after writes, one after another
 unfoldable pub puts : List ℕ → List Write → List ℕ
 puts area [] = area
-puts area (w ∷ ws) = puts (with-cell area (w .entity * ENTITY-CELLS + w .member) (w .value)) ws
+puts area (w ∷ ws) = puts (pended MOST-CELL-BYTES area (w .entity * ENTITY-CELLS + w .member) (w .priority) (w .value)) ws
 
--- the write of a value to the spot that a reference says, if it is made
-pub record Put (area : List ℕ) (made : Bool) (e m : ℕ) (v : Value) (after : List ℕ) : Type 0 where
-  pub written : (count : ℕ) (p : Option Spot) → count ≤ MOST-ENTITIES → Locates count p e m → after ≡ puts area (written-if made p v)
+-- the write of a value to the spot that a reference says, by a rule of this priority, if it is made
+pub record Put (area : List ℕ) (made : Bool) (priority e m : ℕ) (v : Value) (after : List ℕ) : Type 0 where
+  pub written : (count : ℕ) (p : Option Spot) → count ≤ MOST-ENTITIES → Locates count p e m → after ≡ puts area (written-if made p priority v)
+
+-- the priority of the rule whose tokens after `when` begin at number `at`, in every world in which it is not above the greatest
+pub record Priority-read (classes values : List ℕ) (at priority : ℕ) : Type 0 where
+  pub within : priority ≤ MOST-PRIORITY
+  pub is : (w : Rows classes) → Values-of values (w .tokens) → w .low ≤ at → (k : Option Priority) (used : ℕ) → priority-reader (drop at (w .tokens)) ≡ read k used
+      → at + used ≤ w .high → priority-given k ≤ MOST-PRIORITY → priority ≡ priority-given k
 
 -- ---- what the walks give
 
@@ -144,18 +161,18 @@ module _ (classes values refs : List ℕ) (b : Binding) (flags cells : List ℕ)
   abbrev pub Filter-walk : ℕ → Parser (Option Filter) → ℕ → Bool → ℕ → Type 0
   Filter-walk e r at v next = Walks in-store-rows (Filter-yields e at) r at v next
 
-  -- a call's writes, after those that gave `area`
-  abbrev pub call-yields : List ℕ → In-store classes values refs b flags cells → Call → List ℕ → Type 0
-  call-yields area c k r = r ≡ puts area (call-writes (c .rule .spots) (c .store) k)
+  -- a call's writes, in a rule of this priority, after those that gave `area`
+  abbrev pub call-yields : (priority : ℕ) → List ℕ → In-store classes values refs b flags cells → Call → List ℕ → Type 0
+  call-yields priority area c k r = r ≡ puts area (call-writes (c .rule .spots) (c .store) priority k)
 
-  abbrev pub Call-walk : List ℕ → Parser Call → ℕ → List ℕ → ℕ → Type 0
-  Call-walk area = Walks in-store-rows (call-yields area)
+  abbrev pub Call-walk : (priority : ℕ) → List ℕ → Parser Call → ℕ → List ℕ → ℕ → Type 0
+  Call-walk priority area = Walks in-store-rows (call-yields priority area)
 
-  abbrev pub calls-yields : List ℕ → In-store classes values refs b flags cells → List Call → List ℕ → Type 0
-  calls-yields area c ks r = r ≡ puts area (flatMap (call-writes (c .rule .spots) (c .store)) ks)
+  abbrev pub calls-yields : (priority : ℕ) → List ℕ → In-store classes values refs b flags cells → List Call → List ℕ → Type 0
+  calls-yields priority area c ks r = r ≡ puts area (flatMap (call-writes (c .rule .spots) (c .store) priority) ks)
 
-  abbrev pub Calls-walk : List ℕ → Parser (List Call) → ℕ → List ℕ → ℕ → Type 0
-  Calls-walk area = Walks in-store-rows (calls-yields area)
+  abbrev pub Calls-walk : (priority : ℕ) → List ℕ → Parser (List Call) → ℕ → List ℕ → ℕ → Type 0
+  Calls-walk priority area = Walks in-store-rows (calls-yields priority area)
 
 module _ (classes values refs : List ℕ) (b : Binding) (flags cells previous-flags previous-cells : List ℕ) where
   abbrev pub in-stores-rows : In-stores classes values refs b flags cells previous-flags previous-cells → Rows classes
@@ -181,4 +198,5 @@ module _ (classes values refs : List ℕ) (b : Binding) (flags cells previous-fl
   pub record Rule-puts (at : ℕ) (area after : List ℕ) : Type 0 where
     pub writes : (c : In-stores classes values refs b flags cells previous-flags previous-cells) → c .rule .rows .low ≤ at
         → (start : Token) (r : Rule) (n : ℕ) → rule-after start (drop at (c .rule .rows .tokens)) ≡ read r n → at + n ≤ c .rule .rows .high
+        → priority-of r ≤ MOST-PRIORITY
         → after ≡ puts area (binding-writes (c .rule .spots) (c .now) (c .previous) r)

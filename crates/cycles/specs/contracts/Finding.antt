@@ -65,7 +65,7 @@ module _ {classes : List ℕ} (refs : List ℕ) where
   condition-guards w a = Extends w refs (λ sp now previous. holds sp now previous a ≡ false)
 
   abbrev pub call-guards : Rows classes → Call → Growth → Type 0
-  call-guards w k = Extends w refs (λ sp now previous. call-writes sp now k ≡ [])
+  call-guards w k = Extends w refs (λ sp now previous. (priority : ℕ) → call-writes sp now priority k ≡ [])
 
 module _ (classes refs : List ℕ) where
   abbrev pub Filter-guards-walk : ℕ → ℕ → Growth → ℕ → Type 0

@@ -1,5 +1,6 @@
 -- The total machine, which code computes: the reference machine (Reference, Bindings, Cycle), but what that is stuck at gives unset, false or no
 -- write here. For accepted files the two are equal (`accepted-sound`), so nobody has to believe this one.
+use Prim.Native.Nat.{ℕ}
 use mathlib.Core.List.{List, [], flatMap}
 use mathlib.Core.Bool.{Bool, true, false, not, _&&_, _||_}
 use mathlib.Core.Option.{Option, none, some}
@@ -27,11 +28,13 @@ use Rattle.text.specs.definitions.Syntax.{
   Call,
   Rule,
   File,
+  priority-of,
 }
 use Rattle.checking.specs.definitions.Scope.{variables}
+use Rattle.writes.specs.definitions.Writes.{Write}
 use Rattle.cycles.specs.definitions.Store.{Store, Inputs, Stores}
 use Rattle.cycles.specs.definitions.Spots.{Spot, Spots, spots}
-use Rattle.cycles.specs.definitions.Reference.{read-spot, Write, written-if}
+use Rattle.cycles.specs.definitions.Reference.{read-spot, written-if}
 use Rattle.cycles.specs.definitions.Bindings.{bindings}
 use Rattle.cycles.specs.definitions.Cycle.{seen, next-stores}
 
@@ -80,14 +83,15 @@ holds sp now previous (both a b) = holds sp now previous a && holds sp now previ
 holds sp now previous (either a b) = holds sp now previous a || holds sp now previous b
 
 -- as `ref-call`
-unfoldable pub call-writes : Spots → Store → Call → List Write
+unfoldable pub call-writes : Spots → Store → (priority : ℕ) → Call → List Write
 unfolding written-if is-present-at filter-holds value
-call-writes sp now c =
+call-writes sp now priority c =
     written-if
     (is-present-at now (sp (c .target .name .bytes) (c .action .bytes))
     && (filter-holds sp now (c .target) (c .filter)
     && is-set (value sp now (c .parameter))))
     (sp (c .target .name .bytes) (c .action .bytes))
+    priority
     (value sp now (c .parameter))
 
 unfoldable pub writes-if : Bool → List Write → List Write
@@ -96,8 +100,8 @@ writes-if false ws = []
 
 -- a rule at one binding
 unfoldable pub binding-writes : Spots → Store → Store → Rule → List Write
-unfolding writes-if holds flatMap call-writes
-binding-writes sp now previous r = writes-if (holds sp now previous (r .condition)) (flatMap (call-writes sp now) (r .calls))
+unfolding writes-if holds flatMap call-writes priority-of
+binding-writes sp now previous r = writes-if (holds sp now previous (r .condition)) (flatMap (call-writes sp now (priority-of r)) (r .calls))
 
 -- ---- all rules, as `ref-all-writes`
 

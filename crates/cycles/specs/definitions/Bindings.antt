@@ -5,10 +5,11 @@ use mathlib.Core.Bool.{Bool, true, false, _&&_}
 use Rattle.values.specs.definitions.Bytes.{same-bytes}
 use Rattle.text.specs.definitions.Syntax.{Rule, File}
 use Rattle.checking.specs.definitions.Scope.{is-found, interface-named, Variable, variables}
+use Rattle.writes.specs.definitions.Writes.{Write}
 use Rattle.cycles.specs.definitions.Outcome.{Outcome, run-if, collected}
 use Rattle.cycles.specs.definitions.Store.{Store}
 use Rattle.cycles.specs.definitions.Spots.{spots, numbered, every}
-use Rattle.cycles.specs.definitions.Reference.{Write, ref-binding-writes}
+use Rattle.cycles.specs.definitions.Reference.{ref-binding-writes}
 
 unfoldable pub number-if : Bool → ℕ → List ℕ
 number-if true e = e ∷ []

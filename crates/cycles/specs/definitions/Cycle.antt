@@ -1,9 +1,8 @@
 -- A cycle, and the fresh stores (document 01, "The bare machine"). It asks for the two stores and a line's readings alone, whoever sent the line.
 use Prim.Native.Nat.{ℕ}
-use mathlib.Core.List.{List, [], _∷_}
+use mathlib.Core.List.{List}
 use mathlib.Core.Bool.{Bool, true, false, not, _&&_, cond}
 use mathlib.Core.Option.{Option, none, some, Option·getD}
-use lib.Dec.{eqb}
 use lib.ListN.{getElem?}
 use Rattle.values.specs.declared.Value.{Value}
 use Rattle.values.specs.declared.Value.the-variants.{Unset}
@@ -11,10 +10,10 @@ use Rattle.values.specs.declared.Kind.{Kind}
 use Rattle.values.specs.definitions.Storable.{of-kind}
 use Rattle.text.specs.definitions.Syntax.{Sort, Member, Interface, Assignment, literal-value, Entity, File}
 use Rattle.checking.specs.definitions.Scope.{Indexed, look-up, is-found, member-of, interface-named, member-named, is-attribute, is-action}
+use Rattle.writes.specs.definitions.Writes.{Write, standing, written-value}
 use Rattle.cycles.specs.definitions.Outcome.{Outcome, running, proceed, run-if}
 use Rattle.cycles.specs.definitions.Store.{Store, Inputs, Stores}
 use Rattle.cycles.specs.definitions.Spots.{every, cells}
-use Rattle.cycles.specs.definitions.Reference.{Write}
 use Rattle.cycles.specs.definitions.Bindings.{ref-all-writes}
 
 unfoldable pub is-sort : (Sort → Bool) → Option Member → Bool
@@ -37,17 +36,13 @@ seen f s i = record {
   cell = λ e m. Option·getD (i .given e m) (cond (leaves s i e && not (is-sort is-attribute (member-of f e m))) Unset (s .cell e m));
 }
 
--- "The last write to a cell stands": a cell's value after writes, one after another
-unfoldable pub after-writes : List Write → ℕ → ℕ → Value → Value
-after-writes [] e m v = v
-after-writes (w ∷ ws) e m v = after-writes ws e m (cond (eqb (w .entity) e && eqb (w .member) m) (w .value) v)
-
--- "Action cells become unset, then take the writes"
+-- "Action cells become unset, then take the writes", of which document 02, order 6 says: "The write of the highest priority stands; among equal priorities the
+-- earliest write does"
 unfoldable pub stored : File → Store → List Write → Store
-unfolding is-sort is-action member-of after-writes
+unfolding is-sort is-action member-of written-value standing
 stored f s ws = record {
   present = s .present;
-  cell = λ e m. cond (is-sort is-action (member-of f e m)) (after-writes ws e m Unset) (s .cell e m);
+  cell = λ e m. cond (is-sort is-action (member-of f e m)) (written-value (standing e m ws)) (s .cell e m);
 }
 
 unfoldable pub next-stores : File → Stores → Inputs → List Write → Stores

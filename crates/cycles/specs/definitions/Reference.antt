@@ -28,8 +28,10 @@ use Rattle.text.specs.definitions.Syntax.{
   either,
   Call,
   Rule,
+  priority-of,
 }
 use Rattle.checking.specs.definitions.Scope.{is-attribute, is-action, is-event}
+use Rattle.writes.specs.definitions.Writes.{Write}
 use Rattle.cycles.specs.definitions.Outcome.{Outcome, running, proceed, with-found, run-if, collected}
 use Rattle.cycles.specs.definitions.Store.{Store, read-cell}
 use Rattle.cycles.specs.definitions.Spots.{Spot, Spots}
@@ -40,15 +42,11 @@ unfoldable pub read-spot : Store → Spot → Value
 unfolding read-cell
 read-spot s p = read-cell s (p .entity) (p .member)
 
-pub record Write : Type 0 where
-  pub entity : ℕ
-  pub member : ℕ
-  pub value : Value
-
-unfoldable pub written-if : Bool → Option Spot → Value → List Write
-written-if false p v = []
-written-if true none v = []
-written-if true (some p) v = record { entity = p .entity; member = p .member; value = v } ∷ []
+-- document 02, order 6: "The write of the highest rank stands": a write carries the priority of its rule
+unfoldable pub written-if : Bool → Option Spot → (priority : ℕ) → Value → List Write
+written-if false p priority v = []
+written-if true none priority v = []
+written-if true (some p) priority v = record { entity = p .entity; member = p .member; priority = priority; value = v } ∷ []
 
 -- ---- one binding
 
@@ -112,20 +110,20 @@ ref-holds sp now previous (either a b) =
     proceed (ref-holds sp now previous a) λ i. proceed (ref-holds sp now previous b) λ j. running (i || j)
 
 -- "a call's `with` and parameter read now"; "a call there writes nothing", at an absent entity; "An unset parameter writes nothing"
-unfoldable pub ref-call : Spots → Store → Call → Outcome (List Write)
+unfoldable pub ref-call : Spots → Store → (priority : ℕ) → Call → Outcome (List Write)
 unfolding with-sort is-action proceed ref-value run-if of-kind ref-filter written-if
-ref-call sp now c =
+ref-call sp now priority c =
     with-sort is-action (sp (c .target .name .bytes) (c .action .bytes)) λ p.
     proceed (ref-value sp now (c .parameter)) λ v.
     run-if (of-kind (p .what .kind) v)
     (proceed (ref-filter sp now (c .target) (c .filter)) λ i.
-    running (written-if (now .present (p .entity) && (i && is-set v)) (some p) v))
+    running (written-if (now .present (p .entity) && (i && is-set v)) (some p) priority v))
 
-unfoldable pub ref-writes-if : Bool → Spots → Store → List Call → Outcome (List Write)
+unfoldable pub ref-writes-if : Bool → Spots → Store → (priority : ℕ) → List Call → Outcome (List Write)
 unfolding collected ref-call
-ref-writes-if true sp now cs = collected (ref-call sp now) cs
-ref-writes-if false sp now cs = running []
+ref-writes-if true sp now priority cs = collected (ref-call sp now priority) cs
+ref-writes-if false sp now priority cs = running []
 
 unfoldable pub ref-binding-writes : Spots → Store → Store → Rule → Outcome (List Write)
-unfolding proceed ref-holds ref-writes-if
-ref-binding-writes sp now previous r = proceed (ref-holds sp now previous (r .condition)) λ b. ref-writes-if b sp now (r .calls)
+unfolding proceed ref-holds ref-writes-if priority-of
+ref-binding-writes sp now previous r = proceed (ref-holds sp now previous (r .condition)) λ b. ref-writes-if b sp now (priority-of r) (r .calls)

@@ -24,7 +24,7 @@ Some-code code = (code < 256) × (0 < code)
 some-code : (text : List ℕ) → Refused-by-code Some-code (verdict text)
 some-code =
     verdict-code Some-code (lit< tt, lit< tt) (lit< tt, lit< tt) (lit< tt, lit< tt) (lit< tt, lit< tt) (lit< tt, lit< tt) (lit< tt, lit< tt)
-    (lit< tt, lit< tt) (lit< tt, lit< tt)
+    (lit< tt, lit< tt) (lit< tt, lit< tt) (lit< tt, lit< tt)
 
 check-answer : (text bench : List ℕ) → BENCH ≤ length bench → check-call text bench .answer ≡ verdict-answer (verdict text)
 unfolding check-call checked

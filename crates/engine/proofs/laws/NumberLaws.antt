@@ -88,6 +88,7 @@ verdict-listed =
     (lit< tt, there (there (there (there (there (there (there here)))))))
     (lit< tt, there (there (there (there (there (there (there (there here))))))))
     (lit< tt, there (there (there (there (there (there (there (there (there here)))))))))
+    (lit< tt, there (there (there (there (there (there (there (there (there (there here))))))))))
 
 check-call-numbered : (text bench : List ℕ) → Listed-answer CHECK-NUMBERS (check-call text bench .answer) (bench ∷ []) (check-call text bench .bench ∷ [])
 unfolding check-call checked verdict-answer

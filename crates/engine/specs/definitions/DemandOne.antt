@@ -10,7 +10,7 @@ number-of answer = answer % 256
 
 -- document 01's table, with document 02's numbers, by calls; "Memory that a call only fills gets neither 32 nor 33"
 abbrev pub CHECK-NUMBERS : List ℕ
-CHECK-NUMBERS = 0 ∷ 31 ∷ 11 ∷ 12 ∷ 13 ∷ 14 ∷ 15 ∷ 16 ∷ 17 ∷ 18 ∷ []
+CHECK-NUMBERS = 0 ∷ 31 ∷ 11 ∷ 12 ∷ 13 ∷ 44 ∷ 14 ∷ 15 ∷ 16 ∷ 17 ∷ 18 ∷ []
 
 abbrev pub FRESH-NUMBERS : List ℕ
 FRESH-NUMBERS = 0 ∷ 31 ∷ 32 ∷ []

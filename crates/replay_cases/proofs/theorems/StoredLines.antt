@@ -144,15 +144,15 @@ unfolding replay ascii
     Ieee.add Ieee.sub Ieee.mul Ieee.div Ieee.neg Ieee.eq Ieee.ofInt Ieee.ofBits Ieee.toBits Ieee.isNan
 run-variable-only-in-call = refl
 
-pub run-order-of-choices : replay (ascii "interface O { action o ( whole ) action p ( whole ) action q ( whole ) } interface A { attribute n : whole event t : whole } interface B { attribute n : whole action w ( whole ) } entity b : B { n = 10 } entity a : A { n = 1 } entity c : A { n = 2 } entity d : B { n = 20 } entity z : O { } rules when event t from x : A value changed trigger action o ( x.n * 100 + y.n + 0 / ( 220 - x.n * 100 - y.n ) ) on z , action p ( x.n * 100 + y.n ) on z , action w ( x.n ) on y : B end end") (ascii "by n a.t c.t c\na 1 1 1 -\na 2 2 - -\na 3 - 2 -\na 4 3 - false\na 5 - - true\n") ≡ ascii "by n b.w d.w z.o z.p z.q\na 1 2 2 210 220 -\na 2 1 1 120 120 -\na 3 2 2 210 220 -\na 4 1 1 120 120 -\na 5 - - - - -\n"
+pub run-order-of-choices : replay (ascii "interface O { action o ( whole ) action p ( whole ) action q ( whole ) } interface A { attribute n : whole event t : whole } interface B { attribute n : whole action w ( whole ) } entity b : B { n = 10 } entity a : A { n = 1 } entity c : A { n = 2 } entity d : B { n = 20 } entity z : O { } rules when event t from x : A value changed trigger action o ( x.n * 100 + y.n + 0 / ( 110 - x.n * 100 - y.n ) ) on z , action p ( x.n * 100 + y.n ) on z , action w ( x.n ) on y : B end end") (ascii "by n a.t c.t c\na 1 1 1 -\na 2 2 - -\na 3 - 2 -\na 4 3 - false\na 5 - - true\n") ≡ ascii "by n b.w d.w z.o z.p z.q\na 1 1 1 120 110 -\na 2 1 1 120 110 -\na 3 2 2 210 210 -\na 4 1 1 120 110 -\na 5 - - - - -\n"
 unfolding replay ascii
     Ieee.add Ieee.sub Ieee.mul Ieee.div Ieee.neg Ieee.eq Ieee.ofInt Ieee.ofBits Ieee.toBits Ieee.isNan
 run-order-of-choices = refl
 
-pub run-last-write-stands : replay (ascii "interface S { event e : whole action keep ( whole ) } entity s : S { } rules when event e from s value changed trigger action keep ( 1 ) on s , action keep ( 2 ) on s end when event e from s value = 5 trigger action keep ( 3 ) on s , action keep ( 1 / 0 ) on s end end") (ascii "by n s.e\na 1 4\na 2 5\na 3 5\na 4 4\n") ≡ ascii "by n s.keep\na 1 2\na 2 3\na 3 -\na 4 2\n"
+pub run-first-write-stands : replay (ascii "interface S { event e : whole action keep ( whole ) } entity s : S { } rules when event e from s value = 5 trigger action keep ( 1 / 0 ) on s , action keep ( 3 ) on s end when event e from s value changed trigger action keep ( 1 ) on s , action keep ( 2 ) on s end end") (ascii "by n s.e\na 1 4\na 2 5\na 3 5\na 4 4\n") ≡ ascii "by n s.keep\na 1 1\na 2 3\na 3 -\na 4 1\n"
 unfolding replay ascii
     Ieee.add Ieee.sub Ieee.mul Ieee.div Ieee.neg Ieee.eq Ieee.ofInt Ieee.ofBits Ieee.toBits Ieee.isNan
-run-last-write-stands = refl
+run-first-write-stands = refl
 
 pub run-changed-and-unset : replay (ascii "interface I { attribute a : whole event e : whole action k ( whole ) } entity s : I { a = 1 } rules when event e from s value changed trigger action k ( 1 ) on s end end") (ascii "by n s.e\na 1 -\na 2 5\na 3 5\na 4 ?\na 5 ?\na 6 -\na 7 5\na 8 -\na 9 6\n") ≡ ascii "by n s.k\na 1 -\na 2 1\na 3 -\na 4 1\na 5 -\na 6 -\na 7 1\na 8 -\na 9 1\n"
 unfolding replay ascii
@@ -389,7 +389,122 @@ unfolding replay ascii
     Ieee.add Ieee.sub Ieee.mul Ieee.div Ieee.neg Ieee.eq Ieee.ofInt Ieee.ofBits Ieee.toBits Ieee.isNan
 run-nine-senders-42-before-23 = refl
 
-pub run-random : replay (ascii "interface D { attribute id : whole event on_ : bool event v : whole action set ( whole ) action flag ( bool ) } interface H { event w : whole action sum ( whole ) } entity a : D { id = 1 } entity b : D { id = 2 } entity h : H { } rules when event v from x : D value changed and ( event on_ from y : D with id = 3 - x.id value changed or event w from h value = x.v ) trigger action sum ( x.v * 10 + y.id ) on h , action flag ( y.on_ ) on x with id = 1 end when event sum from h value changed trigger action set ( h.sum - z.v ) on z : D end when event set from x : D value = x.v or event flag from a value = true trigger action sum ( - h.w / x.id ) on h end end") (ascii "by n a.on_ a b.on_ b b.v a.v h.w\nx_1 1 false - true false 2 2 2\nwest 1 ? - ? - -3 0 -3\nx_1 1 - true true true 0 2 1\nx_1 2 ? - true - ? -3 1\neast 1 false - ? true 1 -3 2\nwest 1 ? - ? - -3 0 -3\nx_1 2 ? - true - ? -3 1\nx_1 2 ? - true - ? -3 1\nwest 1 ? - ? - -3 0 -3\neast 1 true - true false 1 1 2\nwest 2 ? true false - 2 2 0\neast 2 true - false - 2 0 1\n") ≡ ascii "by n a.set a.flag b.set b.flag h.sum\nrefused 23\nwest 1 - - - - -28\nx_1 1 -30 true -28 - 22\nx_1 2 25 - - - -1\neast 1 2 - -2 - 11\nwest 1 - - - - -28\nx_1 2 25 - - - -1\nx_1 2 25 - - - -1\nwest 1 - - - - -28\nrefused 23\nwest 2 9 false 9 - 0\neast 2 0 - -2 - -\n"
+pub run-rank-higher-first : replay (ascii "interface B { event x : whole event y : whole event z : whole } interface L { action set ( whole ) } entity b : B { } entity l : L { } rules when rank 5 event x from b value changed trigger action set ( b.x ) on l end when rank 2 event y from b value changed trigger action set ( b.y ) on l end end") (ascii "by n b.x b.y\na 1 1 2\na 2 - 3\na 3 4 -\na 4 5 6\na 5 - -\na 6 ? 7\n") ≡ ascii "by n l.set\na 1 1\na 2 3\na 3 4\na 4 5\na 5 -\na 6 7\n"
+unfolding replay ascii
+    Ieee.add Ieee.sub Ieee.mul Ieee.div Ieee.neg Ieee.eq Ieee.ofInt Ieee.ofBits Ieee.toBits Ieee.isNan
+run-rank-higher-first = refl
+
+pub run-rank-higher-last : replay (ascii "interface B { event x : whole event y : whole event z : whole } interface L { action set ( whole ) } entity b : B { } entity l : L { } rules when rank 2 event y from b value changed trigger action set ( b.y ) on l end when rank 5 event x from b value changed trigger action set ( b.x ) on l end end") (ascii "by n b.x b.y\na 1 1 2\na 2 - 3\na 3 4 -\na 4 5 6\na 5 - -\na 6 ? 7\n") ≡ ascii "by n l.set\na 1 1\na 2 3\na 3 4\na 4 5\na 5 -\na 6 7\n"
+unfolding replay ascii
+    Ieee.add Ieee.sub Ieee.mul Ieee.div Ieee.neg Ieee.eq Ieee.ofInt Ieee.ofBits Ieee.toBits Ieee.isNan
+run-rank-higher-last = refl
+
+pub run-rank-equal : replay (ascii "interface B { event x : whole event y : whole event z : whole } interface L { action set ( whole ) } entity b : B { } entity l : L { } rules when rank 4 event y from b value changed trigger action set ( b.y ) on l end when rank 4 event x from b value changed trigger action set ( b.x ) on l end end") (ascii "by n b.x b.y\na 1 1 2\na 2 3 -\na 3 - 4\na 4 5 6\na 5 6 ?\n") ≡ ascii "by n l.set\na 1 2\na 2 3\na 3 4\na 4 6\na 5 6\n"
+unfolding replay ascii
+    Ieee.add Ieee.sub Ieee.mul Ieee.div Ieee.neg Ieee.eq Ieee.ofInt Ieee.ofBits Ieee.toBits Ieee.isNan
+run-rank-equal = refl
+
+pub run-rank-refused-bench : replay (ascii "interface B { event x : whole event y : whole event z : whole } interface L { action set ( whole ) } entity b : B { } entity l : L { } rules when rank 9 event x from b value changed trigger action set ( b.x ) on l end when rank 10 event y from b value changed trigger action set ( b.y ) on l end end") (ascii "by n b.x\na 1 1\n") ≡ ascii "refused 44 228\n"
+unfolding replay ascii
+    Ieee.add Ieee.sub Ieee.mul Ieee.div Ieee.neg Ieee.eq Ieee.ofInt Ieee.ofBits Ieee.toBits Ieee.isNan
+run-rank-refused-bench = refl
+
+pub run-rank-0-and-none : replay (ascii "interface B { event x : whole event y : whole event z : whole } interface L { action set ( whole ) } entity b : B { } entity l : L { } rules when event x from b value changed trigger action set ( b.x ) on l end when rank 0 event y from b value changed trigger action set ( b.y ) on l end when event z from b value changed trigger action set ( b.z ) on l end end") (ascii "by n b.x b.y b.z\na 1 1 2 3\na 2 - 4 5\na 3 6 - 7\na 4 - - 8\n") ≡ ascii "by n l.set\na 1 1\na 2 4\na 3 6\na 4 8\n"
+unfolding replay ascii
+    Ieee.add Ieee.sub Ieee.mul Ieee.div Ieee.neg Ieee.eq Ieee.ofInt Ieee.ofBits Ieee.toBits Ieee.isNan
+run-rank-0-and-none = refl
+
+pub run-rank-earliest-of-the-highest : replay (ascii "interface B { event x : whole event y : whole event z : whole } interface L { action set ( whole ) } entity b : B { } entity l : L { } rules when rank 5 event x from b value changed trigger action set ( b.x ) on l end when rank 9 event y from b value changed trigger action set ( b.y ) on l end when rank 9 event z from b value changed trigger action set ( b.z ) on l end end") (ascii "by n b.x b.y b.z\na 1 1 2 3\na 2 4 - 5\na 3 6 7 -\na 4 8 - -\na 5 - 9 10\n") ≡ ascii "by n l.set\na 1 2\na 2 5\na 3 7\na 4 8\na 5 9\n"
+unfolding replay ascii
+    Ieee.add Ieee.sub Ieee.mul Ieee.div Ieee.neg Ieee.eq Ieee.ofInt Ieee.ofBits Ieee.toBits Ieee.isNan
+run-rank-earliest-of-the-highest = refl
+
+pub run-rank-leading-zeros : replay (ascii "interface B { event x : whole event y : whole event z : whole } interface L { action set ( whole ) } entity b : B { } entity l : L { } rules when rank 8 event x from b value changed trigger action set ( b.x ) on l end when rank 09 event y from b value changed trigger action set ( b.y ) on l end when rank 0000000009 event z from b value changed trigger action set ( b.z ) on l end end") (ascii "by n b.x b.y b.z\na 1 1 2 3\na 2 4 - 5\na 3 6 - -\na 4 - 7 8\n") ≡ ascii "by n l.set\na 1 2\na 2 5\na 3 6\na 4 7\n"
+unfolding replay ascii
+    Ieee.add Ieee.sub Ieee.mul Ieee.div Ieee.neg Ieee.eq Ieee.ofInt Ieee.ofBits Ieee.toBits Ieee.isNan
+run-rank-leading-zeros = refl
+
+pub run-rank-safety-first : replay (ascii "interface B { event x : whole event y : whole event z : whole } interface L { action set ( whole ) } entity b : B { } entity l : L { } rules when rank 9 event z from b value = 1 trigger action set ( 0 ) on l end when rank 1 event x from b value changed trigger action set ( b.x ) on l end when event y from b value changed trigger action set ( b.y ) on l end end") (ascii "by n b.x b.y b.z\na 1 5 6 0\na 2 7 8 1\na 3 9 - 1\na 4 - 10 0\na 5 - - 1\na 6 11 12 ?\na 7 13 14 1\na 7 13 14 1\n") ≡ ascii "by n l.set\na 1 5\na 2 0\na 3 9\na 4 10\na 5 0\na 6 11\na 7 0\na 7 0\n"
+unfolding replay ascii
+    Ieee.add Ieee.sub Ieee.mul Ieee.div Ieee.neg Ieee.eq Ieee.ofInt Ieee.ofBits Ieee.toBits Ieee.isNan
+run-rank-safety-first = refl
+
+pub run-rank-safety-in-the-middle : replay (ascii "interface B { event x : whole event y : whole event z : whole } interface L { action set ( whole ) } entity b : B { } entity l : L { } rules when rank 1 event x from b value changed trigger action set ( b.x ) on l end when rank 9 event z from b value = 1 trigger action set ( 0 ) on l end when event y from b value changed trigger action set ( b.y ) on l end end") (ascii "by n b.x b.y b.z\na 1 5 6 0\na 2 7 8 1\na 3 9 - 1\na 4 - 10 0\na 5 - - 1\na 6 11 12 ?\na 7 13 14 1\na 7 13 14 1\n") ≡ ascii "by n l.set\na 1 5\na 2 0\na 3 9\na 4 10\na 5 0\na 6 11\na 7 0\na 7 0\n"
+unfolding replay ascii
+    Ieee.add Ieee.sub Ieee.mul Ieee.div Ieee.neg Ieee.eq Ieee.ofInt Ieee.ofBits Ieee.toBits Ieee.isNan
+run-rank-safety-in-the-middle = refl
+
+pub run-rank-safety-last : replay (ascii "interface B { event x : whole event y : whole event z : whole } interface L { action set ( whole ) } entity b : B { } entity l : L { } rules when rank 1 event x from b value changed trigger action set ( b.x ) on l end when event y from b value changed trigger action set ( b.y ) on l end when rank 9 event z from b value = 1 trigger action set ( 0 ) on l end end") (ascii "by n b.x b.y b.z\na 1 5 6 0\na 2 7 8 1\na 3 9 - 1\na 4 - 10 0\na 5 - - 1\na 6 11 12 ?\na 7 13 14 1\na 7 13 14 1\n") ≡ ascii "by n l.set\na 1 5\na 2 0\na 3 9\na 4 10\na 5 0\na 6 11\na 7 0\na 7 0\n"
+unfolding replay ascii
+    Ieee.add Ieee.sub Ieee.mul Ieee.div Ieee.neg Ieee.eq Ieee.ofInt Ieee.ofBits Ieee.toBits Ieee.isNan
+run-rank-safety-last = refl
+
+pub run-rank-first-choice-stands : replay (ascii "interface B { attribute id : whole event t : whole } interface L { action set ( whole ) } entity c : B { id = 2 } entity b : B { id = 1 } entity d : B { id = 3 } entity l : L { } rules when rank 3 event t from x : B value changed trigger action set ( x.id ) on l end end") (ascii "by n b.t c.t d.t c\na 1 1 1 1 -\na 2 2 - 2 -\na 3 - - 3 -\na 4 3 - 4 false\na 5 - 4 5 true\n") ≡ ascii "by n l.set\na 1 2\na 2 1\na 3 3\na 4 1\na 5 2\n"
+unfolding replay ascii
+    Ieee.add Ieee.sub Ieee.mul Ieee.div Ieee.neg Ieee.eq Ieee.ofInt Ieee.ofBits Ieee.toBits Ieee.isNan
+run-rank-first-choice-stands = refl
+
+pub run-rank-choices-of-two-rules : replay (ascii "interface B { attribute id : whole event t : whole } interface L { action set ( whole ) } entity c : B { id = 2 } entity b : B { id = 1 } entity d : B { id = 3 } entity l : L { } rules when rank 1 event t from x : B value changed trigger action set ( x.id ) on l end when rank 2 event t from x : B value = 7 trigger action set ( x.id * 10 ) on l end end") (ascii "by n b.t c.t d.t\na 1 7 1 7\na 2 1 7 1\na 3 2 3 4\na 4 - - 7\na 5 7 - -\na 6 8 7 7\n") ≡ ascii "by n l.set\na 1 10\na 2 20\na 3 2\na 4 30\na 5 10\na 6 20\n"
+unfolding replay ascii
+    Ieee.add Ieee.sub Ieee.mul Ieee.div Ieee.neg Ieee.eq Ieee.ofInt Ieee.ofBits Ieee.toBits Ieee.isNan
+run-rank-choices-of-two-rules = refl
+
+pub run-rank-first-call-stands : replay (ascii "interface B { event x : whole event y : whole event z : whole } interface L { action set ( whole ) } entity b : B { } entity l : L { } rules when rank 2 event y from b value changed trigger action set ( b.y ) on l end when rank 7 event x from b value changed trigger action set ( 12 / b.x ) on l , action set ( b.x ) on l , action set ( 99 ) on l end end") (ascii "by n b.x b.y\na 1 4 1\na 2 0 2\na 3 ? 3\na 4 - 5\na 5 -5 6\n") ≡ ascii "by n l.set\na 1 3\na 2 0\na 3 99\na 4 5\na 5 -3\n"
+unfolding replay ascii
+    Ieee.add Ieee.sub Ieee.mul Ieee.div Ieee.neg Ieee.eq Ieee.ofInt Ieee.ofBits Ieee.toBits Ieee.isNan
+run-rank-first-call-stands = refl
+
+pub run-rank-unset-parameter : replay (ascii "interface B { event x : whole event y : whole event z : whole } interface L { action set ( whole ) } entity b : B { } entity l : L { } rules when rank 9 event x from b value changed trigger action set ( 12 / b.x ) on l end when event y from b value changed trigger action set ( b.y ) on l end end") (ascii "by n b.x b.y\na 1 0 5\na 2 3 6\na 3 ? 7\na 4 2 -\na 5 0 -\na 6 - 8\n") ≡ ascii "by n l.set\na 1 5\na 2 4\na 3 7\na 4 6\na 5 -\na 6 8\n"
+unfolding replay ascii
+    Ieee.add Ieee.sub Ieee.mul Ieee.div Ieee.neg Ieee.eq Ieee.ofInt Ieee.ofBits Ieee.toBits Ieee.isNan
+run-rank-unset-parameter = refl
+
+pub run-rank-call-filter : replay (ascii "interface B { event x : whole event y : whole event z : whole } interface L { attribute id : whole action set ( whole ) } entity b : B { } entity l : L { id = 2 } rules when rank 9 event x from b value changed trigger action set ( 0 ) on l with id = b.z end when rank 8 event y from b value changed trigger action set ( b.y ) on l end end") (ascii "by n b.x b.y b.z\na 1 1 5 2\na 2 2 6 3\na 3 3 7 2\na 4 4 8 ?\na 5 5 - -\na 6 - 9 2\n") ≡ ascii "by n l.set\na 1 0\na 2 6\na 3 0\na 4 8\na 5 -\na 6 9\n"
+unfolding replay ascii
+    Ieee.add Ieee.sub Ieee.mul Ieee.div Ieee.neg Ieee.eq Ieee.ofInt Ieee.ofBits Ieee.toBits Ieee.isNan
+run-rank-call-filter = refl
+
+pub run-rank-absent-guard : replay (ascii "interface B { event x : whole event y : whole event z : whole } interface L { action set ( whole ) } interface G { event stop : bool } entity b : B { } entity l : L { } entity g : G { } entity h : G { } rules when event x from b value changed trigger action set ( b.x ) on l end when rank 9 event stop from g value = true trigger action set ( 0 ) on l end when rank 5 event stop from v : G value = true trigger action set ( 1 ) on l end end") (ascii "by n b.x g g.stop h.stop\na 1 5 - true false\na 2 6 false - true\na 3 7 - - -\na 4 8 true true false\na 5 9 - false true\na 6 10 false - -\na 7 11 - true -\na 7 11 - - -\n") ≡ ascii "by n l.set\na 1 0\na 2 1\na 3 7\na 4 0\na 5 1\na 6 10\nrefused 23\na 7 11\n"
+unfolding replay ascii
+    Ieee.add Ieee.sub Ieee.mul Ieee.div Ieee.neg Ieee.eq Ieee.ofInt Ieee.ofBits Ieee.toBits Ieee.isNan
+run-rank-absent-guard = refl
+
+pub run-rank-absent-lamp : replay (ascii "interface B { event x : whole event y : whole event z : whole } interface L { action set ( whole ) } entity b : B { } entity l : L { } entity m : L { } rules when event x from b value changed trigger action set ( b.x ) on v : L end when rank 9 event y from b value changed trigger action set ( 0 ) on l end end") (ascii "by n b.x b.y l\na 1 1 1 -\na 2 2 2 false\na 3 - 3 -\na 4 3 4 true\na 5 4 - -\na 6 - 5 -\n") ≡ ascii "by n l.set m.set\na 1 0 1\na 2 - 2\na 3 - -\na 4 0 3\na 5 4 4\na 6 0 -\n"
+unfolding replay ascii
+    Ieee.add Ieee.sub Ieee.mul Ieee.div Ieee.neg Ieee.eq Ieee.ofInt Ieee.ofBits Ieee.toBits Ieee.isNan
+run-rank-absent-lamp = refl
+
+pub run-rank-for-each-cell : replay (ascii "interface B { event x : whole event y : whole event z : whole } interface O { action o ( whole ) action p ( whole ) } entity b : B { } entity z : O { } rules when rank 2 event x from b value changed trigger action o ( b.x ) on z , action p ( b.x ) on z end when rank 3 event y from b value changed trigger action p ( b.y ) on z end when rank 1 event z from b value changed trigger action o ( b.z ) on z , action p ( b.z ) on z end end") (ascii "by n b.x b.y b.z\na 1 1 2 3\na 2 - 4 5\na 3 6 - 7\na 4 - 8 -\na 5 - - 9\na 6 ? 10 11\n") ≡ ascii "by n z.o z.p\na 1 1 2\na 2 5 4\na 3 6 6\na 4 - 8\na 5 9 9\na 6 11 10\n"
+unfolding replay ascii
+    Ieee.add Ieee.sub Ieee.mul Ieee.div Ieee.neg Ieee.eq Ieee.ofInt Ieee.ofBits Ieee.toBits Ieee.isNan
+run-rank-for-each-cell = refl
+
+pub run-rank-of-all-kinds : replay (ascii "interface B { event r : real event s : real event p : bool event q : bool } interface L { action glow ( real ) action lit ( bool ) } entity b : B { } entity l : L { } rules when event r from b value changed trigger action glow ( b.r ) on l , action lit ( b.p ) on l end when rank 1 event s from b value changed trigger action glow ( b.s ) on l , action lit ( b.q ) on l end end") (ascii "by n b.r b.s b.p b.q\na 1 0000000000000000 8000000000000000 true false\na 2 3ff0000000000000 0000000000000000 - -\na 3 - bff0000000000000 false ?\na 4 4000000000000000 ? - true\n") ≡ ascii "by n l.glow l.lit\na 1 8000000000000000 false\na 2 3ff0000000000000 true\na 3 bff0000000000000 -\na 4 4000000000000000 true\n"
+unfolding replay ascii
+    Ieee.add Ieee.sub Ieee.mul Ieee.div Ieee.neg Ieee.eq Ieee.ofInt Ieee.ofBits Ieee.toBits Ieee.isNan
+run-rank-of-all-kinds = refl
+
+pub run-rank-of-whole-condition : replay (ascii "interface B { event x : whole event y : whole event z : whole } interface L { action set ( whole ) } entity b : B { } entity l : L { } rules when rank 1 event x from b value changed trigger action set ( b.x ) on l end when rank 2 ( event x from b value changed or event y from b value changed ) and event z from b value changed trigger action set ( 0 ) on l end end") (ascii "by n b.x b.y b.z\na 1 1 - 1\na 2 2 - -\na 3 - 1 2\na 4 - 2 -\na 5 3 4 3\na 6 - - 4\n") ≡ ascii "by n l.set\na 1 0\na 2 2\na 3 0\na 4 -\na 5 0\na 6 -\n"
+unfolding replay ascii
+    Ieee.add Ieee.sub Ieee.mul Ieee.div Ieee.neg Ieee.eq Ieee.ofInt Ieee.ofBits Ieee.toBits Ieee.isNan
+run-rank-of-whole-condition = refl
+
+pub run-rank-action-seen-one-cycle-later : replay (ascii "interface B { event x : whole event y : whole event z : whole } interface L { action set ( whole ) action o ( whole ) } entity b : B { } entity l : L { } rules when rank 9 event set from l value changed trigger action o ( l.set ) on l end when event x from b value changed trigger action set ( b.x ) on l end when rank 5 event y from b value changed trigger action set ( b.y ) on l end end") (ascii "by n b.x b.y\na 1 1 2\na 2 3 -\na 3 4 5\na 4 - -\na 5 - -\na 6 6 -\na 7 7 7\n") ≡ ascii "by n l.set l.o\na 1 2 -\na 2 3 2\na 3 5 3\na 4 - 5\na 5 - -\na 6 6 -\na 7 7 6\n"
+unfolding replay ascii
+    Ieee.add Ieee.sub Ieee.mul Ieee.div Ieee.neg Ieee.eq Ieee.ofInt Ieee.ofBits Ieee.toBits Ieee.isNan
+run-rank-action-seen-one-cycle-later = refl
+
+pub run-rank-feeds-itself : replay (ascii "interface B { event x : whole event y : whole event z : whole } interface L { action set ( whole ) } entity b : B { } entity l : L { } rules when event x from b value changed trigger action set ( b.x ) on l end when rank 9 event set from l value changed trigger action set ( l.set - 1 ) on l end end") (ascii "by n b.x l\na 1 5 -\na 2 9 -\na 3 - -\na 4 7 -\na 4 7 -\na 5 - -\na 6 - false\na 7 8 true\na 8 9 -\n") ≡ ascii "by n l.set\na 1 5\na 2 4\na 3 3\na 4 2\na 4 2\na 5 1\na 6 -\na 7 8\na 8 7\n"
+unfolding replay ascii
+    Ieee.add Ieee.sub Ieee.mul Ieee.div Ieee.neg Ieee.eq Ieee.ofInt Ieee.ofBits Ieee.toBits Ieee.isNan
+run-rank-feeds-itself = refl
+
+pub run-rank-resent : replay (ascii "interface B { event x : whole event y : whole event z : whole } interface L { action set ( whole ) } entity b : B { } entity l : L { } rules when event y from b value changed trigger action set ( b.y ) on l end when rank 1 event x from b value changed trigger action set ( b.x ) on l end end") (ascii "by n b.x b.y\na 1 1 2\nc 1 - 3\na 1 1 2\nc 1 - 3\na 1 1 3\nc 2 4 5\na 1 1 2\na 2 - 6\nc 2 4 5\n") ≡ ascii "by n l.set\na 1 1\nc 1 3\na 1 1\nc 1 3\nrefused 25\nc 2 4\na 1 1\na 2 6\nc 2 4\n"
+unfolding replay ascii
+    Ieee.add Ieee.sub Ieee.mul Ieee.div Ieee.neg Ieee.eq Ieee.ofInt Ieee.ofBits Ieee.toBits Ieee.isNan
+run-rank-resent = refl
+
+pub run-random : replay (ascii "interface D { attribute id : whole event on_ : bool event v : whole action set ( whole ) action flag ( bool ) } interface H { event w : whole action sum ( whole ) } entity a : D { id = 1 } entity b : D { id = 2 } entity h : H { } rules when event v from x : D value changed and ( event on_ from y : D with id = 3 - x.id value changed or event w from h value = x.v ) trigger action sum ( x.v * 10 + y.id ) on h , action flag ( y.on_ ) on x with id = 1 end when event sum from h value changed trigger action set ( h.sum - z.v ) on z : D end when event set from x : D value = x.v or event flag from a value = true trigger action sum ( - h.w / x.id ) on h end end") (ascii "by n a.on_ a b.on_ b b.v a.v h.w\nx_1 1 false - true false 2 2 2\nwest 1 ? - ? - -3 0 -3\nx_1 1 - true true true 0 2 1\nx_1 2 ? - true - ? -3 1\neast 1 false - ? true 1 -3 2\nwest 1 ? - ? - -3 0 -3\nx_1 2 ? - true - ? -3 1\nx_1 2 ? - true - ? -3 1\nwest 1 ? - ? - -3 0 -3\neast 1 true - true false 1 1 2\nwest 2 ? true false - 2 2 0\neast 2 true - false - 2 0 1\n") ≡ ascii "by n a.set a.flag b.set b.flag h.sum\nrefused 23\nwest 1 - - - - -29\nx_1 1 -31 true -29 - 22\nx_1 2 25 - - - -1\neast 1 2 - -2 - 11\nwest 1 - - - - -29\nx_1 2 25 - - - -1\nx_1 2 25 - - - -1\nwest 1 - - - - -29\nrefused 23\nwest 2 9 false 9 - 22\neast 2 22 - 20 - -\n"
 unfolding replay ascii
     Ieee.add Ieee.sub Ieee.mul Ieee.div Ieee.neg Ieee.eq Ieee.ofInt Ieee.ofBits Ieee.toBits Ieee.isNan
 run-random = refl

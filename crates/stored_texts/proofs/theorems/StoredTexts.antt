@@ -239,3 +239,163 @@ kind-inner-fault-silences-outer = refl
 pub kind-bool-beside-inner-fault : verdict-answer (verdict (ascii "interface I { attribute a : whole event e : whole action k ( whole ) } interface J { attribute c : bool event f : bool action m ( bool ) } entity s : I { a = 1 } entity t : J { c = true } rules when event f from t value = true + ( 1 + 2r ) trigger action m ( 1 ) on t end end")) ≡ 18 + 256 * 227
 unfolding verdict verdict-answer ascii
 kind-bool-beside-inner-fault = refl
+
+pub rank-0 : verdict-answer (verdict (ascii "interface I { event e : whole action k ( whole ) } entity s : I { } rules when rank 0 event e from s value changed trigger action k ( 1 ) on s end end")) ≡ 0 + 256 * 0
+unfolding verdict verdict-answer ascii
+rank-0 = refl
+
+pub rank-9 : verdict-answer (verdict (ascii "interface I { event e : whole action k ( whole ) } entity s : I { } rules when rank 9 event e from s value changed trigger action k ( 1 ) on s end end")) ≡ 0 + 256 * 0
+unfolding verdict verdict-answer ascii
+rank-9 = refl
+
+pub rank-09 : verdict-answer (verdict (ascii "interface I { event e : whole action k ( whole ) } entity s : I { } rules when rank 09 event e from s value changed trigger action k ( 1 ) on s end end")) ≡ 0 + 256 * 0
+unfolding verdict verdict-answer ascii
+rank-09 = refl
+
+pub rank-009 : verdict-answer (verdict (ascii "interface I { event e : whole action k ( whole ) } entity s : I { } rules when rank 009 event e from s value changed trigger action k ( 1 ) on s end end")) ≡ 0 + 256 * 0
+unfolding verdict verdict-answer ascii
+rank-009 = refl
+
+pub rank-before-bracket : verdict-answer (verdict (ascii "interface I { event e : whole action k ( whole ) } entity s : I { } rules when rank 3 ( event e from s value changed or event e from s value changed ) trigger action k ( 1 ) on s end end")) ≡ 0 + 256 * 0
+unfolding verdict verdict-answer ascii
+rank-before-bracket = refl
+
+pub rank-is-no-opener : verdict-answer (verdict (ascii "interface I { event e : whole action k ( whole ) } entity s : I { } rules when rank 3((((((((((((((((event e from s value changed))))))))))))))))trigger action k ( 1 ) on s end end")) ≡ 0 + 256 * 0
+unfolding verdict verdict-answer ascii
+rank-is-no-opener = refl
+
+pub rank-of-some-rules : verdict-answer (verdict (ascii "interface I { event e : whole action k ( whole ) } entity s : I { } rules when rank 2 event e from s value changed trigger action k ( 1 ) on s end when event e from s value changed trigger action k ( 1 ) on s end when rank 2 event e from s value changed trigger action k ( 1 ) on s end end")) ≡ 0 + 256 * 0
+unfolding verdict verdict-answer ascii
+rank-of-some-rules = refl
+
+pub rank-tight-words : verdict-answer (verdict (ascii "interface I { event e : whole action k ( whole ) } entity s : I { } rules when rank#9\n8event e from s value changed trigger action k ( 1 ) on s end end")) ≡ 0 + 256 * 0
+unfolding verdict verdict-answer ascii
+rank-tight-words = refl
+
+pub rank-in-longer-names : verdict-answer (verdict (ascii "interface Rank { attribute ranks : whole event rank_ : whole action rank1 ( whole ) } entity RANK : Rank { ranks = 1 } rules when rank 1 event rank_ from ranks : Rank value changed trigger action rank1 ( ranks.ranks ) on ranks end end")) ≡ 0 + 256 * 0
+unfolding verdict verdict-answer ascii
+rank-in-longer-names = refl
+
+pub rank-10 : verdict-answer (verdict (ascii "interface I { event e : whole action k ( whole ) } entity s : I { } rules when rank 10 event e from s value changed trigger action k ( 1 ) on s end end")) ≡ 44 + 256 * 84
+unfolding verdict verdict-answer ascii
+rank-10 = refl
+
+pub rank-010 : verdict-answer (verdict (ascii "interface I { event e : whole action k ( whole ) } entity s : I { } rules when rank 010 event e from s value changed trigger action k ( 1 ) on s end end")) ≡ 44 + 256 * 84
+unfolding verdict verdict-answer ascii
+rank-010 = refl
+
+pub rank-2147483647 : verdict-answer (verdict (ascii "interface I { event e : whole action k ( whole ) } entity s : I { } rules when rank 2147483647 event e from s value changed trigger action k ( 1 ) on s end end")) ≡ 44 + 256 * 84
+unfolding verdict verdict-answer ascii
+rank-2147483647 = refl
+
+pub rank-2147483648 : verdict-answer (verdict (ascii "interface I { event e : whole action k ( whole ) } entity s : I { } rules when rank 2147483648 event e from s value changed trigger action k ( 1 ) on s end end")) ≡ 12 + 256 * 84
+unfolding verdict verdict-answer ascii
+rank-2147483648 = refl
+
+pub rank-real : verdict-answer (verdict (ascii "interface I { event e : whole action k ( whole ) } entity s : I { } rules when rank 3r event e from s value changed trigger action k ( 1 ) on s end end")) ≡ 13 + 256 * 84
+unfolding verdict verdict-answer ascii
+rank-real = refl
+
+pub rank-real-above-9 : verdict-answer (verdict (ascii "interface I { event e : whole action k ( whole ) } entity s : I { } rules when rank 10r event e from s value changed trigger action k ( 1 ) on s end end")) ≡ 13 + 256 * 84
+unfolding verdict verdict-answer ascii
+rank-real-above-9 = refl
+
+pub rank-minus : verdict-answer (verdict (ascii "interface I { event e : whole action k ( whole ) } entity s : I { } rules when rank -1 event e from s value changed trigger action k ( 1 ) on s end end")) ≡ 13 + 256 * 84
+unfolding verdict verdict-answer ascii
+rank-minus = refl
+
+pub rank-without-number : verdict-answer (verdict (ascii "interface I { event e : whole action k ( whole ) } entity s : I { } rules when rank event e from s value changed trigger action k ( 1 ) on s end end")) ≡ 13 + 256 * 84
+unfolding verdict verdict-answer ascii
+rank-without-number = refl
+
+pub rank-twice : verdict-answer (verdict (ascii "interface I { event e : whole action k ( whole ) } entity s : I { } rules when rank 1 rank 2 event e from s value changed trigger action k ( 1 ) on s end end")) ≡ 13 + 256 * 86
+unfolding verdict verdict-answer ascii
+rank-twice = refl
+
+pub rank-before-when : verdict-answer (verdict (ascii "interface I { event e : whole action k ( whole ) } entity s : I { } rules rank 1 when event e from s value changed trigger action k ( 1 ) on s end end")) ≡ 13 + 256 * 74
+unfolding verdict verdict-answer ascii
+rank-before-when = refl
+
+pub rank-after-condition : verdict-answer (verdict (ascii "interface I { event e : whole action k ( whole ) } entity s : I { } rules when event e from s value changed rank 1 trigger action k ( 1 ) on s end end")) ≡ 13 + 256 * 108
+unfolding verdict verdict-answer ascii
+rank-after-condition = refl
+
+pub rank-ends-the-text : verdict-answer (verdict (ascii "rules when rank # 1\n")) ≡ 13 + 256 * 20
+unfolding verdict verdict-answer ascii
+rank-ends-the-text = refl
+
+pub rank-10-ends-the-text : verdict-answer (verdict (ascii "rules when rank 10")) ≡ 13 + 256 * 18
+unfolding verdict verdict-answer ascii
+rank-10-ends-the-text = refl
+
+pub rank-names-interface : verdict-answer (verdict (ascii "interface rank { } rules end")) ≡ 13 + 256 * 10
+unfolding verdict verdict-answer ascii
+rank-names-interface = refl
+
+pub rank-names-attribute : verdict-answer (verdict (ascii "interface I { attribute rank : whole } rules end")) ≡ 13 + 256 * 24
+unfolding verdict verdict-answer ascii
+rank-names-attribute = refl
+
+pub rank-names-event : verdict-answer (verdict (ascii "interface I { event rank : whole } rules end")) ≡ 13 + 256 * 20
+unfolding verdict verdict-answer ascii
+rank-names-event = refl
+
+pub rank-names-entity : verdict-answer (verdict (ascii "interface I { } entity rank : I { } rules end")) ≡ 13 + 256 * 23
+unfolding verdict verdict-answer ascii
+rank-names-entity = refl
+
+pub rank-names-variable : verdict-answer (verdict (ascii "interface I { event e : whole action k ( whole ) } entity s : I { } rules when event e from rank : I value changed trigger action k ( 1 ) on s end end")) ≡ 13 + 256 * 92
+unfolding verdict verdict-answer ascii
+rank-names-variable = refl
+
+pub rank-assigned : verdict-answer (verdict (ascii "interface I { } entity s : I { rank = 1 } rules end")) ≡ 13 + 256 * 31
+unfolding verdict verdict-answer ascii
+rank-assigned = refl
+
+pub rank-first-above-9 : verdict-answer (verdict (ascii "interface I { event e : whole action k ( whole ) } entity s : I { } rules when rank 9 event e from s value changed trigger action k ( 1 ) on s end when rank 11 event e from s value changed trigger action k ( 1 ) on s end when rank 12 event e from s value changed trigger action k ( 1 ) on s end when rank 10 event e from s value changed trigger action k ( 1 ) on s end end")) ≡ 44 + 256 * 157
+unfolding verdict verdict-answer ascii
+rank-first-above-9 = refl
+
+pub rank-after-12 : verdict-answer (verdict (ascii "interface I { event e : whole action k ( whole ) } entity s : I { } rules when rank 10 event e from s value changed trigger action k ( 1 ) on s end end ;")) ≡ 12 + 256 * 152
+unfolding verdict verdict-answer ascii
+rank-after-12 = refl
+
+pub rank-after-13 : verdict-answer (verdict (ascii "interface I { event e : whole action k ( whole ) } entity s : I { } rules when rank 10 event e from s value changed trigger action k ( 1 ) on s end when event e from s value changed trigger end end")) ≡ 13 + 256 * 190
+unfolding verdict verdict-answer ascii
+rank-after-13 = refl
+
+pub rank-after-13-of-a-rank : verdict-answer (verdict (ascii "interface I { event e : whole action k ( whole ) } entity s : I { } rules when rank 10 event e from s value changed trigger action k ( 1 ) on s end when rank 9r event e from s value changed trigger action k ( 1 ) on s end end")) ≡ 13 + 256 * 158
+unfolding verdict verdict-answer ascii
+rank-after-13-of-a-rank = refl
+
+pub rank-before-14-interfaces : verdict-answer (verdict (ascii "interface A { } interface A { } interface A { } interface A { } interface A { } interface A { } interface A { } interface A { } interface A { } interface A { } interface A { } interface A { } interface A { } interface A { } interface A { } interface A { } interface A { } rules when rank 10 event e from s value changed trigger action k ( 1 ) on s end end")) ≡ 44 + 256 * 288
+unfolding verdict verdict-answer ascii
+rank-before-14-interfaces = refl
+
+pub rank-before-14-variables : verdict-answer (verdict (ascii "interface I { event e : whole action k ( whole ) } entity s : I { } rules when event e from x : I value changed and event e from y : I value changed trigger action k ( 1 ) on z : I , action k ( 1 ) on w : I end when rank 10 event e from s value changed trigger action k ( 1 ) on s end end")) ≡ 44 + 256 * 221
+unfolding verdict verdict-answer ascii
+rank-before-14-variables = refl
+
+pub rank-before-14-clauses : verdict-answer (verdict (ascii "interface I { event e : whole action k ( whole ) } entity s : I { } rules when event e from s value changed or event e from s value changed or event e from s value changed or event e from s value changed or event e from s value changed or event e from s value changed or event e from s value changed or event e from s value changed or event e from s value changed trigger action k ( 1 ) on s end when rank 10 event e from s value changed trigger action k ( 1 ) on s end end")) ≡ 44 + 256 * 406
+unfolding verdict verdict-answer ascii
+rank-before-14-clauses = refl
+
+pub rank-before-14-calls : verdict-answer (verdict (ascii "interface I { event e : whole action k ( whole ) } entity s : I { } rules when event e from s value changed trigger action k ( 1 ) on s , action k ( 1 ) on s , action k ( 1 ) on s , action k ( 1 ) on s , action k ( 1 ) on s , action k ( 1 ) on s , action k ( 1 ) on s , action k ( 1 ) on s , action k ( 1 ) on s end when rank 10 event e from s value changed trigger action k ( 1 ) on s end end")) ≡ 44 + 256 * 326
+unfolding verdict verdict-answer ascii
+rank-before-14-calls = refl
+
+pub rank-before-15 : verdict-answer (verdict (ascii "interface A { } interface A { } rules when rank 10 event e from s value changed trigger action k ( 1 ) on s end end")) ≡ 44 + 256 * 48
+unfolding verdict verdict-answer ascii
+rank-before-15 = refl
+
+pub rank-before-16 : verdict-answer (verdict (ascii "entity s : A { } rules when rank 10 event e from s value changed trigger action k ( 1 ) on s end end")) ≡ 44 + 256 * 33
+unfolding verdict verdict-answer ascii
+rank-before-16 = refl
+
+pub rank-before-17 : verdict-answer (verdict (ascii "interface A { attribute a : whole } entity s : A { } rules when rank 10 event e from s value changed trigger action k ( 1 ) on s end end")) ≡ 44 + 256 * 69
+unfolding verdict verdict-answer ascii
+rank-before-17 = refl
+
+pub rank-before-18 : verdict-answer (verdict (ascii "interface I { attribute a : bool event e : whole action k ( whole ) } entity s : I { a = 1 } rules when rank 10 event e from s value changed trigger action k ( 1 ) on s end end")) ≡ 44 + 256 * 109
+unfolding verdict verdict-answer ascii
+rank-before-18 = refl

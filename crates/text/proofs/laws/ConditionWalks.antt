@@ -8,6 +8,7 @@ use lib.ListN.{length, getD}
 use Rattle.text.specs.definitions.Tokens.{
   Token,
   NAME,
+  WHOLE-NUMBER,
   EVENT,
   ACTION,
   FROM,
@@ -22,8 +23,9 @@ use Rattle.text.specs.definitions.Tokens.{
   COLON,
   EQUALS,
   COMMA,
+  RANK,
 }
-use Rattle.text.specs.definitions.Syntax.{Expression, Target, Filter, Test, changed, equals, Condition, clause, Call, Rule}
+use Rattle.text.specs.definitions.Syntax.{Expression, Target, Filter, Test, changed, equals, Condition, clause, Call, Priority, Rule}
 use Rattle.text.specs.definitions.Readers.{Parser, give, expect, if-next, and-then, joined, many}
 use Rattle.text.specs.definitions.Grammar.{
   name-of,
@@ -43,6 +45,7 @@ use Rattle.text.specs.definitions.Grammar.{
   condition-reader,
   call-reader,
   call-after,
+  priority-reader,
   rule-after,
 }
 use Rattle.text.specs.definitions.Syntax.{OPENERS}
@@ -262,24 +265,49 @@ module _ {C P Q S R : Type 0} {classes : List ℕ} {rows : C → Rows classes} {
         (q (omega (arith, w .onward, b .onward, g .onward, k .onward))) (r (omega (arith, k .onward))) (z e)) refl;
   }
 
+-- a rule's priority
+module _ {C R : Type 0} {classes : List ℕ} {rows : C → Rows classes} {yields : C → Option Priority → R → Type 0} {at : ℕ} {v : R} where
+  pub priority-none : (getD classes at 0 ≡ RANK → ⊥) → ((c : C) → yields c none v) → Walks rows yields priority-reader at v at
+  unfolding priority-reader
+  priority-none n y = record {
+    onward = omega arith;
+    means = λ c l. next-no (rows c) (yields c) RANK _ _ n (give-means (rows c) (yields c) _ (λ k. y c) refl);
+  }
+
+  pub priority-some : getD classes at 0 ≡ RANK → {i next : ℕ} → Steps (length classes) at i → Steps (length classes) i next
+      → ((c : C) → Stands (rows c) i WHOLE-NUMBER
+      → yields c (some (record { number = nth-token (rows c .tokens) i .value; at = nth-token (rows c .tokens) i .at })) v)
+      → Walks rows yields priority-reader at v next
+  unfolding priority-reader
+  priority-some e s t y = record {
+    onward = omega (arith, s .onward, t .onward);
+    means = λ c l.
+        next-yes (rows c) (yields c) RANK _ _ (class-inside classes at e (omega arith)) e
+        (expect-means (rows c) (yields c) RANK _ s λ h₁ e₁.
+        expect-means (rows c) (yields c) WHOLE-NUMBER _ t λ h₂ e₂.
+        give-means (rows c) (yields c) _ (λ k. y c (stands l (omega arith) h₂ e₂ t (omega arith) k)) refl);
+  }
+
 -- after `when`
-module _ {C P Q S R : Type 0} {classes : List ℕ} {rows : C → Rows classes} {conditional : C → Condition → P → Type 0} {called : C → Call → Q → Type 0}
-    {others : C → List Call → S → Type 0} {yields : C → Rule → R → Type 0} {at : ℕ} {v : R} (start : Token) where
-  pub rule-walk : {n m p q next : ℕ} {x : P} {y : Q} {z : S} → Walks rows conditional (condition-reader OPENERS) at x n → Steps (length classes) n m
-      → Walks rows called call-reader m y p → Walks rows others (many COMMA call-after) p z q → Steps (length classes) q next
-      → ((c : C) (a : Condition) (b : Call) (bs : List Call) → conditional c a x → called c b y → others c bs z
-      → yields c (record { at = start .at; condition = a; calls = b ∷ bs }) v)
+module _ {C O P Q S R : Type 0} {classes : List ℕ} {rows : C → Rows classes} {prioritized : C → Option Priority → O → Type 0} {conditional : C → Condition → P → Type 0}
+    {called : C → Call → Q → Type 0} {others : C → List Call → S → Type 0} {yields : C → Rule → R → Type 0} {at : ℕ} {v : R} (start : Token) where
+  pub rule-walk : {o n m p q next : ℕ} {w : O} {x : P} {y : Q} {z : S} → Walks rows prioritized priority-reader at w o
+      → Walks rows conditional (condition-reader OPENERS) o x n → Steps (length classes) n m → Walks rows called call-reader m y p → Walks rows others (many COMMA call-after) p z q → Steps (length classes) q next
+      → ((c : C) (d : Option Priority) (a : Condition) (b : Call) (bs : List Call) → prioritized c d w → conditional c a x → called c b y → others c bs z
+      → yields c (record { at = start .at; priority = d; condition = a; calls = b ∷ bs }) v)
       → Walks rows yields (rule-after start) at v next
   unfolding rule-after
-  rule-walk h s g k u y = record {
-    onward = omega (arith, h .onward, s .onward, g .onward, k .onward, u .onward);
+  rule-walk f h s g k u y = record {
+    onward = omega (arith, f .onward, h .onward, s .onward, g .onward, k .onward, u .onward);
     means = λ c l.
-        then-means (rows c) (yields c) (condition-reader OPENERS) _ (h .means c l) λ a q.
+        then-means (rows c) (yields c) priority-reader _ (f .means c l) λ d o.
+        then-means (rows c) (yields c) (condition-reader OPENERS) _ (h .means c (omega (arith, f .onward))) λ a q.
         expect-means (rows c) (yields c) TRIGGER _ s λ h₁ e₁.
-        then-means (rows c) (yields c) call-reader _ (g .means c (omega (arith, h .onward, s .onward))) λ b r.
-        then-means (rows c) (yields c) (many COMMA call-after) _ (k .means c (omega (arith, h .onward, s .onward, g .onward))) λ bs z.
+        then-means (rows c) (yields c) call-reader _ (g .means c (omega (arith, f .onward, h .onward, s .onward))) λ b r.
+        then-means (rows c) (yields c) (many COMMA call-after) _ (k .means c (omega (arith, f .onward, h .onward, s .onward, g .onward))) λ bs z.
         expect-means (rows c) (yields c) END _ u λ h₂ e₂.
         give-means (rows c) (yields c) _
-        (λ e. y c a b bs (q (omega (arith, s .onward, g .onward, k .onward, u .onward))) (r (omega (arith, k .onward, u .onward)))
+        (λ e. y c d a b bs (o (omega (arith, h .onward, s .onward, g .onward, k .onward, u .onward)))
+        (q (omega (arith, s .onward, g .onward, k .onward, u .onward))) (r (omega (arith, k .onward, u .onward)))
         (z (omega (arith, u .onward)))) refl;
   }

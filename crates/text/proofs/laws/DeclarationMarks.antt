@@ -26,6 +26,7 @@ use Rattle.text.specs.definitions.Tokens.{
   BOOL,
   REAL,
   BRACE-CLOSE,
+  RANK,
 }
 use Rattle.text.specs.definitions.Syntax.{Name, Sort, attribute, event, action, Member, Interface, Entity}
 use Rattle.text.specs.definitions.Readers.{read, Parser, expect, many}
@@ -105,9 +106,9 @@ interface-marks i = interface-mark i ∷ (map member-mark (i .members) ++ close-
 unfoldable pub entity-marks : Entity → List Declared
 entity-marks e = entity-mark e ∷ close-mark ∷ []
 
--- the words with which an item can begin, `interface` to `when`, with `rules`; and `}`
+-- the words with which an item can begin, `interface` to `when`, with `rules`; `}`; and `rank`
 abbrev pub is-leading : ℕ → Bool
-is-leading c = leb INTERFACE c && leb c WHEN || eqb c BRACE-CLOSE
+is-leading c = leb INTERFACE c && leb c WHEN || (eqb c BRACE-CLOSE || eqb c RANK)
 
 module _ {X : Type 0} {ts : List Token} {wanted : ℕ → Bool} {at : ℕ → X → Type 0} where
   -- an item's first token, and those of what it has inside

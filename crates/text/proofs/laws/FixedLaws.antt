@@ -140,9 +140,9 @@ class-bounds low high (f ∷ fs) bs c h e =
         rw s at (between-bounds low high (f .class) first)
     go false d k = k (sym (class-no f fs bs d) ∙ e)
 
-pub reserved-bounds : (bs : List ℕ) (c : ℕ) → class-in reserved bs ≡ some c → (3 ≤ c) × (c ≤ 23)
+pub reserved-bounds : (bs : List ℕ) (c : ℕ) → class-in reserved bs ≡ some c → (3 ≤ c) × (c ≤ 36)
 unfolding classes-within reserved
-reserved-bounds bs c e = class-bounds 3 23 reserved bs c refl e
+reserved-bounds bs c e = class-bounds 3 36 reserved bs c refl e
 
 pub mark-bounds : (bs : List ℕ) (c : ℕ) → class-in marks bs ≡ some c → (24 ≤ c) × (c ≤ 35)
 unfolding classes-within marks

@@ -9,7 +9,7 @@ use lib.Dec.{eqb, leb}
 use lib.ListN.{length, drop, getElem?}
 use lib.Seq.{take-length}
 use borrow.Author.Tests.{eqb-true, leb-true, le-leb}
-use Rattle.text.specs.definitions.Tokens.{Token, INTERFACE, ATTRIBUTE, EVENT, ACTION, ENTITY, RULES, WHEN, END, BRACE-CLOSE, COLON}
+use Rattle.text.specs.definitions.Tokens.{Token, INTERFACE, ATTRIBUTE, EVENT, ACTION, ENTITY, RULES, WHEN, END, BRACE-CLOSE, COLON, RANK}
 use Rattle.text.specs.definitions.Syntax.{
   Sort,
   attribute,
@@ -25,6 +25,7 @@ use Rattle.text.specs.definitions.Syntax.{
   both,
   either,
   Call,
+  Priority,
   Rule,
   File,
 }
@@ -68,8 +69,10 @@ use Rattle.text.proofs.laws.DeclarationMarks.{
 }
 use Rattle.text.proofs.laws.RuleMarks.{
   Rule-at,
+  Priority-at,
   Ruled,
   rule-mark,
+  priority-mark,
   variable-mark,
   clause-mark,
   call-mark,
@@ -77,6 +80,7 @@ use Rattle.text.proofs.laws.RuleMarks.{
   declared-marks,
   condition-marks,
   call-marks,
+  priority-marks,
   rule-marks,
   is-ruling,
   rules-marks,
@@ -181,6 +185,7 @@ declared-class close-mark = BRACE-CLOSE
 
 unfoldable pub ruled-class : Ruled → ℕ
 ruled-class (rule-mark r) = WHEN
+ruled-class (priority-mark k) = RANK
 ruled-class (variable-mark n i) = COLON
 ruled-class (clause-mark c) = EVENT
 ruled-class (call-mark c) = ACTION
@@ -205,18 +210,28 @@ entity-in close-mark = []
 
 unfoldable pub rule-in : Ruled → List Rule
 rule-in (rule-mark r) = r ∷ []
+rule-in (priority-mark k) = []
 rule-in (variable-mark n i) = []
 rule-in (clause-mark c) = []
 rule-in (call-mark c) = []
 
+unfoldable pub priority-in : Ruled → List Priority
+priority-in (rule-mark r) = []
+priority-in (priority-mark k) = k ∷ []
+priority-in (variable-mark n i) = []
+priority-in (clause-mark c) = []
+priority-in (call-mark c) = []
+
 unfoldable pub clause-in : Ruled → List Clause
 clause-in (rule-mark r) = []
+clause-in (priority-mark k) = []
 clause-in (variable-mark n i) = []
 clause-in (clause-mark c) = c ∷ []
 clause-in (call-mark c) = []
 
 unfoldable pub call-in : Ruled → List Call
 call-in (rule-mark r) = []
+call-in (priority-mark k) = []
 call-in (variable-mark n i) = []
 call-in (clause-mark c) = []
 call-in (call-mark c) = c ∷ []
@@ -232,6 +247,7 @@ module _ {ts : List Token} {p : ℕ} where
   pub ruled-class-at : (x : Ruled) → Ruled-at ts p x → Class-at ts p (ruled-class x)
   unfolding ruled-class
   ruled-class-at (rule-mark r) a = class-at (a .starts)
+  ruled-class-at (priority-mark k) a = a .word
   ruled-class-at (variable-mark n i) a = a .colon
   ruled-class-at (clause-mark c) a = record { token = a .token; stands = a .stands; class = a .class }
   ruled-class-at (call-mark c) a = record { token = a .token; stands = a .stands; class = a .class }
@@ -305,12 +321,18 @@ declared-entities f =
 
 -- of what is within rules
 module _ {X : Type 0} (pick : Ruled → List X) where
-  none-within : ((n i : Name) → pick (variable-mark n i) ≡ []) → ((c : Clause) → pick (clause-mark c) ≡ []) → ((c : Call) → pick (call-mark c) ≡ [])
-      → (r : Rule) → flatMap pick (rule-marks r) ≡ []
+  -- a priority alone
+  priority-within : ((n i : Name) → pick (variable-mark n i) ≡ []) → ((c : Clause) → pick (clause-mark c) ≡ []) → ((c : Call) → pick (call-mark c) ≡ [])
+      → (r : Rule) → flatMap pick (rule-marks r) ≡ flatMap pick (priority-marks (r .priority))
   unfolding rule-marks flatMap
-  none-within v k a r =
-      flatMap-append pick (condition-marks (r .condition)) (flatMap call-marks (r .calls))
-      ∙ rw (of-condition (r .condition), flatMap-flatMap pick call-marks (λ c. []) of-call (r .calls)) (flatMap-none (r .calls))
+  priority-within v k a r =
+      flatMap-append pick (priority-marks (r .priority)) (condition-marks (r .condition) ++ flatMap call-marks (r .calls))
+      ∙ rw (
+        flatMap-append pick (condition-marks (r .condition)) (flatMap call-marks (r .calls)),
+        of-condition (r .condition),
+        flatMap-flatMap pick call-marks (λ c. []) of-call (r .calls),
+        flatMap-none {B = X} (r .calls),
+      ) (append-nil (flatMap pick (priority-marks (r .priority))))
     where
       of-declared : (n : Name) (o : Option Name) → flatMap pick (declared-marks n o) ≡ []
       of-declared n none = refl
@@ -325,8 +347,27 @@ module _ {X : Type 0} (pick : Ruled → List X) where
       of-call c = rw (a c) (of-declared (c .target .name) (c .target .declares))
 
 pub rule-within : (r : Rule) → flatMap rule-in (rule-marks r) ≡ []
-unfolding rule-in
-rule-within = none-within rule-in (λ n i. refl) (λ c. refl) (λ c. refl)
+unfolding rule-in priority-marks flatMap
+rule-within r = priority-within rule-in (λ n i. refl) (λ c. refl) (λ c. refl) r ∙ go (r .priority)
+  where
+    go : (o : Option Priority) → flatMap rule-in (priority-marks o) ≡ []
+    go none = refl
+    go (some k) = refl
+
+-- the priority that a rule gives
+unfoldable pub priority-listed : Option Priority → List Priority
+priority-listed none = []
+priority-listed (some k) = k ∷ []
+
+ruled-priorities : (f : File) → flatMap priority-in (rulings f) ≡ flatMap (λ r. priority-listed (r .priority)) (f .rules)
+unfolding priority-in rulings priority-marks priority-listed flatMap
+ruled-priorities f =
+    flatMap-flatMap priority-in (λ r. rule-mark r ∷ rule-marks r) (λ r. priority-listed (r .priority))
+    (λ r. priority-within priority-in (λ n i. refl) (λ c. refl) (λ c. refl) r ∙ go (r .priority)) (f .rules)
+  where
+    go : (o : Option Priority) → flatMap priority-in (priority-marks o) ≡ priority-listed o
+    go none = refl
+    go (some k) = refl
 
 pub ruled-rules : (f : File) → flatMap rule-in (rulings f) ≡ f .rules
 unfolding rule-in rulings flatMap
@@ -344,12 +385,14 @@ module _ (c : ℕ) where
   sort-other a e k event = e
   sort-other a e k action = k
 
-  pub ruled-other : is c WHEN ≡ false → is c COLON ≡ false → is c EVENT ≡ false → is c ACTION ≡ false → (x : Ruled) → is c (ruled-class x) ≡ false
+  pub ruled-other : is c WHEN ≡ false → is c RANK ≡ false → is c COLON ≡ false → is c EVENT ≡ false → is c ACTION ≡ false
+      → (x : Ruled) → is c (ruled-class x) ≡ false
   unfolding ruled-class
-  ruled-other w v e k (rule-mark r) = w
-  ruled-other w v e k (variable-mark n i) = v
-  ruled-other w v e k (clause-mark x) = e
-  ruled-other w v e k (call-mark x) = k
+  ruled-other w n v e k (rule-mark r) = w
+  ruled-other w n v e k (priority-mark x) = n
+  ruled-other w n v e k (variable-mark x i) = v
+  ruled-other w n v e k (clause-mark x) = e
+  ruled-other w n v e k (call-mark x) = k
 
   pub declared-other : is c INTERFACE ≡ false → is c ENTITY ≡ false → is c BRACE-CLOSE ≡ false → ((s : Sort) → is c (sort-token s) ≡ false)
       → (x : Declared) → is c (declared-class x) ≡ false
@@ -374,7 +417,7 @@ abbrev pub is-member : ℕ → Bool
 is-member c = leb ATTRIBUTE c && leb c ACTION
 
 pub not-member : (c : ℕ) → is-leading c ≡ false → is-member c ≡ false
-not-member c h = go (leb ATTRIBUTE c) refl (leb c ACTION) refl (or-left (leb INTERFACE c && leb c WHEN) (eqb c BRACE-CLOSE) h)
+not-member c h = go (leb ATTRIBUTE c) refl (leb c ACTION) refl (or-left (leb INTERFACE c && leb c WHEN) (eqb c BRACE-CLOSE || eqb c RANK) h)
   where
     go : (a : Bool) → leb ATTRIBUTE c ≡ a → (b : Bool) → leb c ACTION ≡ b → leb INTERFACE c && leb c WHEN ≡ false → a && b ≡ false
     go false x b y h = refl
@@ -396,7 +439,7 @@ module _ {ts : List Token} {f : File} {n : ℕ} (m : File-marks ts f n) where
   file-interfaces =
       subst (λ l. Spots ts (is INTERFACE) (λ p i. Item-at ts p INTERFACE interface-after i (i .at) (i .name)) 0 n l)
       (rw (declared-interfaces f, flatMap-none {B = Interface} (rulings f)) (append-nil (f .interfaces)))
-      (file-spots INTERFACE refl refl interface-in (λ x. []) here (λ p x a. unchosen (ruled-class-at x a) (ruled-other INTERFACE refl refl refl refl x)) m)
+      (file-spots INTERFACE refl refl interface-in (λ x. []) here (λ p x a. unchosen (ruled-class-at x a) (ruled-other INTERFACE refl refl refl refl refl x)) m)
     where
       here : (p : ℕ) (x : Declared) → Declared-at ts p x
           → Spots ts (is INTERFACE) (λ p i. Item-at ts p INTERFACE interface-after i (i .at) (i .name)) p (suc p) (interface-in x)
@@ -410,7 +453,7 @@ module _ {ts : List Token} {f : File} {n : ℕ} (m : File-marks ts f n) where
   file-entities =
       subst (λ l. Spots ts (is ENTITY) (λ p e. Item-at ts p ENTITY entity-after e (e .at) (e .name)) 0 n l)
       (rw (declared-entities f, flatMap-none {B = Entity} (rulings f)) (append-nil (f .entities)))
-      (file-spots ENTITY refl refl entity-in (λ x. []) here (λ p x a. unchosen (ruled-class-at x a) (ruled-other ENTITY refl refl refl refl x)) m)
+      (file-spots ENTITY refl refl entity-in (λ x. []) here (λ p x a. unchosen (ruled-class-at x a) (ruled-other ENTITY refl refl refl refl refl x)) m)
     where
       here : (p : ℕ) (x : Declared) → Declared-at ts p x
           → Spots ts (is ENTITY) (λ p e. Item-at ts p ENTITY entity-after e (e .at) (e .name)) p (suc p) (entity-in x)
@@ -428,6 +471,22 @@ module _ {ts : List Token} {f : File} {n : ℕ} (m : File-marks ts f n) where
     where
       there : (p : ℕ) (x : Ruled) → Ruled-at ts p x → Spots ts (is WHEN) (Rule-at ts) p (suc p) (rule-in x)
       there p (rule-mark r) a = chosen-one (class-at (a .starts)) refl a
+      there p (priority-mark k) a = unchosen (a .word) refl
+      there p (variable-mark n i) a = unchosen (ruled-class-at (variable-mark n i) a) refl
+      there p (clause-mark c) a = unchosen (ruled-class-at (clause-mark c) a) refl
+      there p (call-mark c) a = unchosen (ruled-class-at (call-mark c) a) refl
+
+  -- the tokens `rank` are those of the rules' priorities
+  pub file-priorities : Spots ts (is RANK) (Priority-at ts) 0 n (flatMap (λ r. priority-listed (r .priority)) (f .rules))
+  unfolding priority-in ruled-class
+  file-priorities =
+      subst (λ l. Spots ts (is RANK) (Priority-at ts) 0 n l) (rw (flatMap-none {B = Priority} (declarations f)) (ruled-priorities f))
+      (file-spots RANK refl refl (λ x. []) priority-in
+      (λ p x a. unchosen (declared-class-at x a) (declared-other RANK refl refl refl (sort-other RANK refl refl refl) x)) there m)
+    where
+      there : (p : ℕ) (x : Ruled) → Ruled-at ts p x → Spots ts (is RANK) (Priority-at ts) p (suc p) (priority-in x)
+      there p (rule-mark r) a = unchosen (class-at (a .starts)) refl
+      there p (priority-mark k) a = chosen-one (a .word) refl a
       there p (variable-mark n i) a = unchosen (ruled-class-at (variable-mark n i) a) refl
       there p (clause-mark c) a = unchosen (ruled-class-at (clause-mark c) a) refl
       there p (call-mark c) a = unchosen (ruled-class-at (call-mark c) a) refl

@@ -32,6 +32,7 @@ use Rattle.text.specs.definitions.Tokens.{
   COMMA,
   DOT,
   MINUS,
+  RANK,
 }
 use Rattle.text.specs.definitions.Syntax.{Sort, attribute, event, Literal, Condition, Expression, literal, whole-number, real-number}
 use Rattle.text.specs.definitions.Readers.{read, Parser, shift, give, halt, expected, expect, pick, next-is, if-next, and-then}
@@ -70,6 +71,7 @@ use Rattle.text.specs.definitions.Grammar.{
   condition-reader,
   call-reader,
   call-after,
+  priority-reader,
   rule-after,
   file-reader,
 }
@@ -102,6 +104,7 @@ use Rattle.text.specs.definitions.Language.{
   Condition-over,
   Atom-language,
   Call-language,
+  Priority-language,
   Rule-language,
   File-language,
 }
@@ -122,9 +125,11 @@ use Rattle.text.proofs.laws.LanguageLaws.{
   among-left,
   among-right,
   Avoids,
+  avoids-then,
   avoids-never,
   avoids-one,
   Follows,
+  follows-avoids,
   follows-maybe,
   look-ahead,
 }
@@ -420,11 +425,25 @@ call-parses =
     and-then-parses target-parses (filter-follows OPENERS) λ p.
     and-then-last _ (parses-among (among-right (is COLON) filter-goes-on) (filter-parses OPENERS))
 
+pub priority-parses : Parses priority-reader Priority-language (is RANK)
+unfolding priority-reader Priority-language
+priority-parses =
+    maybe-parses RANK _ (search look-ahead) among-self
+    (expect-parses λ t.
+    expect-last _)
+
+-- no condition begins with `rank`
+condition-avoids : (left : ℕ) → Avoids (is RANK) (Condition-over (Atom-language left))
+unfolding Condition-over Conjunction-over Atom-language Clause-language
+condition-avoids zero = search look-ahead
+condition-avoids (suc left) = search look-ahead
+
 -- after `when`
 pub rule-after-parses : (start : Token) → Parses (rule-after start)
-    (Condition-over (Atom-language OPENERS) ⨾ Only TRIGGER ⨾ Call-language ⨾ Many (Only COMMA ⨾ Call-language) ⨾ Only END) ∅
+    (Priority-language ⨾ Condition-over (Atom-language OPENERS) ⨾ Only TRIGGER ⨾ Call-language ⨾ Many (Only COMMA ⨾ Call-language) ⨾ Only END) ∅
 unfolding rule-after call-after is-or is-and is-term-operator is-factor-operator
 rule-after-parses start =
+    and-then-parses priority-parses (follows-avoids (avoids-then (condition-avoids OPENERS))) λ k.
     and-then-parses (condition-parses OPENERS) (search look-ahead) λ c.
     expect-parses λ t.
     and-then-parses call-parses (search look-ahead) λ call.

@@ -140,13 +140,13 @@ module _ (text : List ℕ) (at end : ℕ) (h : at < end) (k : end ≤ length tex
 
 -- ---- how far an item reaches
 
--- an item before n bytes stays within them; a token has 24 bytes at most, a class up to 35 and a value up to 2147483647
+-- an item before n bytes stays within them; a token has 24 bytes at most, a class up to 36 and a value up to 2147483647
 abbrev pub Reaches : ℕ → Lexeme → Type 0
 Reaches n (gap more) = more ≤ n
-Reaches n (found c v more) = (more ≤ n) × (more < 24) × (c ≤ 35) × (v ≤ 2147483647)
+Reaches n (found c v more) = (more ≤ n) × (more < 24) × (c ≤ 36) × (v ≤ 2147483647)
 Reaches n bad = Unit {0}
 
-class-small : (o : Option ℕ) → ((c : ℕ) → o ≡ some c → (3 ≤ c) × (c ≤ 23)) → Option·getD o NAME ≤ 35
+class-small : (o : Option ℕ) → ((c : ℕ) → o ≡ some c → (3 ≤ c) × (c ≤ 36)) → Option·getD o NAME ≤ 36
 class-small none k = omega arith
 class-small (some c) k = omega (arith, k c refl)
 

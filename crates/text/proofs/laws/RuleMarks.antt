@@ -6,6 +6,7 @@ use mathlib.Core.Bool.{Bool, true, false, _||_}
 use mathlib.Core.List.{List, [], _∷_, _++_, flatMap, append-nil}
 use mathlib.Core.Option.{Option, none, some}
 use lib.Dec.{eqb}
+use lib.ListN.{getElem?}
 use borrow.Author.Tests.{eqb-true}
 use Rattle.text.specs.definitions.Tokens.{
   Token,
@@ -29,8 +30,9 @@ use Rattle.text.specs.definitions.Tokens.{
   MINUS,
   TIMES,
   DIVIDE,
+  RANK,
 }
-use Rattle.text.specs.definitions.Syntax.{Name, Expression, Target, Clause, Condition, clause, both, either, Call, Rule}
+use Rattle.text.specs.definitions.Syntax.{Name, Expression, Target, Clause, Condition, clause, both, either, Call, Priority, Rule}
 use Rattle.text.specs.definitions.Readers.{Parser, expect, many}
 use Rattle.text.specs.definitions.Grammar.{
   name-of,
@@ -58,6 +60,7 @@ use Rattle.text.specs.definitions.Grammar.{
   condition-reader,
   call-reader,
   call-after,
+  priority-reader,
   rule-after,
 }
 use Rattle.text.specs.definitions.Syntax.{OPENERS}
@@ -91,15 +94,25 @@ pub record Variable-at (ts : List Token) (p : ℕ) (n i : Name) : Type 0 where
   pub name : Name-at ts before n
   pub interface : Name-at ts (suc p) i
 
+-- `rank`, and its number after it
+pub record Priority-at (ts : List Token) (p : ℕ) (k : Priority) : Type 0 where
+  pub word : Class-at ts p RANK
+  pub number : Token
+  pub stands : getElem? ts (suc p) ≡ some number
+  pub value : number .value ≡ k .number
+  pub offset : number .at ≡ k .at
+
 -- what begins, or is declared, after `rules`
 pub data Ruled : Type 0 where
   rule-mark : Rule → Ruled
+  priority-mark : Priority → Ruled
   variable-mark : Name → Name → Ruled
   clause-mark : Clause → Ruled
   call-mark : Call → Ruled
 
 abbrev pub Ruled-at : List Token → ℕ → Ruled → Type 0
 Ruled-at ts p (rule-mark r) = Rule-at ts p r
+Ruled-at ts p (priority-mark k) = Priority-at ts p k
 Ruled-at ts p (variable-mark n i) = Variable-at ts p n i
 Ruled-at ts p (clause-mark c) = First-at ts p EVENT (c .at)
 Ruled-at ts p (call-mark c) = First-at ts p ACTION (c .at)
@@ -122,9 +135,13 @@ unfoldable pub call-marks : Call → List Ruled
 unfolding target-marks
 call-marks c = call-mark c ∷ target-marks (c .target)
 
+unfoldable pub priority-marks : Option Priority → List Ruled
+priority-marks none = []
+priority-marks (some k) = priority-mark k ∷ []
+
 unfoldable pub rule-marks : Rule → List Ruled
-unfolding condition-marks call-marks flatMap
-rule-marks r = condition-marks (r .condition) ++ flatMap call-marks (r .calls)
+unfolding priority-marks condition-marks call-marks flatMap
+rule-marks r = priority-marks (r .priority) ++ (condition-marks (r .condition) ++ flatMap call-marks (r .calls))
 
 abbrev pub is-ruling : ℕ → Bool
 is-ruling c = is-leading c || eqb c COLON
@@ -278,16 +295,30 @@ module _ (ts : List Token) where
   unfolding call-after
   call-after-read p = expect-skip refl λ t st ct. call-read _
 
-  -- after `when`: its variables, clauses and calls
+  priority-read : (p : ℕ) → Marks ts is-ruling (Ruled-at ts) p priority-reader (λ k xs. xs ≡ priority-marks k)
+  unfolding priority-reader priority-marks
+  priority-read p =
+      if-next-marks RANK
+      (expect-spot refl λ t st ct.
+      expect-skip refl λ n sn cn.
+      give-marks _ λ m r. (
+        priority-mark (record { number = n .value; at = n .at }),
+        record { word = record { token = t; stands = st; class = ct }; number = n; stands = sn; value = refl; offset = refl },
+        refl,
+      ))
+      (give-marks _ refl)
+
+  -- after `when`: its priority, variables, clauses and calls
   pub rule-after-marks : (t : Token) (p : ℕ) → Marks ts is-ruling (Ruled-at ts) p (rule-after t) (λ r xs. (xs ≡ rule-marks r) × (t .at ≡ r .at))
   unfolding rule-after condition-reader rule-marks
   rule-after-marks t p =
+      and-then-marks (priority-read _) λ k ws hw q₀.
       and-then-marks (condition-of-read _ (atom-read OPENERS) _) λ c xs hx q₁.
       expect-skip refl λ u su cu.
       and-then-marks (call-read _) λ first ys hy q₂.
       and-then-marks (many-marks COMMA call-after call-marks call-after-read) λ others zs hz q₃.
       expect-skip refl λ v sv cv.
-      give-marks _ (rw (hx, hy, hz) (ap (λ l. condition-marks c ++ (call-marks first ++ l)) (append-nil _)), refl)
+      give-marks _ (rw (hw, hx, hy, hz) (ap (λ l. priority-marks k ++ (condition-marks c ++ (call-marks first ++ l))) (append-nil (flatMap call-marks others))), refl)
 
   pub rules-marks : (p : ℕ) → Marks ts is-ruling (Ruled-at ts) p (many WHEN rule-after) (λ rs xs. xs ≡ flatMap (λ r. rule-mark r ∷ rule-marks r) rs)
   rules-marks p = many-marks WHEN rule-after (λ r. rule-mark r ∷ rule-marks r)

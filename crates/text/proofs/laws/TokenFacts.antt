@@ -20,7 +20,7 @@ pub record In-text (text : List ℕ) (t : Token) : Type 0 where
   pub within : t .at + length (t .bytes) ≤ length text
   pub not-empty : 0 < length (t .bytes)
   pub at-most-24 : length (t .bytes) ≤ 24
-  pub class-bound : t .class ≤ 35
+  pub class-bound : t .class ≤ 36
   pub value-bound : t .value ≤ 2147483647
 
 -- tokens one after another, the first at `low` or later

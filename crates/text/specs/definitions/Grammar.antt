@@ -46,6 +46,7 @@ use Rattle.text.specs.definitions.Tokens.{
   MINUS,
   TIMES,
   DIVIDE,
+  RANK,
 }
 use Rattle.text.specs.definitions.Syntax.{
   Name,
@@ -77,6 +78,7 @@ use Rattle.text.specs.definitions.Syntax.{
   both,
   either,
   Call,
+  Priority,
   Rule,
   File,
   OPENERS,
@@ -297,12 +299,19 @@ unfoldable pub call-after : Token → Parser Call
 unfolding call-reader
 call-after comma = call-reader
 
--- after `when`: "condition `trigger` calls separated by `,` `end`"
+-- document 02, order 6: "A rule may begin `when rank` with one number .., no `r`"
+unfoldable pub priority-reader : Parser (Option Priority)
+unfolding if-next expect give
+priority-reader =
+    if-next RANK (expect RANK λ t. expect WHOLE-NUMBER λ n. give (some (record { number = n .value; at = n .at })))
+    (give none)
+
+-- after `when`, and its priority: "condition `trigger` calls separated by `,` `end`"
 unfoldable pub rule-after : Token → Parser Rule
-unfolding expect and-then condition-reader call-reader many call-after give
+unfolding expect and-then priority-reader condition-reader call-reader many call-after give
 rule-after start =
-    and-then (condition-reader OPENERS) λ c. expect TRIGGER λ t. and-then call-reader λ first. and-then (many COMMA call-after) λ others.
-    expect END λ u. give (record { at = start .at; condition = c; calls = first ∷ others })
+    and-then priority-reader λ k. and-then (condition-reader OPENERS) λ c. expect TRIGGER λ t. and-then call-reader λ first.
+    and-then (many COMMA call-after) λ others. expect END λ u. give (record { at = start .at; priority = k; condition = c; calls = first ∷ others })
 
 -- "File: interfaces, then entities, then `rules`, rules, `end`; each group may be empty"
 unfoldable pub file-reader : Parser File

@@ -39,6 +39,7 @@ use Rattle.text.specs.definitions.Tokens.{
   MINUS,
   TIMES,
   DIVIDE,
+  RANK,
 }
 use Rattle.text.specs.definitions.Syntax.{OPENERS}
 
@@ -171,11 +172,15 @@ Call-language =
     Only ACTION ⨾ Only NAME ⨾ Only ROUND-OPEN ⨾ Expression-language OPENERS ⨾ Only ROUND-CLOSE
     ⨾ Only ON ⨾ Target-language ⨾ Filter-language OPENERS
 
--- "Rule: `when` condition `trigger` calls separated by `,` `end`"
+-- document 02, order 6: "A rule may begin `when rank` with one number 0 to 9, no `r`" (a number above 9 is grammatical, and refused by 44)
+unfoldable pub Priority-language : Language
+Priority-language = Maybe (Only RANK ⨾ Only WHOLE-NUMBER)
+
+-- "Rule: `when` condition `trigger` calls separated by `,` `end`", after `when` its priority
 unfoldable pub Rule-language : Language
-unfolding Condition-over Atom-language Call-language
+unfolding Priority-language Condition-over Atom-language Call-language
 Rule-language =
-    Only WHEN ⨾ Condition-over (Atom-language OPENERS) ⨾ Only TRIGGER
+    Only WHEN ⨾ Priority-language ⨾ Condition-over (Atom-language OPENERS) ⨾ Only TRIGGER
     ⨾ Call-language ⨾ Many (Only COMMA ⨾ Call-language)
     ⨾ Only END
 

@@ -2,7 +2,7 @@
 use Prim.Native.Nat.{ℕ}
 use mathlib.Core.List.{List}
 use mathlib.Core.Bool.{Bool, true, false}
-use mathlib.Core.Option.{Option}
+use mathlib.Core.Option.{Option, none, some}
 use lib.IntN.{pos, negℤ}
 use lib.Ieee.{binary64, ofInt, neg}
 use Rattle.values.specs.declared.Value.{Value}
@@ -92,8 +92,14 @@ pub record Call : Type 0 where
   pub target : Target
   pub filter : Option Filter
 
+-- document 02's rank (order 6), "one number", and the number's offset
+pub record Priority : Type 0 where
+  pub number : ℕ
+  pub at : ℕ
+
 pub record Rule : Type 0 where
   pub at : ℕ
+  pub priority : Option Priority
   pub condition : Condition
   pub calls : List Call
 
@@ -119,3 +125,12 @@ literal-value (whole-number false n) = fitted (pos n)
 literal-value (whole-number true n) = fitted (negℤ (pos n))
 literal-value (real-number false n) = settled (ofInt binary64 (pos n))
 literal-value (real-number true n) = settled (neg (ofInt binary64 (pos n)))
+
+unfoldable pub priority-given : Option Priority → ℕ
+priority-given none = 0
+priority-given (some k) = k .number
+
+-- document 02, order 6: "without it the rank is 0"
+unfoldable pub priority-of : Rule → ℕ
+unfolding priority-given
+priority-of r = priority-given (r .priority)

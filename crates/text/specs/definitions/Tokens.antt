@@ -117,6 +117,10 @@ TIMES = 34
 abbrev pub DIVIDE : ℕ
 DIVIDE = 35
 
+-- document 02's word, after document 01's classes
+abbrev pub RANK : ℕ
+RANK = 36
+
 -- a token: its class, the offset of its first byte, its bytes and, of a number, its value
 pub record Token : Type 0 where
   pub class : ℕ
@@ -132,7 +136,7 @@ pub record Fixed : Type 0 where
 abbrev pub spelled : List ℕ → ℕ → Fixed
 spelled bs c = record { spelling = bs; class = c }
 
--- "Reserved, never names"
+-- "Reserved, never names"; document 02, order 6: "`rank` becomes reserved"
 unfoldable pub reserved : List Fixed
 unfolding ascii
 reserved =
@@ -142,7 +146,8 @@ reserved =
     spelled (ascii "value") VALUE ∷ spelled (ascii "changed") CHANGED ∷ spelled (ascii "trigger") TRIGGER ∷
     spelled (ascii "on") ON ∷ spelled (ascii "end") END ∷ spelled (ascii "and") AND ∷
     spelled (ascii "or") OR ∷ spelled (ascii "true") TRUE ∷ spelled (ascii "false") FALSE ∷
-    spelled (ascii "whole") WHOLE ∷ spelled (ascii "bool") BOOL ∷ spelled (ascii "real") REAL ∷ []
+    spelled (ascii "whole") WHOLE ∷ spelled (ascii "bool") BOOL ∷ spelled (ascii "real") REAL ∷
+    spelled (ascii "rank") RANK ∷ []
 
 -- "a mark: one of `{ } ( ) : = , . + - * /`"
 unfoldable pub marks : List Fixed

@@ -1,5 +1,5 @@
 -- The cases that document 01 marks P, as document 02 amends them, in one statement, from raw bytes through check, fresh, line, header and row; what
--- document 02's order 1 is for, as two laws about a clause. And order 5's senders, in another statement.
+-- document 02's order 1 is for, as two laws about a clause. And order 5's senders and order 6's priorities, in statements of their own.
 use Prim.Native.Nat.{ℕ, _+_, _*_}
 use mathlib.Core.Path.{_≡_, refl}
 use mathlib.Core.List.{[], _∷_}
@@ -19,6 +19,10 @@ use Rattle.trial_cases.specs.definitions.Trials.{
   calling,
   filtered,
   lamps,
+  one-lamp,
+  knob-rule,
+  panel-rule,
+  safety-rule,
   lines-printed,
   header-printed,
   row-call-printed,
@@ -48,8 +52,8 @@ pub record Trial-cases : Type 0 where
   pub dividend-negative : lines-printed (calling "whole" "action keep ( -7 / 2 ) on k") "by n p.down" ("a 1 true" ∷ []) ≡ row-printed "a 1 -4" ∷ []
   pub divisor-negative : lines-printed (calling "whole" "action keep ( 7 / -2 ) on k") "by n p.down" ("a 1 true" ∷ []) ≡ row-printed "a 1 -4" ∷ []
   pub both-negative : lines-printed (calling "whole" "action keep ( -7 / -2 ) on k") "by n p.down" ("a 1 true" ∷ []) ≡ row-printed "a 1 3" ∷ []
-  -- "Calls keep(1), keep(2) leave 2"
-  pub last-stands : lines-printed (calling "whole" "action keep ( 1 ) on k , action keep ( 2 ) on k") "by n p.down" ("a 1 true" ∷ []) ≡ row-printed "a 1 2" ∷ []
+  -- document 02, order 6: "The case keep(1), keep(2) now leaves 1"
+  pub first-stands : lines-printed (calling "whole" "action keep ( 1 ) on k , action keep ( 2 ) on k") "by n p.down" ("a 1 true" ∷ []) ≡ row-printed "a 1 1" ∷ []
   -- document 02, order 1: "a clause's `with` reads the present cycle, as a call's does", and so in cycle 1 too
   pub filter-in-first : lines-printed filtered "by n p.down" ("a 1 true" ∷ "a 2 false" ∷ "a 3 true" ∷ [])
       ≡ row-printed "a 1 1" ∷ row-printed "a 2 -" ∷ row-printed "a 3 1" ∷ []
@@ -86,7 +90,7 @@ trial-cases = record {
   dividend-negative = refl;
   divisor-negative = refl;
   both-negative = refl;
-  last-stands = refl;
+  first-stands = refl;
   filter-in-first = refl;
   lamp-joins-late = refl;
   holds-on-joining = clause-on-joining;
@@ -116,3 +120,28 @@ pub record Sender-cases : Type 0 where
 pub sender-cases : Sender-cases
 unfolding pedal lamps lines-printed row-call-printed row-printed refused-with ascii
 sender-cases = record { two-senders = refl; row-of-sender = refl; row-of-unknown = refl; resent-of-absent = refl; ninth-sender = refl }
+
+-- document 02, order 6
+pub record Priority-cases : Type 0 where
+  -- "lab managers want the safety rule to stand wherever it is written": first, in the middle, last; "among equal ranks the earliest write does"
+  pub safety-first : lines-printed (one-lamp safety-rule knob-rule panel-rule) "by n b.down" ("a 1 true" ∷ "a 2 false" ∷ [])
+      ≡ row-printed "a 1 0" ∷ row-printed "a 2 1" ∷ []
+  pub safety-middle : lines-printed (one-lamp knob-rule safety-rule panel-rule) "by n b.down" ("a 1 true" ∷ "a 2 false" ∷ [])
+      ≡ row-printed "a 1 0" ∷ row-printed "a 2 1" ∷ []
+  pub safety-last : lines-printed (one-lamp knob-rule panel-rule safety-rule) "by n b.down" ("a 1 true" ∷ "a 2 false" ∷ [])
+      ≡ row-printed "a 1 0" ∷ row-printed "a 2 1" ∷ []
+  -- "The first rank above 9 is refused by 44, at its place": 16 at `up`, which is unknown, comes after it
+  pub above-nine : checked-as (one-lamp knob-rule
+      "when rank 10 event up from b value changed trigger action glow ( 2 ) on l end"
+      "when rank 11 event down from b value changed trigger action glow ( 2 ) on l end")
+      ≡ 44 + 256 * 201
+  -- "after 13 and before 14": a rule with nine calls comes first
+  pub before-counts : checked-as (one-lamp "when event down from b value changed trigger action glow ( 1 ) on l , action glow ( 1 ) on l , action glow ( 1 ) on l , action glow ( 1 ) on l , action glow ( 1 ) on l , action glow ( 1 ) on l , action glow ( 1 ) on l , action glow ( 1 ) on l , action glow ( 1 ) on l end"
+      "when rank 10 event up from b value changed trigger action glow ( 2 ) on l end"
+      "when rank 11 event down from b value changed trigger action glow ( 2 ) on l end")
+      ≡ 44 + 256 * 394
+  pub grammar-first : checked-as (one-lamp knob-rule "when rank 10 event" "") ≡ 13 + 256 * 211
+
+pub priority-cases : Priority-cases
+unfolding one-lamp lines-printed row-printed checked-as ascii
+priority-cases = record { safety-first = refl; safety-middle = refl; safety-last = refl; above-nine = refl; before-counts = refl; grammar-first = refl }

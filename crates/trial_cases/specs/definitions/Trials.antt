@@ -1,4 +1,4 @@
--- Document 01's trial benches as texts, a bench for what document 02 asks in its order 1, and runs of them over zeroed memory of the stated sizes.
+-- Document 01's trial benches as texts, benches for what document 02 asks in its orders 1 and 6, and runs of them over zeroed memory of the stated sizes.
 use Prim.Native.Nat.{ℕ, _/_, _%_}
 use Prim.Native.String.{String}
 use mathlib.Core.List.{List, [], _∷_, _++_, map}
@@ -34,6 +34,22 @@ filtered = ascii "interface P { attribute bay : whole event down : bool } interf
 unfoldable pub lamps : List ℕ
 unfolding ascii
 lamps = ascii "interface Lamp { attribute bay : whole event switch : bool action glow ( whole ) } entity west : Lamp { bay = 1 } entity east : Lamp { bay = 2 } rules when event switch from l : Lamp with bay = 2 value = true trigger action glow ( l.bay ) on l end end"
+
+-- order 6: "Two rules may set one lamp in one cycle": a button, one lamp, and three rules
+unfoldable pub one-lamp : String → String → String → List ℕ
+unfolding ascii
+one-lamp first second third = ascii "interface B { event down : bool } interface L { action glow ( whole ) } entity b : B { } entity l : L { } rules "
+    ++ ascii first ++ ascii " " ++ ascii second ++ ascii " " ++ ascii third ++ ascii " end"
+
+-- two rules of equal priority that fire whenever the button moves, and "the safety rule" of priority 9, which fires when it goes down
+abbrev pub knob-rule : String
+knob-rule = "when rank 3 event down from b value changed trigger action glow ( 1 ) on l end"
+
+abbrev pub panel-rule : String
+panel-rule = "when rank 3 event down from b value changed trigger action glow ( 2 ) on l end"
+
+abbrev pub safety-rule : String
+safety-rule = "when rank 9 event down from b value = true trigger action glow ( 0 ) on l end"
 
 unfoldable pub bench-memory : List ℕ → List ℕ
 unfolding check-call

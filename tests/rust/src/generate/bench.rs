@@ -1,7 +1,7 @@
 //! Valid benches: a plan of interfaces and entities, and the words of the file.
 
 use super::prng::Prng;
-use super::quotients;
+use super::{quotients, ranks};
 use crate::interpreter::grammar::{Bench, Entity, Interface, Member, Name, Sort};
 use crate::interpreter::value::Kind;
 
@@ -17,13 +17,13 @@ const NAMES: [&str; 23] = [
     "c",
     "d",
     "e",
-    "f",
-    "g",
-    "h",
+    "ranks",
+    "rank_1",
+    "ran",
     "n",
     "by",
     "x",
-    "y",
+    "Rank",
     "r",
     "End",
     "rule",
@@ -74,12 +74,15 @@ pub struct Size {
     pub clauses: usize,
     pub calls: usize,
     pub variables: usize,
+    /// So many of a hundred rules have a rival.
+    pub rivals: usize,
 }
 
-pub const SMALL: Size = Size { interfaces: 3, members: 2, entities: 5, rules: 5, clauses: 3, calls: 3, variables: 3 };
-pub const LARGE: Size = Size { interfaces: 16, members: 4, entities: 32, rules: 24, clauses: 8, calls: 8, variables: 2 };
+pub const SMALL: Size = Size { interfaces: 3, members: 2, entities: 5, rules: 5, clauses: 3, calls: 3, variables: 3, rivals: 30 };
+/// Rivals could make it too long.
+pub const LARGE: Size = Size { interfaces: 16, members: 4, entities: 32, rules: 24, clauses: 8, calls: 8, variables: 2, rivals: 0 };
 /// Many entities, few of them bound together by a rule: it leaves small closed sets.
-pub const LOOSE: Size = Size { interfaces: 6, members: 2, entities: 9, rules: 4, clauses: 2, calls: 2, variables: 1 };
+pub const LOOSE: Size = Size { interfaces: 6, members: 2, entities: 9, rules: 4, clauses: 2, calls: 2, variables: 1, rivals: 70 };
 
 impl Plan {
     /// The plan of a bench that was read, without its words.
@@ -127,6 +130,7 @@ pub fn bench(prng: &mut Prng, size: Size) -> Plan {
         words.extend(rule(prng, &plan, size).unwrap_or_default());
     }
     words.push("end".into());
+    ranks::put_in(&mut prng.aside(), &mut words);
     plan.words = words;
     plan
 }
@@ -240,22 +244,19 @@ struct Scope<'p> {
     readable: Vec<(String, PlanMember)>,
 }
 
-/// A rule, or none if the plan has nothing to fire.
+/// A rule, now and then with a rival after it: the same condition, and calls of the same places, so that both write, often to one cell.
+/// None if the plan has nothing to fire.
 fn rule(prng: &mut Prng, plan: &Plan, size: Size) -> Option<Vec<String>> {
     let (mut clauses, mut calls, named) = targets(prng, plan, size);
     fill(prng, plan, &named, &[Sort::Event, Sort::Action], size.clauses, &mut clauses)?;
     fill(prng, plan, &named, &[Sort::Action], size.calls, &mut calls)?;
     let scope = Scope { plan, readable: readable(plan, &named) };
-    let mut words = vec!["when".to_string()];
-    words.extend(scope.condition(prng, &clauses, 0));
-    words.push("trigger".into());
-    for (index, call) in calls.iter().enumerate() {
-        if index > 0 {
-            words.push(",".into());
-        }
-        words.extend(scope.call(prng, call));
+    let condition = scope.condition(prng, &clauses, 0);
+    let mut words = scope.rule(prng, &condition, &calls);
+    let mut aside = prng.aside();
+    if aside.chance(size.rivals) {
+        words.extend(scope.rule(&mut aside, &condition, &calls));
     }
-    words.push("end".into());
     Some(words)
 }
 
@@ -309,6 +310,19 @@ fn readable(plan: &Plan, named: &[Target]) -> Vec<(String, PlanMember)> {
 }
 
 impl Scope<'_> {
+    fn rule(&self, prng: &mut Prng, condition: &[String], calls: &[Target]) -> Vec<String> {
+        let mut words = joined(&["when"], condition.to_vec());
+        words.push("trigger".into());
+        for (index, call) in calls.iter().enumerate() {
+            if index > 0 {
+                words.push(",".into());
+            }
+            words.extend(self.call(prng, call));
+        }
+        words.push("end".into());
+        words
+    }
+
     fn condition(&self, prng: &mut Prng, clauses: &[Target], depth: usize) -> Vec<String> {
         if depth < 8 && prng.chance(20) {
             return parenthesised(self.condition(prng, clauses, depth + 1));

@@ -2,60 +2,26 @@
 
 use super::bench::{kind_word, literal, KINDS};
 use super::prng::Prng;
+use crate::interpreter::text::RESERVED;
 
-const VOCABULARY: [&str; 40] = [
-    "interface",
-    "attribute",
-    "event",
-    "action",
-    "entity",
-    "rules",
-    "when",
-    "from",
-    "with",
-    "value",
-    "changed",
-    "trigger",
-    "on",
-    "end",
-    "and",
-    "or",
-    "true",
-    "false",
-    "whole",
-    "bool",
-    "real",
-    "{",
-    "}",
-    "(",
-    ")",
-    ":",
-    "=",
-    ",",
-    ".",
-    "+",
-    "-",
-    "*",
-    "/",
-    "a",
-    "x",
-    "n",
-    "1",
-    "2r",
-    "0",
-    "2147483647",
-];
+/// Words beside the reserved ones.
+const OTHERS: [&str; 19] = ["{", "}", "(", ")", ":", "=", ",", ".", "+", "-", "*", "/", "a", "x", "n", "1", "2r", "0", "2147483647"];
+
+fn any_word(prng: &mut Prng) -> String {
+    let at = prng.below(RESERVED.len() + OTHERS.len());
+    RESERVED.iter().chain(&OTHERS).nth(at).expect("a word of the two lists").to_string()
+}
 
 /// Words in any order.
 pub fn soup(prng: &mut Prng) -> Vec<String> {
     let count = prng.below(30);
-    (0..count).map(|_| prng.pick(&VOCABULARY).to_string()).collect()
+    (0..count).map(|_| any_word(prng)).collect()
 }
 
 /// Breaks the grammar, mostly: a word dropped, doubled, swapped, put in or replaced, or the rest cut off.
 pub fn words(prng: &mut Prng, words: &mut Vec<String>) {
     if words.is_empty() {
-        return words.push(prng.pick(&VOCABULARY).to_string());
+        return words.push(any_word(prng));
     }
     let at = prng.below(words.len());
     match prng.below(7) {
@@ -65,14 +31,14 @@ pub fn words(prng: &mut Prng, words: &mut Vec<String>) {
             let other = (at + 1) % words.len();
             words.swap(at, other);
         }
-        3 => words.insert(at, prng.pick(&VOCABULARY).to_string()),
-        4 => words[at] = prng.pick(&VOCABULARY).to_string(),
+        3 => words.insert(at, any_word(prng)),
+        4 => words[at] = any_word(prng),
         5 => words.truncate(at),
-        _ => words.push(prng.pick(&VOCABULARY).to_string()),
+        _ => words.push(any_word(prng)),
     }
 }
 
-/// Keeps the grammar, but not names or kinds: 15 to 18, mostly.
+/// Keeps the grammar, but not names or kinds: 15 to 18, mostly. Now and then it meets the number of a rank: 13 or 44.
 pub fn meaning(prng: &mut Prng, words: &mut Vec<String>) {
     match prng.below(11) {
         0 | 1 => swap_name(prng, words),
@@ -87,8 +53,8 @@ pub fn meaning(prng: &mut Prng, words: &mut Vec<String>) {
     }
 }
 
-fn is_name(word: &str) -> bool {
-    word.as_bytes()[0].is_ascii_alphabetic() && !VOCABULARY[..21].contains(&word)
+pub fn is_name(word: &str) -> bool {
+    word.as_bytes()[0].is_ascii_alphabetic() && !RESERVED.contains(&word)
 }
 
 fn is_literal(word: &str) -> bool {
@@ -96,7 +62,7 @@ fn is_literal(word: &str) -> bool {
 }
 
 /// A random index of a word that fits.
-fn find(prng: &mut Prng, words: &[String], fits: impl Fn(usize) -> bool) -> Option<usize> {
+pub fn find(prng: &mut Prng, words: &[String], fits: impl Fn(usize) -> bool) -> Option<usize> {
     let fitting: Vec<usize> = (0..words.len()).filter(|&at| fits(at)).collect();
     (!fitting.is_empty()).then(|| *prng.pick(&fitting))
 }
@@ -204,7 +170,7 @@ fn turn_place(prng: &mut Prng, words: &mut Vec<String>) {
 /// Puts in bytes or runs that are no words.
 pub fn bytes(prng: &mut Prng, text: &mut Vec<u8>) {
     let at = prng.below(text.len() + 1);
-    let bad: Vec<u8> = match prng.below(9) {
+    let bad: Vec<u8> = match prng.below(10) {
         0 => vec![prng.draw() as u8],
         1 => vec![*prng.pick(&[0, 1, 11, 13, 31, 127, 128, 200, 255])],
         2 => vec![*prng.pick(b"_;!\"$%&'<>?@[\\]^`|~")],
@@ -213,6 +179,7 @@ pub fn bytes(prng: &mut Prng, text: &mut Vec<u8>) {
         5 => prng.pick(&[" 2147483648 ", " 9999999999r ", " 2147483647r ", " 00000000001 ", " 0000000000 "]).as_bytes().to_vec(),
         6 => b" # comment with \x7f in it\n".to_vec(),
         7 => b" # comment with \r\n".to_vec(),
+        8 => b"\r\n".to_vec(),
         _ => b" # comment with \t ~ ; _ in it\n".to_vec(),
     };
     text.splice(at..at, bad);

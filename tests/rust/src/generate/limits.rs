@@ -2,6 +2,7 @@
 
 use super::bench::{parenthesised, push, render};
 use super::prng::Prng;
+use super::ranks;
 use crate::interpreter::text::TEXT_MOST;
 
 /// The words of a bench with one count at its limit, one below or beyond it.
@@ -20,7 +21,9 @@ pub fn counted(prng: &mut Prng) -> Vec<String> {
         // Two at once: the first in the text is refused.
         _ => Counts { variables: at(3), clauses: at(8), calls: at(8), entities: at(32), ..base },
     };
-    counts.words(prng)
+    let mut words = counts.words(prng);
+    ranks::put_in(&mut prng.aside(), &mut words);
+    words
 }
 
 #[derive(Clone, Copy)]
@@ -126,6 +129,7 @@ pub fn nested(prng: &mut Prng) -> Vec<String> {
     let depth = prng.between(0, 17);
     words.extend(opened(prng, depth));
     push(&mut words, &[")", "on", "e", "end", "end"]);
+    ranks::put_in(&mut prng.aside(), &mut words);
     words
 }
 

@@ -1,6 +1,6 @@
 //! Seeded cases: valid benches and readings of several senders, damage in every way of document 01's table, limits, random bytes; in
-//! between sheets, and calls about senders that leave the state alone. Texts with bytes put in and states with a part spoilt are cases of
-//! their own.
+//! between sheets, and calls about senders that leave the state alone. Texts with bytes put in, texts with a fault at a rank and states
+//! with a part spoilt are cases of their own.
 
 pub mod agains;
 pub mod bench;
@@ -14,6 +14,7 @@ pub mod places;
 pub mod prng;
 pub mod probes;
 pub mod quotients;
+pub mod ranks;
 pub mod run;
 pub mod senders;
 pub mod sheets;
@@ -54,15 +55,16 @@ pub fn without_sheets(seed: u64, number: u64) -> Case {
 pub fn plain(seed: u64, number: u64) -> Case {
     let mut prng = Prng::for_case(seed, number);
     let prng = &mut prng;
-    let (text, calls) = match prng.weighted(&[40, 19, 6, 4, 3, 4, 14, 5, 5]) {
+    let (text, calls) = match prng.weighted(&[36, 4, 19, 6, 4, 3, 4, 14, 5, 5]) {
         0 => readings(prng, SMALL, 12),
-        1 => damaged(prng),
-        2 => from_words(prng, limits::counted),
-        3 => from_words(prng, limits::nested),
-        4 => long(prng),
-        5 => random_text(prng),
-        6 => odd_state(prng),
-        7 => odd_bench(prng),
+        1 => from_words(prng, ranks::faulty),
+        2 => damaged(prng),
+        3 => from_words(prng, limits::counted),
+        4 => from_words(prng, limits::nested),
+        5 => long(prng),
+        6 => random_text(prng),
+        7 => odd_state(prng),
+        8 => odd_bench(prng),
         _ if prng.chance(25) => readings(prng, LARGE, 2),
         _ => readings(prng, LOOSE, 8),
     };

@@ -18,7 +18,7 @@ pub fn case(seed: u64, number: u64) -> Case {
     checked(text, prng.draw())
 }
 
-fn checked(text: Vec<u8>, fill: u64) -> Case {
+pub fn checked(text: Vec<u8>, fill: u64) -> Case {
     Case { text, fill, steps: vec![Step { call: Call::Check, lent: EXACT }] }
 }
 

@@ -1,9 +1,10 @@
-//! Counts (14), names (15 to 17) and kinds (18). Each pass gathers its faults; the earliest place is refused.
+//! Ranks (44), counts (14), names (15 to 17) and kinds (18). Each pass gathers its faults; the earliest place is refused.
 
 use super::grammar::{Bench, Call, Clause, Entity, Filter, Interface, Link, Member, Name, Place, Rule, Sort, Sum, Test};
 use super::text::Refusal;
 use super::value::Kind;
 
+const RANK_MOST: i32 = 9;
 const INTERFACES_MOST: usize = 16;
 const MEMBERS_MOST: usize = 12;
 const ENTITIES_MOST: usize = 32;
@@ -12,10 +13,11 @@ const VARIABLES_MOST: usize = 3;
 const CLAUSES_MOST: usize = 8;
 const CALLS_MOST: usize = 8;
 
+/// The passes in their order, each giving all of its faults. Document 02, order 6, has 44 "after 13 and before 14".
+pub const PASSES: [fn(&Bench) -> Vec<Refusal>; 4] = [ranks, counts, names, kinds];
+
 pub fn check(bench: &Bench) -> Result<(), Refusal> {
-    earliest(counts(bench))?;
-    earliest(names(bench))?;
-    earliest(kinds(bench))
+    PASSES.iter().try_for_each(|pass| earliest(pass(bench)))
 }
 
 fn earliest(faults: Vec<Refusal>) -> Result<(), Refusal> {
@@ -66,6 +68,14 @@ impl<'t> Rule<'t> {
 
 /// What an action's name and an event's name are both readable as.
 pub const READABLE: [Sort; 2] = [Sort::Event, Sort::Action];
+
+// Ranks.
+
+/// Document 02, order 6: "The first rank above 9 is refused by 44, at its place".
+fn ranks(bench: &Bench) -> Vec<Refusal> {
+    let above = bench.rules.iter().filter_map(|rule| rule.ranked).filter(|rank| rank.value > RANK_MOST);
+    above.map(|rank| Refusal { number: 44, place: rank.place }).collect()
+}
 
 // Counts.
 

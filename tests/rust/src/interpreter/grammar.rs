@@ -63,8 +63,17 @@ pub struct Assignment<'t> {
 #[derive(Debug)]
 pub struct Rule<'t> {
     pub place: usize,
+    /// Set where the rule begins `when rank`.
+    pub ranked: Option<Rank>,
     pub condition: Condition<'t>,
     pub calls: Vec<Call<'t>>,
+}
+
+/// The number after `rank`: its value, of whatever size, and where it stands.
+#[derive(Clone, Copy, Debug)]
+pub struct Rank {
+    pub value: i32,
+    pub place: usize,
 }
 
 #[derive(Debug)]
@@ -134,6 +143,11 @@ pub struct Link<'t> {
 }
 
 impl<'t> Rule<'t> {
+    /// Document 02, order 6: "without it the rank is 0."
+    pub fn rank(&self) -> i32 {
+        self.ranked.map_or(0, |rank| rank.value)
+    }
+
     /// The clauses in the order of the text.
     pub fn clauses(&self) -> Vec<&Clause<'t>> {
         let mut found = Vec::new();
@@ -330,6 +344,7 @@ impl<'t> Reader<'_, 't> {
 
     fn rule(&mut self) -> Read<Rule<'t>> {
         let place = self.take("when")?;
+        let ranked = self.rank()?;
         let condition = self.condition(0)?;
         self.take("trigger")?;
         let mut calls = vec![self.call()?];
@@ -338,7 +353,19 @@ impl<'t> Reader<'_, 't> {
             calls.push(self.call()?);
         }
         self.take("end")?;
-        Ok(Rule { place, condition, calls })
+        Ok(Rule { place, ranked, condition, calls })
+    }
+
+    /// Document 02, order 6: "A rule may begin `when rank` with one number 0 to 9, no `r`". One above 9 is grammatical: 44 refuses it.
+    fn rank(&mut self) -> Read<Option<Rank>> {
+        if !self.sees("rank") {
+            return Ok(None);
+        }
+        self.step()?;
+        match self.token() {
+            Some(Token::Whole(value)) => Ok(Some(Rank { value, place: self.step()? })),
+            _ => self.fail(),
+        }
     }
 
     /// `depth` counts the openers around this point.

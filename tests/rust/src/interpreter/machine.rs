@@ -1,9 +1,10 @@
 //! The bare machine of document 01, its clause filters as order 1 of document 02 has them, its whole `/` as order 2, what it keeps of each
-//! sender as order 5. It looks names up at each step and runs any grammatical bench, until it stops.
+//! sender as order 5, which of its writes stand as order 6. It looks names up at each step and runs any grammatical bench, until it stops.
 
 use super::check::READABLE;
-use super::grammar::{Bench, Call, Clause, Condition, Filter, Interface, Link, Name, Rule, Sort, Sum, Test};
+use super::grammar::{Bench, Clause, Condition, Filter, Interface, Link, Name, Rule, Sort, Sum, Test};
 use super::value::{differ, equal, negate, operate, quotient, to_real, Cell, Stop, Value};
+use std::collections::BTreeMap;
 
 #[derive(Clone, Debug)]
 pub struct Store {
@@ -149,10 +150,12 @@ pub struct Variant<'v> {
     pub late: &'v dyn Fn(usize) -> bool,
     /// What `/` gives for two wholes in a sum that stands there.
     pub over: &'v dyn Fn(Stands, i64, i64) -> Cell,
+    /// Of all writes of a cycle, in their order, the one that stands in each cell.
+    pub standing: &'v dyn Fn(&[Write]) -> Standing,
 }
 
 /// The machine of the documents.
-pub const RIGHT: Variant<'static> = Variant { late: &|_| false, over: &|_, a, b| quotient(a, b) };
+pub const RIGHT: Variant<'static> = Variant { late: &|_| false, over: &|_, a, b| quotient(a, b), standing: &standing };
 
 /// A line as the machine gets it.
 #[derive(Clone, Copy, Debug)]
@@ -169,17 +172,23 @@ pub fn cycle(bench: &Bench, state: &State, line: Given) -> Result<State, Stop> {
 
 /// One cycle of a machine that may be wrong.
 pub fn cycle_of(variant: Variant, bench: &Bench, state: &State, line: Given) -> Result<State, Stop> {
-    let mut seen = state.now.clone();
-    apply_presence(bench, &mut seen, line.readings);
-    apply_readings(bench, &mut seen, line.readings)?;
-    let writes = fire(variant, bench, &seen, &state.before)?;
+    let (seen, writes) = writes_of(variant, bench, state, line.readings)?;
     let mut now = seen.clone();
     unset(bench, &mut now, None, &[Sort::Action]);
-    for write in writes {
-        now.cells[write.entity][write.member] = Some(write.value);
+    for ((entity, member), write) in (variant.standing)(&writes) {
+        now.cells[entity][member] = Some(write.value);
     }
     let senders = keep(state, line, fired(bench, &now));
     Ok(State { now, before: seen, senders })
+}
+
+/// The store as the rules see it in a line with these readings, and all their writes, in order.
+pub fn writes_of(variant: Variant, bench: &Bench, state: &State, readings: &Readings) -> Result<(Store, Vec<Write>), Stop> {
+    let mut seen = state.now.clone();
+    apply_presence(bench, &mut seen, readings);
+    apply_readings(bench, &mut seen, readings)?;
+    let writes = fire(variant, bench, &seen, &state.before)?;
+    Ok((seen, writes))
 }
 
 /// The cells of a store that are actions; the others unset.
@@ -244,19 +253,41 @@ fn apply_readings(bench: &Bench, store: &mut Store, readings: &Readings) -> Resu
     Ok(())
 }
 
-struct Write {
-    entity: usize,
-    member: usize,
-    value: Value,
+#[derive(Clone, Copy, Debug)]
+pub struct Write {
+    /// The entity and its member.
+    pub cell: (usize, usize),
+    pub value: Value,
+    /// That of its rule.
+    pub rank: i32,
+    /// The places of its rule in the file and of its call in the rule.
+    pub rule: usize,
+    pub call: usize,
+}
+
+/// For each cell that is written, the write that stands.
+pub type Standing = BTreeMap<(usize, usize), Write>;
+
+/// Document 02, order 6: "The write of the highest rank stands; among equal ranks the earliest write does, no longer the last."
+pub fn standing(writes: &[Write]) -> Standing {
+    let mut standing = Standing::new();
+    for write in writes {
+        let stands = standing.entry(write.cell).or_insert(*write);
+        if write.rank > stands.rank {
+            *stands = *write;
+        }
+    }
+    standing
 }
 
 /// All writes, by rule, choice, call.
 fn fire(variant: Variant, bench: &Bench, now: &Store, before: &Store) -> Result<Vec<Write>, Stop> {
     let mut writes = Vec::new();
-    for rule in &bench.rules {
+    for number in 0..bench.rules.len() {
+        let rule = &bench.rules[number];
         let variables = rule.variables();
         let clauses = rule.clauses();
-        let mut trial = Trial { variant, bench, now, before, rule, clauses, variables, choice: Vec::new() };
+        let mut trial = Trial { variant, bench, now, before, number, rule, clauses, variables, choice: Vec::new() };
         trial.choose(&mut writes)?;
     }
     Ok(writes)
@@ -268,6 +299,8 @@ struct Trial<'b, 't> {
     bench: &'b Bench<'t>,
     now: &'b Store,
     before: &'b Store,
+    /// The rule's place in the file.
+    number: usize,
     rule: &'b Rule<'t>,
     clauses: Vec<&'b Clause<'t>>,
     variables: Vec<(Name<'t>, Name<'t>)>,
@@ -298,8 +331,8 @@ impl<'b, 't> Trial<'b, 't> {
         if !holds(&self.rule.condition, &mut truths.into_iter()) {
             return Ok(());
         }
-        for call in &self.rule.calls {
-            writes.extend(self.call(call)?);
+        for number in 0..self.rule.calls.len() {
+            writes.extend(self.call(number)?);
         }
         Ok(())
     }
@@ -341,7 +374,8 @@ impl<'b, 't> Trial<'b, 't> {
         equal(store.read(entity, member), self.sum(&filter.sum, store, Stands::Filter)?)
     }
 
-    fn call(&self, call: &Call) -> Result<Option<Write>, Stop> {
+    fn call(&self, number: usize) -> Result<Option<Write>, Stop> {
+        let call = &self.rule.calls[number];
         let entity = self.entity(call.on.name)?;
         let interface = self.interface(entity)?;
         let member = interface.member_of_sort(call.action.text, &[Sort::Action]).ok_or(Stop)?;
@@ -351,7 +385,7 @@ impl<'b, 't> Trial<'b, 't> {
             return Err(Stop);
         }
         let written = self.now.present[entity] && filtered;
-        Ok(written.then_some(Write { entity, member, value }))
+        Ok(written.then_some(Write { cell: (entity, member), value, rank: self.rule.rank(), rule: self.number, call: number }))
     }
 
     fn sum(&self, sum: &Sum, store: &Store, stands: Stands) -> Result<Cell, Stop> {

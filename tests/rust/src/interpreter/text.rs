@@ -7,7 +7,8 @@ pub const NAME_MOST: usize = 24;
 const DIGITS_MOST: usize = 10;
 const NUMBER_MOST: u64 = 2_147_483_647;
 
-pub const RESERVED: [&str; 21] = [
+/// Document 01's list; order 6 of document 02: "`rank` becomes reserved."
+pub const RESERVED: [&str; 22] = [
     "interface",
     "attribute",
     "event",
@@ -29,6 +30,7 @@ pub const RESERVED: [&str; 21] = [
     "whole",
     "bool",
     "real",
+    "rank",
 ];
 
 /// A refusal of a bench text: the table's number and the place.

@@ -9,7 +9,7 @@ use std::collections::{BTreeMap, BTreeSet};
 #[derive(Clone, Copy, Debug, PartialEq, Eq, PartialOrd, Ord)]
 pub enum Outcome {
     Accepted,
-    /// Refused by 13 to 18: it has words.
+    /// Refused by 13 to 18 or 44: it has words.
     Words,
     /// Refused by 12, further on.
     Later,
@@ -37,7 +37,7 @@ impl Coverage {
         let (outcome, end) = match answer & 255 {
             0 => (Outcome::Accepted, text.len()),
             12 => (Outcome::Later, refused),
-            13..=18 => (Outcome::Words, text.len()),
+            13..=18 | 44 => (Outcome::Words, text.len()),
             _ => return,
         };
         let places = places(text);
@@ -79,7 +79,7 @@ impl Coverage {
 
     pub fn print(&self) {
         println!(
-            "texts with a byte of a class at a place, accepted / refused by 13 to 18 / by 12 later / by 12 there, a text being in many:"
+            "texts with a byte of a class at a place, accepted / refused by 13 to 18 or 44 / by 12 later / by 12 there, a text being in many:"
         );
         for place in PLACES {
             let counts = |class: Class| OUTCOMES.map(|outcome| self.count((place, class, outcome)).to_string()).join(" / ");
@@ -110,7 +110,7 @@ pub fn required() -> Vec<Tried> {
 fn name((place, class, outcome): Tried) -> String {
     let outcome = match outcome {
         Outcome::Accepted => "accepted",
-        Outcome::Words => "refused by 13 to 18",
+        Outcome::Words => "refused by 13 to 18 or 44",
         Outcome::Later => "refused by 12 later",
         Outcome::There => "refused by 12 there",
     };

@@ -3,7 +3,7 @@
 use crate::generate::bench::{self, entity_words, interface_words, push, Plan, PlanEntity, PlanInterface, PlanMember, SMALL};
 use crate::generate::lines::{self, Column};
 use crate::generate::prng::Prng;
-use crate::generate::{damage, limits};
+use crate::generate::{damage, limits, ranks};
 use crate::interpreter::accept;
 use crate::interpreter::grammar::Sort;
 use crate::interpreter::text::TEXT_MOST;
@@ -157,7 +157,7 @@ fn padding(prng: &mut Prng, length: usize) -> Vec<u8> {
     bytes
 }
 
-/// A text that is refused by this number, 11 to 18.
+/// A text that is refused by this number, 11 to 18 or 44.
 pub fn refused(prng: &mut Prng, number: u8) -> Vec<u8> {
     loop {
         let text = damaged(prng, number);
@@ -168,11 +168,11 @@ pub fn refused(prng: &mut Prng, number: u8) -> Vec<u8> {
 }
 
 fn damaged(prng: &mut Prng, number: u8) -> Vec<u8> {
-    if number == 14 {
-        let words = limits::counted(prng);
-        return bench::render(prng, &words);
-    }
-    let mut words = bench::bench(prng, SMALL).words;
+    let mut words = match number {
+        14 => limits::counted(prng),
+        44 => ranks::faulty(prng),
+        _ => bench::bench(prng, SMALL).words,
+    };
     match number {
         13 => damage::words(prng, &mut words),
         15..=18 => damage::meaning(prng, &mut words),

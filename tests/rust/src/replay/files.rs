@@ -1,5 +1,6 @@
 //! Bench texts of every length and refusal, missing and empty files, noise, and many small folders.
 
+use super::required::TEXT_REFUSALS;
 use super::{benches, draft, exact, Files, CHUNKS};
 use crate::generate::bench::{self, Plan, LOOSE, SMALL};
 use crate::generate::lines::Column;
@@ -49,7 +50,7 @@ pub fn texts(prng: &mut Prng, turn: usize) -> Files {
 
 /// A refused bench, each number in turn; its readings do not matter, however long they are.
 pub fn refused(prng: &mut Prng, turn: usize) -> Files {
-    let text = benches::refused(prng, 11 + (turn % 8) as u8);
+    let text = benches::refused(prng, TEXT_REFUSALS[turn % TEXT_REFUSALS.len()]);
     let readings = match prng.below(5) {
         0 => None,
         1 => Some(Vec::new()),

@@ -27,6 +27,8 @@ pub const LONG: usize = 4_096;
 pub const PRINTED_EXACTLY: [usize; 13] =
     [4_096, 8_192, 16_384, 32_767, 32_768, 32_769, 65_535, 65_536, 65_537, 131_071, 131_072, 131_073, 196_608];
 pub const TEXT_LENGTHS: [usize; 3] = [32_767, 32_768, 32_769];
+/// The numbers that refuse a bench text, in their order.
+pub const TEXT_REFUSALS: [u8; 9] = [11, 12, 13, 44, 14, 15, 16, 17, 18];
 pub const NAMES_REFUSED: [usize; 3] = [32_767, 32_768, 32_769];
 pub const NAMES_BEYOND: [usize; 6] = [4_096, 8_192, 16_384, 20_000, CHUNK, 2 * CHUNK];
 pub const ODD_BYTES: [u8; 4] = [0, 9, 13, 255];
@@ -108,7 +110,8 @@ fn input() -> Vec<String> {
 }
 
 fn texts() -> Vec<String> {
-    let mut names = [0, 11, 12, 13, 14, 15, 16, 17, 18].map(answered).to_vec();
+    let mut names = vec![answered(0)];
+    names.extend(TEXT_REFUSALS.map(answered));
     names.extend(words(&["32767 bytes: accepted", "32768 bytes: accepted", "32768 bytes: refused 13", "32769 bytes: refused 11"]));
     names.extend([more_than(1), more_than(2), "too long, but accepted if cut".into()]);
     names

@@ -1,6 +1,6 @@
 -- `settled` meets its contract: one law for each answer.
-use Rattle.checking.proofs.laws.CheckLaws.{settles-short, settles-long, settles-bad, settles-unfit, judged-rows, settles-file}
 use borrow.Author.Needs.{needs}
+use Rattle.checking.proofs.laws.CheckLaws.{settles-short, settles-long, settles-bad, settles-unfit, judged-rows, settles-file}
 use Rattle.checking.proofs.check.settled.Statement.{statement}
 use Rattle.checking.proofs.check.settled.Tie as tie
 

@@ -10,6 +10,9 @@ repeated-requires c κs = search needs
 skip-requires : tie.Need-skip-requires
 skip-requires c κs = search needs
 
+priority-end-requires : tie.Need-priority-end-requires
+priority-end-requires c κs = search needs
+
 condition-requires : tie.Need-condition-requires
 condition-requires c κs = search needs
 
@@ -33,10 +36,10 @@ earlier-requires c κs = search needs
 
 returns : tie.Need-returns
 returns c =
-    rule-found (c .before .before .before .before .before .before .before .skip .ensures)
+    rule-found (c .before .before .before .before .before .before .before .before .skip .ensures) (c .before .before .before .before .before .before .before .priority-end .ensures)
     (c .before .before .before .before .before .before .condition .ensures) (c .before .before .before .before .before .skip2 .ensures)
     (c .before .before .before .before .call .ensures) (c .before .before .before .further-calls .ensures) (c .before .before .joined .ensures)
-    (c .before .joined2 .ensures) (c .before .before .before .before .before .before .before .before .repeated .ensures) (c .earlier .ensures)
+    (c .before .joined2 .ensures) (c .before .before .before .before .before .before .before .before .before .repeated .ensures) (c .earlier .ensures)
 
 pub rule-faults-spec : {M : Type 1} → statement M
 rule-faults-spec =
@@ -44,6 +47,7 @@ rule-faults-spec =
     (tie.spec
     repeated-requires
     skip-requires
+    priority-end-requires
     condition-requires
     skip-requires-2
     call-requires

@@ -11,14 +11,14 @@ use Rattle.cycles.proofs.calls.further_calls.Statement.{statement}
 use Rattle.cycles.proofs.calls.further_calls.Tie as tie
 
 abbrev Inv-loop : tie.InvT-loop
-Inv-loop classes values refs b flags cells at area₀ i₀ area i =
-    Calls-loop classes values refs b flags cells area₀ at area i × (length area ≡ length area₀)
+Inv-loop classes values refs b flags cells priority at area₀ i₀ area i =
+    Calls-loop classes values refs b flags cells priority area₀ at area i × (length area ≡ length area₀)
 
 abbrev μ-loop : tie.MeasureT-loop
-μ-loop classes values refs b flags cells at area₀ i₀ area i = length classes - i
+μ-loop classes values refs b flags cells priority at area₀ i₀ area i = length classes - i
 
 loop-holds : tie.Need-loop-holds Inv-loop μ-loop
-loop-holds c = (calls-begin _, refl)
+loop-holds c = (calls-begin _ _, refl)
 
 class-at-requires : tie.Need-class-at-requires Inv-loop μ-loop
 class-at-requires c κs = search needs
@@ -27,7 +27,7 @@ skip-requires : tie.Need-skip-requires Inv-loop μ-loop
 skip-requires c κs = search needs
 
 call-requires : tie.Need-call-requires Inv-loop μ-loop
-call-requires c κs = omega (arith, c .before .before .before .before .loop .inv .1)
+call-requires c κs = (omega (arith, c .before .before .before .before .loop .inv .1), omega arith)
 
 loop-less : tie.Need-loop-less Inv-loop μ-loop
 loop-less c =
@@ -38,17 +38,17 @@ loop-less c =
 
 loop-again : tie.Need-loop-again Inv-loop μ-loop
 loop-again c = (
-  call-turns _ (c .before .before .before .before .before .before .before .loop .inv .0)
+  call-turns _ _ (c .before .before .before .before .before .before .before .loop .inv .0)
       (c .before .before .before .before .before .before .class-at .ensures) (c .before .before .before .before .before .if1 .taken)
       (c .before .before .before .before .skip .ensures) (c .before .before .call .ensures),
-  c .before .before .call .kept .1 .1 .1 .1 .1 .1 .1 .0 ∙ c .before .before .before .before .before .before .before .loop .inv .1,
+  c .before .before .call .kept .1 .1 .1 .1 .1 .1 .1 .1 .0 ∙ c .before .before .before .before .before .before .before .loop .inv .1,
 )
 
 same-length : tie.Need-same-length Inv-loop μ-loop
 same-length c = c .before .before .loop .inv .1
 
 returns : tie.Need-returns Inv-loop μ-loop
-returns c = calls-stop _ (c .before .before .loop .inv .0) (c .before .class-at .ensures) (c .if1 .left)
+returns c = calls-stop _ _ (c .before .before .loop .inv .0) (c .before .class-at .ensures) (c .if1 .left)
 
 pub further-calls-spec : {M : Type 1} → statement M
 further-calls-spec =

@@ -136,7 +136,7 @@ same-length c = search needs
 -- src/cycle.rt:160:1
 returns-2 : tie.Need-returns-2
 returns-2 c = cycled (c .before .before .before .before .before .before .before .before .before .before .before .before .before .before .before .before .before .before .before .before .before .before .before .before .before .before .before .before .row .ensures .0) (c .before .before .before .before .before .before .before .before .before .before .before .before .before .before .before .before .before .before .before .before .before .before .before .before .before .before .before .if1 .left) (c .before .before .before .before .before .before .before .before .before .before .before .before .before .before .before .before .before .before .before .before .before .before .before .before .before .before .before .before .before .before .before .before .before .before .before .before .before .pre .1) (replicate 32 0)
-    (zeros-blank 3456 (omega arith))
+    (zeros-blank 3840 (omega arith))
     (c .before .before .before .before .before .before .before .before .before .before .before .before .before .before .before .before .before .before .before .before .before .before .before .before .see-flags .ensures) (c .before .before .before .before .before .before .before .before .before .before .before .before .before .before .before .before .before .before .before .see-cells .ensures) (c .before .before .before .before .before .before .before .before .before .before .before .before .all-rules .ensures) (c .before .before .before .before .before .before .before .before .put-next .ensures) (c .before .before .put-stores .ensures)
 
 pub cycle-spec : {M : Type 1} → statement M

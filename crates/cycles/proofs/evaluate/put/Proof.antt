@@ -20,8 +20,8 @@ add-i c = search needs
 returns-3 : tie.Need-returns-3
 returns-3 c = put-beyond (c .if3 .taken)
 
-put-cell-requires : tie.Need-put-cell-requires
-put-cell-requires c κs = search needs
+put-write-requires : tie.Need-put-write-requires
+put-write-requires c κs = search needs
 
 same-length : tie.Need-same-length
 same-length c = search needs
@@ -29,7 +29,7 @@ same-length c = search needs
 returns-4 : tie.Need-returns-4
 returns-4 c =
     put-made (not-false _ (c .before .before .before .before .before .before .if1 .left)) (c .before .before .before .before .before .if2 .left)
-    (c .before .before .put-cell .ensures)
+    (c .before .before .put-write .ensures)
 
 pub put-spec : {M : Type 1} → statement M
 put-spec =
@@ -40,6 +40,6 @@ put-spec =
     mul-i
     add-i
     returns-3
-    put-cell-requires
+    put-write-requires
     same-length
     returns-4)

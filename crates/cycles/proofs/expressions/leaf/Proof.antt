@@ -34,8 +34,8 @@ returns-3 c = leaf-is-true (c .before .before .before .class-at .ensures) (c .if
 returns-4 : tie.Need-returns-4
 returns-4 c = leaf-is-false (c .before .before .before .before .class-at .ensures) (c .if4 .taken) (c .before .before .before .skip .ensures)
 
-number-requires : tie.Need-number-requires
-number-requires c κs = search needs
+value-at-requires : tie.Need-value-at-requires
+value-at-requires c κs = search needs
 
 whole-literal-requires : tie.Need-whole-literal-requires
 whole-literal-requires c κs = search needs
@@ -43,10 +43,10 @@ whole-literal-requires c κs = search needs
 returns-5 : tie.Need-returns-5
 returns-5 c =
     leaf-is-whole (c .before .before .before .before .before .before .before .class-at .ensures) (c .before .before .if5 .taken)
-    (c .before .before .before .before .before .before .skip .ensures) (c .before .number .ensures) (c .whole-literal .ensures)
+    (c .before .before .before .before .before .before .skip .ensures) (c .before .value-at .ensures) (c .whole-literal .ensures)
 
-number-requires-2 : tie.Need-number-requires-2
-number-requires-2 c κs = search needs
+value-at-requires-2 : tie.Need-value-at-requires-2
+value-at-requires-2 c κs = search needs
 
 real-literal-requires : tie.Need-real-literal-requires
 real-literal-requires c κs = search needs
@@ -54,7 +54,7 @@ real-literal-requires c κs = search needs
 returns-6 : tie.Need-returns-6
 returns-6 c =
     leaf-is-real (c .before .before .before .before .before .before .before .before .class-at .ensures) (c .before .before .if6 .taken)
-    (c .before .before .before .before .before .before .before .skip .ensures) (c .before .number2 .ensures) (c .real-literal .ensures)
+    (c .before .before .before .before .before .before .before .skip .ensures) (c .before .value-at2 .ensures) (c .real-literal .ensures)
 
 returns-7 : tie.Need-returns-7
 returns-7 c =
@@ -74,10 +74,10 @@ leaf-spec =
     returns-2
     returns-3
     returns-4
-    number-requires
+    value-at-requires
     whole-literal-requires
     returns-5
-    number-requires-2
+    value-at-requires-2
     real-literal-requires
     returns-6
     returns-7)

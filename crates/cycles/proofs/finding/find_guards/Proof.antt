@@ -6,6 +6,9 @@ use borrow.Author.Needs.{needs}
 use Rattle.cycles.proofs.finding.find_guards.Statement.{statement}
 use Rattle.cycles.proofs.finding.find_guards.Tie as tie
 
+priority-end-requires : tie.Need-priority-end-requires
+priority-end-requires c κs = search needs
+
 conjuncts-requires : tie.Need-conjuncts-requires
 conjuncts-requires c κs = search needs
 
@@ -41,7 +44,7 @@ same-length-2 c =
 returns-2 : tie.Need-returns-2
 returns-2 c =
     let s = c .before .before .before .before .before .before .before .before .before in
-    guards-are (s .before .before .before .before .conjuncts .ensures) (s .before .class-at .ensures) (s .if1 .left)
+    guards-are (s .before .before .before .before .before .before .priority-end .ensures) (s .before .before .before .before .conjuncts .ensures) (s .before .class-at .ensures) (s .if1 .left)
     (c .before .before .before .before .before .before .before .before .skip .ensures)
     (c .before .before .before .before .before .before .call-guard .ensures) (c .before .before .conjuncts2 .ensures)
 
@@ -49,6 +52,7 @@ pub find-guards-spec : {M : Type 1} → statement M
 find-guards-spec =
     tie.close
     (tie.spec
+    priority-end-requires
     conjuncts-requires
     class-at-requires
     same-length

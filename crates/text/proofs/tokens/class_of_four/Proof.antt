@@ -44,16 +44,23 @@ slice-aggregate-class-if-6 c = search needs
 class-if-requires-6 : tie.Need-class-if-requires-6
 class-if-requires-6 c κs = search needs
 
+slice-aggregate-class-if-7 : tie.Need-slice-aggregate-class-if-7
+slice-aggregate-class-if-7 c = search needs
+
+class-if-requires-7 : tie.Need-class-if-requires-7
+class-if-requires-7 c κs = search needs
+
 returns : tie.Need-returns
 unfolding reserved of-length
 returns c =
-    let name = now (c .before .before .before .before .before .before .before .before .before .before .before .before .before .args .name) in
-    let real-on = c .before .before .before .before .before .before .before .before .before .before .class-if .ensures [] (class-nothing name) in
-    let bool-on = c .before .before .before .before .before .before .before .before .class-if2 .ensures _ real-on in
-    let true-on = c .before .before .before .before .before .before .class-if3 .ensures _ bool-on in
-    let with-on = c .before .before .before .before .class-if4 .ensures _ true-on in
-    let from-on = c .before .before .class-if5 .ensures _ with-on in
-    c .class-if6 .ensures _ from-on
+    let name = now (c .before .before .before .before .before .before .before .before .before .before .before .before .before .before .before .args .name) in
+    let priority-on = c .before .before .before .before .before .before .before .before .before .before .before .before .class-if .ensures [] (class-nothing name) in
+    let real-on = c .before .before .before .before .before .before .before .before .before .before .class-if2 .ensures _ priority-on in
+    let bool-on = c .before .before .before .before .before .before .before .before .class-if3 .ensures _ real-on in
+    let true-on = c .before .before .before .before .before .before .class-if4 .ensures _ bool-on in
+    let with-on = c .before .before .before .before .class-if5 .ensures _ true-on in
+    let from-on = c .before .before .class-if6 .ensures _ with-on in
+    c .class-if7 .ensures _ from-on
 
 pub class-of-four-spec : {M : Type 1} → statement M
 class-of-four-spec =
@@ -71,4 +78,6 @@ class-of-four-spec =
     class-if-requires-5
     slice-aggregate-class-if-6
     class-if-requires-6
+    slice-aggregate-class-if-7
+    class-if-requires-7
     returns)

@@ -1,0 +1,21 @@
+-- `value_at` meets its contract.
+use mathlib.Core.Path.{sym}
+use lib.ListN.{List·getD-eq-default}
+use borrow.Author.Needs.{needs}
+use Rattle.text.proofs.walks.value_at.Statement.{statement}
+use Rattle.text.proofs.walks.value_at.Tie as tie
+
+returns : tie.Need-returns
+returns c = sym (List·getD-eq-default (c .before .args .values .now) 0 (c .if1 .taken))
+
+mul-result : tie.Need-mul-result
+mul-result c = search needs
+
+shared-slice-read-result : tie.Need-shared-slice-read-result
+shared-slice-read-result c = search needs
+
+returns-2 : tie.Need-returns-2
+returns-2 c = search needs
+
+pub value-at-spec : {M : Type 1} → statement M
+value-at-spec = tie.close (tie.spec returns mul-result shared-slice-read-result returns-2)

@@ -1,0 +1,3 @@
+-- What the documents speak of: the definitions that a reader has to believe.
+pub mod Writes
+pub mod Prevails
