@@ -16,7 +16,7 @@ use Rattle.checking.specs.contracts.FoundFaults.{found-as}
 use Rattle.checking.specs.contracts.CountChecked.{Classes-of, Offsets-of}
 use Rattle.checking.specs.contracts.CheckedBench.{Values-of}
 
--- a priority's number at token number i
+-- the fault of a priority's number at token number i, if it is above the greatest
 unfoldable pub number-fault-at : List ℕ → List ℕ → ℕ → List Fault
 unfolding fault-unless
 number-fault-at offsets values i = fault-unless (leb (getD values i 0) MOST-PRIORITY) 44 (getD offsets i 0)

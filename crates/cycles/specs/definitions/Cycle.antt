@@ -36,7 +36,7 @@ seen f s i = record {
   cell = λ e m. Option·getD (i .given e m) (cond (leaves s i e && not (is-sort is-attribute (member-of f e m))) Unset (s .cell e m));
 }
 
--- "Action cells become unset, then take the writes", of which document 02, order 6 says: "The write of the highest priority stands; among equal priorities the
+-- "Action cells become unset, then take the writes", of which document 02, order 6 says: "The write of the highest rank stands; among equal ranks the
 -- earliest write does"
 unfoldable pub stored : File → Store → List Write → Store
 unfolding is-sort is-action member-of written-value standing

@@ -5,7 +5,7 @@ use mathlib.Core.List.{List, _∷_, _++_, List·Memᴰ}
 use mathlib.Core.Bool.{true}
 use Rattle.writes.specs.definitions.Writes.{Write, is-to}
 
--- it is to the cell; of the other writes to the cell those before it have lower stamps ("among equal ranks the earliest write does"), and those after
+-- it is to the cell; of the other writes to the cell those before it have lower priorities ("among equal ranks the earliest write does"), and those after
 -- it no higher ones ("The write of the highest rank stands")
 pub record Prevails (e m : ℕ) (ws : List Write) (w : Write) : Type 0 where
   pub before : List Write

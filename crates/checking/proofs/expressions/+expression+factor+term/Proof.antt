@@ -1,4 +1,4 @@
--- `expression`, `term` and `factor` meet their contracts. The openers left fall, or the priority does.
+-- `expression`, `term` and `factor` meet their contracts. The openers left fall, or the rank does.
 use Prim.Native.Nat.{_-_, _+_, _*_}
 use mathlib.Core.Path.{refl, sym, _∙_}
 use lib.ListN.{length}

@@ -1,5 +1,5 @@
 -- `factor`, `sum` and `term` meet their contracts.
--- The measures: each call leaves fewer openers to come, or as many and has a lower priority.
+-- The measures: each call leaves fewer openers to come, or as many and has a lower rank.
 use Prim.Native.Nat.{ℕ, _<_, _+_, _*_, _-_}
 use lib.ListN.{length}
 use borrow.Author.Needs.{needs}

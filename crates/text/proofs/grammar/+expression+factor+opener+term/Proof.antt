@@ -1,5 +1,5 @@
 -- `expression`, `factor`, `opener` and `term` meet their contracts.
--- The measures: each call has fewer tokens left, or as many and a lower priority.
+-- The measures: each call has fewer tokens left, or as many and a lower rank.
 use Prim.Native.Nat.{ℕ, _<_, _+_, _*_}
 use mathlib.Core.Path.{refl}
 use lib.ListN.{length}
