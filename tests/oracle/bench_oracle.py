@@ -1,16 +1,17 @@
 """An executable reading of document 01 ("The Pantagruel bench engine") with orders 1
-to 6 of document 02 ("Requests that came later"); no later order is in force here.
+to 7 of document 02 ("Requests that came later"); no later order is in force here.
 
 The module follows the order of document 01: values and sums, words, grammar,
 counts, names, kinds, the bare machine, lines of readings, the runner; of document 02
 the byte classes stand before the words, the ranks of rules before the counts and with the
-machine, the senders of lines with the machine and its lines, and the day sheet at the end.
+machine, the rules at rest before the machine, with it and at the end, the senders of lines
+with the machine and its lines, and the day sheet at the end.
 It aims at being easy to compare with the text, not at speed.  "Readings" below are the
 pages that decide the documents' open points.  A quotation is document 01's unless
 document 02 or Readings is named beside it.
 
-Public: check, Bench, run, state_after, sheet, stated_size, printed_sheet, byte_class,
-printed_classes, main.
+Public: check, Bench, run, state_after, sheet, stated_size, printed_sheet, cells_read,
+tried, printed_tried, byte_class, printed_classes, main.
 """
 
 import math
@@ -20,7 +21,7 @@ import sys
 from dataclasses import dataclass
 from itertools import product
 from pathlib import Path
-from typing import Dict, Iterator, List, Optional, Tuple, Union
+from typing import Dict, FrozenSet, Iterator, List, Optional, Set, Tuple, Union
 
 # --------------------------------------------------------------------------
 # Values
@@ -1168,6 +1169,54 @@ def check(text: bytes) -> Tuple[int, int]:
 
 
 # --------------------------------------------------------------------------
+# What a rule's condition reads (document 02, order 7; a quotation of this section is that of Readings, section 7,
+# unless another is named)
+# --------------------------------------------------------------------------
+
+CellName = Tuple[int, bytes]  # entity's number and member's name
+
+
+def members_read_by_clause(clause: Clause) -> List[Tuple[bytes, bytes]]:
+    """ "for each clause its event at its target, its filter's attribute at its target, and each member in its
+    filter's and test's expressions": each as it stands in the text, name and member."""
+    target = clause.target.name.text
+    found = [(target, clause.event.text)]
+    inside: List[MemberOf] = []
+    if clause.filter is not None:
+        found.append((target, clause.filter.attribute.text))
+        inside += members_read(clause.filter.wanted)
+    if clause.test is not None:
+        inside += members_read(clause.test.wanted)
+    return found + [(read.owner.text, read.member.text) for read in inside]
+
+
+def entities_meant(file: File, rule: Rule, text: bytes) -> List[int]:
+    """The numbers of all entities that a name of a rule can stand for, present or absent.
+
+    An entity's name stands for that entity; "at a variable, that member of every entity of the variable's
+    interface (variables declared by calls too, where the condition uses them)".
+    """
+    item = meant(file, rule, text)
+    if isinstance(item, Entity):
+        return [file.entities.index(item)]
+    interface = item.interface.text
+    return [number for number, entity in enumerate(file.entities) if entity.interface.text == interface]
+
+
+def cells_read(file: File, rule: Rule) -> FrozenSet[CellName]:
+    """Order 7: "Keep for each rule the list of cells it reads, by the interface of its variables".
+
+    "A rule's reads, by the text of the rule and not by what a choice happens to read"; "Calls' reads are no part
+    of it."
+    """
+    found: Set[CellName] = set()
+    for clause in clauses_of(rule.condition):
+        for owner, member in members_read_by_clause(clause):
+            found.update((number, member) for number in entities_meant(file, rule, owner))
+    return frozenset(found)
+
+
+# --------------------------------------------------------------------------
 # The bare machine
 # --------------------------------------------------------------------------
 
@@ -1245,6 +1294,7 @@ class Machine:
         self.file = file
         self.interfaces = [interface_of(file, entity) for entity in file.entities]
         self.numbers = {entity.name.text: number for number, entity in enumerate(file.entities)}
+        self.reads = [cells_read(file, rule) for rule in file.rules]
 
     # -- cells
 
@@ -1295,13 +1345,24 @@ class Machine:
         return Store(present, cells)
 
     def writes(self, now: Store, before: Store) -> List[Write]:
-        """ "Writes come by rule, choice, call." """
+        """ "Writes come by rule, choice, call."  Rules at rest are tried here as well: document 02, order 7 claims
+        that it makes no difference, and the assertion holds it to that."""
         found = []
-        for rule in self.file.rules:
-            for choice in self.choices(rule, now):
-                if self.holds(rule.condition, choice, now, before):
-                    for call in rule.calls:
-                        found.extend(self.call_writes(call, rank_of(rule), choice, now))
+        at_rest = self.at_rest(now, before)
+        for number, rule in enumerate(self.file.rules):
+            writes = self.rule_writes(rule, now, before)
+            # Document 02, order 7: "no clause can hold, so the rule is passed over without a choice being tried"
+            assert number not in at_rest or not writes, "a rule at rest writes"
+            found.extend(writes)
+        return found
+
+    def rule_writes(self, rule: Rule, now: Store, before: Store) -> List[Write]:
+        """The writes of one rule, by choice, then call."""
+        found = []
+        for choice in self.choices(rule, now):
+            if self.holds(rule.condition, choice, now, before):
+                for call in rule.calls:
+                    found.extend(self.call_writes(call, rank_of(rule), choice, now))
         return found
 
     def choices(self, rule: Rule, now: Store) -> Iterator[Dict[bytes, int]]:
@@ -1325,6 +1386,29 @@ class Machine:
             for number, entity in enumerate(self.file.entities)
             if entity.interface.text == interface and now.present[number]
         ]
+
+    # -- rules at rest (document 02, order 7)
+
+    def moved(self, now: Store, before: Store) -> Set[CellName]:
+        """ "the set of cells that moved since the cycle before, actions included".
+
+        The two stores are those that the rules see as now and as one cycle before, so a fired action has moved in the
+        cycle after the one that fired it.  Readings: "A cell moved if what it reads (absent: unset) differs now from
+        the cycle before, by `changed`'s comparison. Before the first cycle all read unset."
+        """
+        names = [(number, member.name.text) for number, member in self.cells()]
+        return {cell for cell in names if differ(now.read(*cell), before.read(*cell))}
+
+    def at_rest(self, now: Store, before: Store) -> List[int]:
+        """The numbers of the rules that are passed over.  Readings: "A rule rests if none of its reads moved." """
+        moved = self.moved(now, before)
+        return [number for number, reads in enumerate(self.reads) if not reads & moved]
+
+    def tried(self, now: Store, before: Store) -> List[int]:
+        """The numbers of the rules that are tried, in the order of the file: "exactly these rules are passed over",
+        so all others are tried."""
+        at_rest = self.at_rest(now, before)
+        return [number for number in range(len(self.file.rules)) if number not in at_rest]
 
     # -- conditions and calls
 
@@ -1673,6 +1757,21 @@ def run(bench_txt: bytes, readings_txt: bytes) -> bytes:
     return b"".join(line + b"\n" for line in printed_lines(bench_txt, readings_txt))
 
 
+def cycles_of_lines(
+    bench: Bench, state: State, names: bytes, lines: List[bytes]
+) -> Iterator[Tuple[bytes, State, State]]:
+    """For each line that makes a cycle its sender, the state before it and the state after it.
+
+    "A refused line isn't given to it [the machine]; a resent one starts no cycle": this leaves all that is kept of
+    senders, and every other taken line moves the number of its own.
+    """
+    for values in lines:
+        code, _, following = bench.line(state, names, values)
+        if code == 0 and following.senders != state.senders:
+            yield values.split(b" ")[0], state, following
+        state = following
+
+
 # --------------------------------------------------------------------------
 # The day sheet (document 02, order 3; a quotation of this section is that order's unless another is named)
 # --------------------------------------------------------------------------
@@ -1717,15 +1816,11 @@ def printed_lines_of_day(
     """The number of each printed line and the state after it: "the taken lines of a day, [...] run on from
     the lent state".
 
-    "A resent line isn't printed": it leaves all that is kept of senders, and every other taken line
-    moves the number of its own.  Readings: "a refused record is passed over, as the runner does".
+    "A resent line isn't printed", so a printed line is one that makes a cycle.  Readings: "a refused record is
+    passed over, as the runner does".
     """
-    for values in lines:
-        code, _, following = bench.line(state, names, values)
-        if code == 0 and following.senders != state.senders:
-            sender = values.split(b" ")[0]
-            yield following.senders[sender].number, following
-        state = following
+    for sender, _, following in cycles_of_lines(bench, state, names, lines):
+        yield following.senders[sender].number, following
 
 
 def state_after(bench_text: bytes, readings: bytes) -> State:
@@ -1848,6 +1943,45 @@ def printed_sheet(bench_txt: bytes, readings_txt: bytes, cells: bytes) -> bytes:
 
 
 # --------------------------------------------------------------------------
+# The rules tried in each cycle (document 02, order 7)
+# --------------------------------------------------------------------------
+
+
+def tried_of_cycles(bench: Bench, names: bytes, lines: List[bytes]) -> Iterator[Tuple[bytes, int, List[int]]]:
+    """For each line that makes a cycle, from the fresh state on, its sender, its number and the rules tried.
+
+    What the rules saw in a cycle is what its state after it has as "one cycle before"; what they then compared it
+    with is what the state before it has there.
+    """
+    for sender, state, following in cycles_of_lines(bench, bench.fresh(), names, lines):
+        yield sender, following.senders[sender].number, bench.machine.tried(following.before, state.before)
+
+
+def tried(bench_text: bytes, readings: bytes) -> List[List[int]]:
+    """The rules tried in each cycle of an accepted bench; where the line of names is refused there is no cycle."""
+    names, *lines = lines_of(readings)
+    return [numbers for _, _, numbers in tried_of_cycles(Bench(bench_text), names, lines)]
+
+
+def printed_tried(bench_txt: bytes, readings_txt: bytes) -> bytes:
+    """What `--tried` prints: sender and number of each line that makes a cycle, a colon, and the rules tried.
+
+    A refused bench or line of names is printed as the runner prints it, and then nothing.
+    """
+    code, place = check(bench_txt)
+    if code != 0:
+        return b"refused %d %d\n" % (code, place)
+    bench = Bench(bench_txt)
+    names, *lines = lines_of(readings_txt)
+    if not bench.takes_names(names):
+        return b"refused 22\n"
+    printed = b""
+    for sender, number, rules in tried_of_cycles(bench, names, lines):
+        printed += b" ".join([sender, b"%d:" % number] + [b"%d" % rule for rule in rules]) + b"\n"
+    return printed
+
+
+# --------------------------------------------------------------------------
 # The command line
 # --------------------------------------------------------------------------
 
@@ -1859,15 +1993,19 @@ def content(path: Path) -> bytes:
 
 def main(arguments: List[str]) -> int:
     with_sheet = len(arguments) == 3 and arguments[0] == "--sheet"
-    if len(arguments) != 1 and not with_sheet:
-        sys.stderr.write("usage: python3 bench_oracle.py --classes | [--sheet CELLS] FOLDER\n")
+    with_tried = len(arguments) == 2 and arguments[0] == "--tried"
+    if len(arguments) != 1 and not with_sheet and not with_tried:
+        sys.stderr.write("usage: python3 bench_oracle.py --classes | [--sheet CELLS | --tried] FOLDER\n")
         return 2
     if arguments == ["--classes"]:
         sys.stdout.buffer.write(printed_classes())
         return 0
     folder = Path(arguments[-1])
     texts = content(folder / "bench.txt"), content(folder / "readings.txt")
-    printed = printed_sheet(*texts, os.fsencode(arguments[1])) if with_sheet else run(*texts)
+    if with_sheet:
+        printed = printed_sheet(*texts, os.fsencode(arguments[1]))
+    else:
+        printed = printed_tried(*texts) if with_tried else run(*texts)
     sys.stdout.buffer.write(printed)
     return 0
 

@@ -1,13 +1,14 @@
 """Makes cases.json, bench texts and readings with the results of bench_oracle,
-sheets.json, the same for the day sheet, and classes.txt, the class of every byte.
+sheets.json, the same for the day sheet, tried.json, the same for the rules tried in each
+cycle, and classes.txt, the class of every byte.
 
 Every stored result comes from bench_oracle; next to each written case stands the
-result worked out by hand from document 01 with orders 1 to 6 of document 02, and the two
+result worked out by hand from document 01 with orders 1 to 7 of document 02, and the two
 must agree.  In a refused bench text the mark @ (no byte of any such text otherwise)
 shows the expected place.
 
 `python3 tests/oracle/make_cases.py`, or with --check, compares: it fails, and names
-the first case or line that differs, if a file is not what is made here.  --write writes all three.
+the first case or line that differs, if a file is not what is made here.  --write writes all four.
 """
 
 import copy
@@ -18,15 +19,19 @@ import sys
 from itertools import product, zip_longest
 from pathlib import Path
 
-from bench_oracle import Bench, byte_class, check, printed_classes, printed_sheet, run, sheet, state_after, stated_size
+from bench_oracle import Bench, Reader, Real, byte_class, cells_read, check, clauses_of, cycles_of_lines, differ, negation
+from bench_oracle import operation, printed_classes, printed_sheet, printed_tried, run, sheet, state_after, stated_size
+from bench_oracle import tried, words_of
 
 SEED = 20240645
 OUTPUT = Path(__file__).resolve().parent / "cases.json"
 SHEETS_OUTPUT = OUTPUT.with_name("sheets.json")
+TRIED_OUTPUT = OUTPUT.with_name("tried.json")
 CLASSES_OUTPUT = OUTPUT.with_name("classes.txt")
 
 CASES = []
 SHEETS = []
+TRIED = []
 
 
 def add(name, bench, readings):
@@ -2562,6 +2567,372 @@ def make_refused_sheets():
 
 
 # --------------------------------------------------------------------------
+# Rules at rest (document 02, order 7): the rules tried in each cycle
+# --------------------------------------------------------------------------
+
+
+def tried_rules(name, bench, names, table):
+    """A bench with readings; `table` has the lines of values and beside each the numbers of the rules tried, None
+    beside a line that makes no cycle."""
+    assert name.startswith("tried-") and all(case["name"] != name for case in TRIED), name
+    assert len(bench) <= 420 and len(table) <= 9, name
+    readings = "".join(line + "\n" for line in [names] + [line for line, _ in table])
+    text, lines = bench.encode("ascii"), readings.encode("ascii")
+    assert check(text) == (0, 0), (name, check(text))
+    assert all(row != b"refused 22" for row in run(text, lines).split(b"\n")), name
+    found = tried(text, lines)
+    assert found == [rules for _, rules in table if rules is not None], (name, found)
+    printed = ["%s:%s" % (" ".join(line.split()[:2]), "".join(" %d" % rule for rule in rules))
+               for line, rules in table if rules is not None]
+    assert printed_tried(text, lines).decode("ascii").split("\n") == printed + [""], name
+    TRIED.append({"name": name, "bench": bench, "readings": readings, "tried": found})
+
+
+def rest_bench(members, entities, *conditions):
+    """A bench with an interface I and rules of these conditions, which all press k on s; no condition reads k."""
+    rules = ["when %s trigger action k ( 1 ) on s end " % condition for condition in conditions]
+    return "interface I { %saction k ( whole ) } %srules %send" % (members, entities, "".join(rules))
+
+
+E = "event e : whole "
+EF = E + "event f : whole "
+AE = "attribute a : whole " + E
+S = "entity s : I { } "
+S1 = "entity s : I { a = 1 } "
+E_CHANGED = "event e from s value changed"
+
+
+def make_tried_at_first():
+    # a line makes a cycle, and there is nothing to try
+    tried_rules("tried-no-rule", "rules end", "by n", [("a 1", []), ("a 2", [])])
+    # before the first cycle a read unset as well, so it moves though no event is set; rule 1 reads e alone
+    tried_rules(
+        "tried-first-line-moves-attributes",
+        rest_bench(AE, S1, "event e from s with a = 1 value changed", E_CHANGED, "event e from s value = s.a"),
+        "by n s.e",
+        [("a 1 -", [0, 2]), ("a 2 -", []), ("a 3 5", [0, 1, 2]), ("a 4 -", [])],
+    )
+    # s is away in the first cycle, so that a moves when it comes
+    tried_rules(
+        "tried-absent-in-the-first-line",
+        rest_bench(AE, S1, "event e from s with a = 1 value changed"),
+        "by n s",
+        [("a 1 false", []), ("a 2 -", []), ("a 3 true", [0]), ("a 4 -", [])],
+    )
+    # the only event is an action that nobody presses, with no column of its own; e moves, and nobody reads it
+    tried_rules(
+        "tried-attributes-alone",
+        "interface I { attribute a : whole event e : whole action k ( whole ) action j ( whole ) } entity s : I { a = 1 } "
+        "rules when event j from s with a = s.a value = s.a + 1 trigger action k ( s.e ) on s end end",
+        "by n s.e",
+        [("a 1 1", [0]), ("a 2 2", []), ("a 3 ?", [])],
+    )
+
+
+def make_tried_by_events():
+    tried_rules("tried-one-event", rest_bench(E, S, E_CHANGED), "by n s.e", [
+        ("a 1 -", []),  # unset, and unset before
+        ("a 2 5", [0]),
+        ("a 3 5", []),  # the same value again
+        ("a 4 -", []),
+        ("a 5 6", [0]),
+        ("a 6 ?", [0]),
+        ("a 7 ?", []),
+        ("a 8 -", []),
+        ("a 9 6", [0]),
+    ])
+    # 0, -0, 0, unset, -0, the least real above 0, 0
+    tried_rules("tried-two-zeros", rest_bench("event e : real ", S, E_CHANGED), "by n s.e", [
+        ("a 1 0000000000000000", [0]),
+        ("a 2 8000000000000000", []),
+        ("a 3 0000000000000000", []),
+        ("a 4 ?", [0]),
+        ("a 5 8000000000000000", [0]),
+        ("a 6 0000000000000001", [0]),
+        ("a 7 0000000000000000", [0]),
+    ])
+    # no rule ever fires: a is 1, and e is not 9; rest goes by what is read
+    tried_rules(
+        "tried-though-nothing-holds",
+        rest_bench(AE, S1, "event e from s with a = 2 value changed", "event e from s value = 9"),
+        "by n s.e",
+        [("a 1 1", [0, 1]), ("a 2 2", [0, 1]), ("a 3 2", []), ("a 4 ?", [0, 1])],
+    )
+    # one read is enough, under `or`, inside parentheses, under `and`
+    tried_rules(
+        "tried-or-and",
+        rest_bench(
+            EF + "event g : bool ",
+            S,
+            E_CHANGED + " or event f from s value changed",
+            "( " + E_CHANGED + " or event f from s value = 1 ) and event g from s value = true",
+        ),
+        "by n s.e s.f s.g",
+        [("a 1 1 - -", [0, 1]), ("a 2 - 1 -", [0, 1]), ("a 3 - - true", [1]), ("a 4 - - -", [])],
+    )
+    # the write of rule 1 stands where both fire; the numbers go by the file
+    tried_rules(
+        "tried-ranks",
+        rest_bench(EF, S, "rank 2 " + E_CHANGED, "rank 9 event f from s value changed"),
+        "by n s.e s.f",
+        [("a 1 1 1", [0, 1]), ("a 2 2 -", [0]), ("a 3 - 2", [1]), ("a 4 - -", [])],
+    )
+
+
+def make_tried_by_sums():
+    # e is unset throughout; in line 1 a moves
+    tried_rules(
+        "tried-sum-of-a-filter",
+        rest_bench("attribute a : whole " + EF, S1, "event e from s with a = s.f value changed", "event e from s with a = 1 value changed"),
+        "by n s.f",
+        [("a 1 -", [0, 1]), ("a 2 1", [0]), ("a 3 1", []), ("a 4 ?", [0])],
+    )
+    tried_rules(
+        "tried-sum-of-a-test",
+        rest_bench(EF, S, "event e from s value = s.f", E_CHANGED),
+        "by n s.f",
+        [("a 1 -", []), ("a 2 1", [0]), ("a 3 1", []), ("a 4 2", [0]), ("a 5 ?", [0])],
+    )
+    # under `real`, `-`, parentheses and to the right of every operator
+    tried_rules(
+        "tried-deep-in-a-sum",
+        rest_bench("event r : real " + EF + "event g : whole ", S, "event r from s value = 1r - real ( s.f * - ( 2 + s.g ) )"),
+        "by n s.e s.f s.g",
+        [("a 1 1 - -", []), ("a 2 - 1 -", [0]), ("a 3 - - 1", [0]), ("a 4 2 - 1", [])],
+    )
+    # the sums are 0 and unset, whatever f is; f is read by the text
+    tried_rules(
+        "tried-sum-that-stays",
+        rest_bench(EF, S, "event e from s value = 0 * s.f", "event e from s value = s.f / 0"),
+        "by n s.e s.f",
+        [("a 1 0 1", [0, 1]), ("a 2 0 2", [0, 1]), ("a 3 0 2", [])],
+    )
+    # t.e is read, u.e and t.f are not; t leaves with it
+    tried_rules(
+        "tried-member-of-another-entity",
+        rest_bench(EF, S + "entity t : I { } entity u : I { } ", "event e from s value = t.e"),
+        "by n t t.e t.f u.e",
+        [
+            ("a 1 - 1 1 1", [0]),
+            ("a 2 - - - 2", []),
+            ("a 3 - - 2 -", []),
+            ("a 4 - 2 - -", [0]),
+            ("a 5 false - - -", [0]),
+            ("a 6 true - - -", []),
+        ],
+    )
+
+
+def make_tried_by_variables():
+    # x is of I in rule 0 and of J in rule 1; s and u are of I, t is of J
+    tried_rules(
+        "tried-variable",
+        "interface J { event e : whole } "
+        + rest_bench(E, S + "entity t : J { } entity u : I { } ", "event e from x : I value changed", "event e from x : J value changed"),
+        "by n s.e t.e u.e",
+        [
+            ("a 1 - - -", []),
+            ("a 2 1 - -", [0]),
+            ("a 3 - 1 -", [1]),
+            ("a 4 - - 1", [0]),
+            ("a 5 - 2 2", [0, 1]),
+            ("a 6 - - -", []),
+        ],
+    )
+    # rule 0 has its clause at a variable of the call, rule 1 has one in its test's sum, rule 2 reads none
+    tried_rules(
+        "tried-variable-of-a-call",
+        "interface I { event e : whole action k ( whole ) } interface J { event f : whole } "
+        "entity s : I { } entity t : I { } entity u : J { } "
+        "rules when event e from x value changed trigger action k ( 1 ) on x : I end "
+        "when event f from u value = x.e trigger action k ( 1 ) on x : I end "
+        "when event f from u value changed trigger action k ( 1 ) on x : I end end",
+        "by n s.e t.e u.f",
+        [("a 1 - - 9", [1, 2]), ("a 2 1 - -", [0, 1]), ("a 3 - 1 -", [0, 1]), ("a 4 - - -", [])],
+    )
+    # b of t is read in rule 0's filter; rule 1 has t in its call alone, so it rests as t leaves and comes
+    tried_rules(
+        "tried-attribute-of-a-variable",
+        "interface I { attribute a : whole event e : whole } interface J { attribute b : whole action k ( whole ) } "
+        "entity s : I { a = 1 } entity t : J { b = 1 } "
+        "rules when event e from s with a = y.b value changed trigger action k ( 1 ) on y : J end "
+        "when event e from s value changed trigger action k ( 1 ) on y : J end end",
+        "by n t",
+        [("a 1 -", [0]), ("a 2 false", [0]), ("a 3 -", []), ("a 4 true", [0]), ("a 5 -", [])],
+    )
+    # nothing is of J: rule 0 reads nothing; rule 1 reads e, and is tried without a choice
+    tried_rules(
+        "tried-interface-without-entities",
+        "interface J { event f : whole } "
+        + rest_bench(E, S, "event f from x : J value changed", "event f from x : J value = 1 or " + E_CHANGED),
+        "by n s.e",
+        [("a 1 -", []), ("a 2 1", [1]), ("a 3 2", [1]), ("a 4 -", [])],
+    )
+    # an entity named as an event, a variable named as an interface
+    tried_rules(
+        "tried-names-of-several-sorts",
+        rest_bench(E, S + "entity e : I { } ", "event e from I : I value changed", "event e from e value changed"),
+        "by n s.e e.e",
+        [("a 1 1 -", [0]), ("a 2 - 1", [0, 1]), ("a 3 - -", [])],
+    )
+
+
+def make_tried_without_calls():
+    # f and a are read by the call alone
+    tried_rules(
+        "tried-reads-of-a-call",
+        "interface I { attribute a : whole event e : whole event f : whole action k ( whole ) } entity s : I { a = 1 } "
+        "rules when event e from s value changed trigger action k ( s.f ) on s with a = s.f end end",
+        "by n s.e s.f",
+        [("a 1 - 1", []), ("a 2 - 2", []), ("a 3 1 -", [0]), ("a 4 1 3", [])],
+    )
+    # t leaves and comes: the calls could be other ones, the condition reads the same
+    tried_rules(
+        "tried-target-of-a-call-leaves",
+        "interface I { event e : whole } interface J { attribute a : whole action k ( whole ) } "
+        "entity s : I { } entity t : J { a = 1 } "
+        "rules when event e from s value changed trigger action k ( t.a ) on t end "
+        "when event e from s value changed trigger action k ( y.a ) on y : J end end",
+        "by n s.e t",
+        [("a 1 5 -", [0, 1]), ("a 2 - false", []), ("a 3 - true", []), ("a 4 6 false", [0, 1])],
+    )
+
+
+# rule 0 presses k, which rule 1 reads; rule 1 presses j, which nobody reads
+PRESS = (
+    "interface I { event e : whole action k ( whole ) action j ( whole ) } entity s : I { } "
+    "rules when event e from s value changed trigger action k ( %s ) on s end "
+    "when event k from s value changed trigger action j ( 1 ) on s end end"
+)
+
+
+def make_tried_by_actions():
+    # the rules see k in the line after it is fired; 1, 1 and 2 are fired in lines 1, 2 and 3
+    tried_rules("tried-action", PRESS % "s.e / 2", "by n s.e", [
+        ("a 1 2", [0]),
+        ("a 2 3", [0, 1]),  # unset before, 1 now
+        ("a 3 4", [0]),  # 1 before, 1 now
+        ("a 4 -", [1]),  # 1 before, 2 now
+        ("a 5 -", [1]),  # 2 before, unset now
+        ("a 6 -", []),
+    ])
+    # and so while the same is fired: line 4 sees what line 3 fired
+    tried_rules("tried-action-of-one-value", PRESS % "7", "by n s.e", [
+        ("a 1 1", [0]),
+        ("a 2 2", [0, 1]),
+        ("a 3 3", [0]),
+        ("a 4 -", []),
+        ("a 5 -", [1]),
+    ])
+    # 0 * 1 is 0, 0 * -1 is -0
+    tried_rules(
+        "tried-action-of-two-zeros",
+        PRESS.replace("e : whole action k ( whole )", "e : real action k ( real )") % "0r * s.e",
+        "by n s.e",
+        [
+            ("a 1 3ff0000000000000", [0]),
+            ("a 2 bff0000000000000", [0, 1]),  # unset before, 0 now
+            ("a 3 -", []),  # 0 before, -0 now
+            ("a 4 -", [1]),  # -0 before, unset now
+        ],
+    )
+    tried_rules("tried-action-of-an-entity-that-leaves", PRESS % "7", "by n s s.e", [
+        ("a 1 - 1", [0]),
+        # e becomes unset; so does k, which line 1 fired, before any rule has seen it
+        ("a 2 false -", [0]),
+        ("a 3 true 1", [0]),
+        ("a 4 - 2", [0, 1]),
+        # k was seen in line 4
+        ("a 5 false -", [0, 1]),
+        ("a 6 true -", []),
+    ])
+    # f stays unset; k is read in the sum
+    tried_rules(
+        "tried-action-in-a-sum",
+        "interface I { event e : bool event f : whole action k ( whole ) action j ( whole ) } entity s : I { } "
+        "rules when event e from s value = true trigger action k ( 7 ) on s end "
+        "when event f from s value = s.k trigger action j ( 1 ) on s end end",
+        "by n s.e",
+        [("a 1 true", [0]), ("a 2 -", [1]), ("a 3 -", [1]), ("a 4 -", [])],
+    )
+    # rule 1 fires k for each move of k: 1 in line 2 by 1 after unset, nothing in line 3 by 1 after 1, 1 in line 4 by
+    # unset after 1
+    tried_rules(
+        "tried-action-of-its-own-rule",
+        "interface I { event e : whole action k ( whole ) } entity s : I { } "
+        "rules when event e from s value = 1 trigger action k ( 1 ) on s end "
+        "when event k from s value changed trigger action k ( 1 ) on s end end",
+        "by n s.e",
+        [("a 1 1", [0]), ("a 2 -", [1]), ("a 3 -", []), ("a 4 -", [1]), ("a 5 -", [1]), ("a 6 -", [])],
+    )
+
+
+def make_tried_by_presence():
+    # a is set while s is present; rule 1 reads e alone, which is unset throughout
+    tried_rules(
+        "tried-attribute-leaves-and-returns",
+        rest_bench(AE, S1, "event e from s with a = 1 value changed", E_CHANGED),
+        "by n s",
+        [
+            ("a 1 -", [0]),
+            ("a 2 false", [0]),
+            ("a 3 -", []),
+            ("a 4 true", [0]),
+            ("a 5 true", []),
+            ("a 6 false", [0]),
+            ("a 7 false", []),
+        ],
+    )
+    # t comes and goes with all that it has unset
+    tried_rules(
+        "tried-unset-entity-leaves",
+        rest_bench(E, S + "entity t : I { } ", "event e from x : I value changed"),
+        "by n t s.e",
+        [("a 1 - -", []), ("a 2 false -", []), ("a 3 true -", []), ("a 4 false 5", [0]), ("a 5 true -", [])],
+    )
+    # t leaves with e set, and e is unset from then on
+    tried_rules(
+        "tried-set-event-leaves",
+        rest_bench(E, S + "entity t : I { } ", "event e from x : I value changed", "event e from t value changed", E_CHANGED),
+        "by n t t.e",
+        [
+            ("a 1 - 5", [0, 1]),
+            ("a 2 false -", [0, 1]),
+            ("a 3 - -", []),
+            ("a 4 true -", []),
+            ("a 5 - 5", [0, 1]),
+            ("a 6 false -", [0, 1]),
+            ("a 7 true 5", [0, 1]),
+        ],
+    )
+
+
+def make_tried_of_lines():
+    # a line that makes no cycle is no cycle before: k is compared with what line 1, then line 2, saw
+    tried_rules("tried-resent-and-refused", PRESS % "7", "by n s.e", [
+        ("a 1 1", [0]),
+        ("a 1 1", None),  # resent
+        ("a 3 2", None),  # 24
+        ("a 2 -", [1]),
+        ("a 2 2", None),  # 25
+        ("a 2 -", None),  # resent
+        ("a 3 true", None),  # 23
+        ("a 3 1", [1]),
+        ("a 4 1", []),
+    ])
+    # the cells do not ask who has sent a line
+    tried_rules("tried-two-senders", rest_bench(E, S, E_CHANGED), "by n s.e", [
+        ("a 1 5", [0]),
+        ("b 1 5", []),
+        ("b 2 6", [0]),
+        ("a 2 5", [0]),  # as a's last line, but after b's
+        ("b 2 6", None),  # resent
+        ("b 3 5", []),
+        ("a 3 6", [0]),
+    ])
+
+
+# --------------------------------------------------------------------------
 # Facts of the documents checked without a stored case
 # --------------------------------------------------------------------------
 
@@ -2959,6 +3330,125 @@ def check_folder_of_sheets():
         assert rows.pop() == "" and all(len(row) == 80 for row in rows), case["name"]
 
 
+def check_reads_of(bench, lists):
+    """The cells that the rules of a grammatical bench read, written `entity.member`, rule by rule."""
+    text = bench.encode("ascii")
+    file = Reader(words_of(text), len(text)).file()
+    names = [entity.name.text.decode("ascii") for entity in file.entities]
+    for rule, wanted in zip_longest(file.rules, lists):
+        read = sorted("%s.%s" % (names[number], member.decode("ascii")) for number, member in cells_read(file, rule))
+        assert read == sorted(wanted.split()), (read, wanted)
+
+
+# by hand from the text of MAZE: y's id and x's id are read in rule 0's filter; rule 1 has z in its call alone
+MAZE_READS = ["a.v b.v a.on_ b.on_ a.id b.id h.w", "h.sum", "a.set b.set a.v b.v a.flag"]
+
+
+def check_reads():
+    """Lists of cells that rules read."""
+    check_reads_of(MAZE, MAZE_READS)
+    # tick from clock; level, and room of the filter, from x; tick in the filter's sum; dim of y in the test's;
+    # set, and spare of the filter, from y.  What the calls read, beep among it, is no part
+    lamps = "level room dim set spare".split()
+    of_lamps = " ".join("%s.%s" % pair for pair in product(["hall", "attic"], lamps))
+    check_reads_of(FULL, ["clock.tick " + of_lamps, "hall.mark attic.mark hall.seen attic.seen"])
+    # "a name means its first declaration", the entity's before the variable's; no such bench is accepted, and so none
+    # has lines.  x is the entity x, of J; then x is the variable of I, which s and t are of
+    two = "interface I { event e : whole action k ( whole ) } interface J { event e : whole } "
+    call = " trigger action k ( 1 ) on s end "
+    shared = two + "entity s : I { } entity x : J { } entity t : I { } rules when event e from x : I value = x.e" + call + "end"
+    assert check(shared.encode()) == (15, shared.index("x : I"))
+    check_reads_of(shared, ["x.e"])
+    twice = "event e from x : I value changed or event e from x : J value changed"
+    shared = two + "entity s : I { } entity u : J { } entity t : I { } rules when " + twice + call + "end"
+    assert check(shared.encode()) == (15, shared.index("x : J"))
+    check_reads_of(shared, ["s.e t.e"])
+    # "A variable may be used anywhere in its rule": before its declaration as well
+    early = shared.replace(twice, "event e from s value = x.e and event e from x : J value changed")
+    assert check(early.encode()) == (0, 0)
+    check_reads_of(early, ["s.e u.e"])
+
+
+def check_printed_tried():
+    """What `--tried` prints: a line for each cycle, nothing for other lines, the refusals of bench and names."""
+    fire = FIRE.encode()
+    lines = b"by n s.e\nwest 1 5\nwest 1 5\n\nx_1 1 5\nwest 3 5\nwest 2 ?"
+    assert printed_tried(fire, lines) == b"west 1: 0\nx_1 1:\nwest 2: 0\n"
+    assert printed_tried(fire, b"by n s.e\n") == b""
+    for names in (b"", b"n s.e", b"by n s.k"):
+        assert printed_tried(fire, names + b"\na 1 5\n") == b"refused 22\n", names
+        assert tried(fire, names + b"\na 1 5\n") == [], names
+    assert printed_tried(b"", lines) == b"refused 13 0\n"
+    # all 64 rules, and then the one that reads the other event
+    rules = RULE % "" * 63 + (RULE % "").replace("event e", "event f")
+    text = EK.replace("action", "event f : whole action") + "rules " + rules + "end"
+    every = " ".join(str(number) for number in range(64))
+    assert printed_tried(text.encode(), b"by n s.e s.f\na 1 1 1\na 2 - 2\n").decode() == "a 1: %s\na 2: 63\n" % every
+
+
+def check_rules_at_rest():
+    """Lists of lines drawn at random: in each cycle the rules of which a read by MAZE_READS is unlike in the two stores
+    are tried, the others are at rest, and no clause of those holds for any choice.
+
+    "both unset counts as same, and so do the two zeros": there are no reals in MAZE, so what reads the same is equal here.
+    """
+    draw = random.Random(SEED)
+    bench = Bench(MAZE.encode())
+    machine = bench.machine
+    columns = ["a", "a.on_", "a.v", "b", "b.on_", "b.v", "h.w"]
+    numbers = {"a": 0, "b": 1, "h": 2}
+    found = set()
+    for _ in range(200):
+        # most fields are `-`: "Most lines move only the stage"
+        fields = [[random_field(draw, column) if draw.random() < 0.4 else "-" for column in columns] for _ in range(40)]
+        lines, number = [], 1
+        names = ("by n " + " ".join(columns)).encode()
+        state = bench.fresh()
+        for values in fields:
+            line = ("a %d " % number + " ".join(values)).encode()
+            if bench.line(state, names, line)[0] == 0:
+                state = bench.line(state, names, line)[2]
+                lines.append(line)
+                number += 1
+        for _, state, following in cycles_of_lines(bench, bench.fresh(), names, lines):
+            now, before = following.before, state.before
+            wanted = []
+            for rule, reads in enumerate(MAZE_READS):
+                cells = [(numbers[owner], member.encode()) for owner, member in (read.split(".") for read in reads.split())]
+                if any(now.read(*cell) != before.read(*cell) for cell in cells):
+                    wanted.append(rule)
+            assert machine.tried(now, before) == wanted, lines
+            at_rest = machine.at_rest(now, before)
+            assert sorted(wanted + at_rest) == [0, 1, 2], lines
+            for rule in (machine.file.rules[number] for number in at_rest):
+                for choice, clause in product(list(machine.choices(rule, now)), clauses_of(rule.condition)):
+                    assert not machine.clause_holds(clause, choice, now, before), lines
+            found.add(tuple(wanted))
+    assert len(found) == 8, found
+
+
+def check_zeros_in_sums():
+    """Order 7 takes the two zeros for the same, so a sum must not tell them: wherever one zero is put in the place of the
+    other, the results are both unset or equal, "a zero divisor" being unset by either."""
+    zero, minus_zero = Real(0), Real(1 << 63)
+    reals = [zero, minus_zero] + [Real(int(bits, 16)) for bits in (
+        "3ff0000000000000", "bff0000000000000", "0000000000000001", "8000000000000001", "7fefffffffffffff", "ffefffffffffffff",
+    )]
+    assert not differ(negation(zero), negation(minus_zero))
+    for mark, other in product((b"+", b"-", b"*", b"/"), [None, *reals]):
+        assert not differ(operation(mark, zero, other), operation(mark, minus_zero, other)), (mark, other)
+        assert not differ(operation(mark, other, zero), operation(mark, other, minus_zero)), (mark, other)
+
+
+def check_folder_of_tried():
+    """What the list must hold: lines in which all rules rest, all are tried, and some."""
+    assert 20 <= len(TRIED) <= 35, len(TRIED)
+    for case in TRIED:
+        lists = case["tried"]
+        assert all(rules == sorted(set(rules)) for rules in lists), case["name"]
+        assert [] in lists and (case["name"] == "tried-no-rule" or any(lists)), case["name"]
+
+
 REFUSED_ROWS = ["refused %d" % code for code in (21, 22, 23, 24, 25, 42, 43)]
 
 
@@ -3045,6 +3535,22 @@ def make_all_sheets():
     check_folder_of_sheets()
 
 
+def make_all_tried():
+    make_tried_at_first()
+    make_tried_by_events()
+    make_tried_by_sums()
+    make_tried_by_variables()
+    make_tried_without_calls()
+    make_tried_by_actions()
+    make_tried_by_presence()
+    make_tried_of_lines()
+    check_reads()
+    check_printed_tried()
+    check_rules_at_rest()
+    check_zeros_in_sums()
+    check_folder_of_tried()
+
+
 # --------------------------------------------------------------------------
 # The stored files: compared, or written
 # --------------------------------------------------------------------------
@@ -3109,9 +3615,11 @@ def main(arguments):
     write = asked_to_write(arguments)
     make_all()
     make_all_sheets()
+    make_all_tried()
     files = [
         (OUTPUT, content(CASES), difference_of_cases),
         (SHEETS_OUTPUT, content(SHEETS), difference_of_cases),
+        (TRIED_OUTPUT, content(TRIED), difference_of_cases),
         (CLASSES_OUTPUT, printed_classes(), difference_of_lines),
     ]
     if write:
@@ -3121,6 +3629,7 @@ def main(arguments):
         return 1
     print("%d cases" % len(CASES))
     print("%d sheets" % len(SHEETS))
+    print("%d lists of rules tried" % len(TRIED))
     print("%d byte classes" % printed_classes().count(b"\n"))
     return 0
 

@@ -1,8 +1,9 @@
 """The stored cases as statements about the definitions: crates/stored_texts/proofs/theorems/StoredTexts.antt and StoredClasses.antt,
-crates/replay_cases/proofs/theorems/StoredLines.antt and crates/sheet_cases/proofs/theorems/StoredSheets.antt.
+crates/replay_cases/proofs/theorems/StoredLines.antt, crates/sheet_cases/proofs/theorems/StoredSheets.antt and
+crates/tried_cases/proofs/theorems/StoredTried.antt.
 
-cases.json and sheets.json hold texts and readings with what bench_oracle.py makes of them, classes.txt its table of byte classes. Each statement says
-that the definitions compute the same, by `refl`. With no argument or `--check` it fails if the files differ, in more than layout, from what they
+cases.json, sheets.json and tried.json hold texts and readings with what bench_oracle.py makes of them, classes.txt its table of byte classes. Each
+statement says that the definitions compute the same, by `refl`. With no argument or `--check` it fails if the files differ, in more than layout, from what they
 should be; `--write` writes them.
 """
 
@@ -42,6 +43,14 @@ use Rattle.senders.specs.definitions.Answer.{refused, accepted}
 use Rattle.sheet_cases.specs.definitions.SheetOf.{sheet-of}
 """
 
+TRIED = """-- Readings, and for each line that starts a cycle the rules that it tries. Made by tests/oracle/to_antt.py from tests/oracle/tried.json.
+use mathlib.Core.Path.{_≡_, refl}
+use mathlib.Core.List.{[], _∷_}
+use lib.Ieee as Ieee
+use Rattle.text.specs.definitions.Bytes.{ascii}
+use Rattle.tried_cases.specs.definitions.TriedOf.{tried-of}
+"""
+
 REALS = "Ieee.add Ieee.sub Ieee.mul Ieee.div Ieee.neg Ieee.eq Ieee.ofInt Ieee.ofBits Ieee.toBits Ieee.isNan"
 
 # what else is not printed is written by its number
@@ -72,6 +81,16 @@ def of_sheet(case: dict) -> str:
     return f"sheet-of {texts} ≡ {answer}"
 
 
+def listed(items: list) -> str:
+    """A list as antt writes it."""
+    return "(" + "".join(f"{item} ∷ " for item in items) + "[])"
+
+
+def of_tried(case: dict) -> str:
+    tried = listed([listed(rules) for rules in case["tried"]])
+    return f"tried-of (ascii {quoted(case['bench'])}) (ascii {quoted(case['readings'])}) ≡ {tried}"
+
+
 def file_of_classes(lines: list) -> str:
     """The table of classes.txt, whose line k has the byte k and its class."""
     if [line.split(" ")[0] for line in lines] != [str(byte) for byte in range(256)]:
@@ -97,12 +116,14 @@ def main() -> int:
     texts = [case for case in cases if case["readings"] is None]
     runs = [case for case in cases if case["readings"] is not None]
     sheets = json.loads((HERE / "sheets.json").read_text())
+    tried = json.loads((HERE / "tried.json").read_text())
     classes = (HERE / "classes.txt").read_text().splitlines()
     files = {
         "stored_texts/proofs/theorems/StoredClasses.antt": file_of_classes(classes),
         "stored_texts/proofs/theorems/StoredTexts.antt": file_of(TEXTS, texts, of_text, "verdict verdict-answer ascii"),
         "replay_cases/proofs/theorems/StoredLines.antt": file_of(LINES, runs, of_readings, "replay ascii\n    " + REALS),
         "sheet_cases/proofs/theorems/StoredSheets.antt": file_of(SHEETS, sheets, of_sheet, "sheet-of ascii Ieee.lt\n    " + REALS),
+        "tried_cases/proofs/theorems/StoredTried.antt": file_of(TRIED, tried, of_tried, "tried-of ascii\n    " + REALS),
     }
     for name, text in files.items():
         path = CRATES / name
@@ -111,7 +132,7 @@ def main() -> int:
         elif path.read_text().split() != text.split():
             print(f"{name} is not what the stored cases give")
             return 1
-    print(f"{len(texts)} texts, {len(runs)} runs, {len(sheets)} sheets, {len(classes)} byte classes")
+    print(f"{len(texts)} texts, {len(runs)} runs, {len(sheets)} sheets, {len(tried)} runs with the rules tried, {len(classes)} byte classes")
     return 0
 
 

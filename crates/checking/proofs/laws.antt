@@ -2,6 +2,7 @@
 pub mod WithinCounts
 pub mod VerdictLaws
 pub mod LookUpLaws
+pub mod InterfaceNumbers
 pub mod AcceptedLaws
 pub mod CheckedExpressions
 pub mod CheckedFile

@@ -103,7 +103,7 @@ fn reference(
 }
 
 // The token that names what token number i is a member of, if the tokens around it say that it is one; else the count of tokens.
-fn owner_of(classes: &[u8], i: usize) -> usize
+pub fn owner_of(classes: &[u8], i: usize) -> usize
     ensures { λ r. ⌜ Owner-of (now (classes .entry)) i r ⌝ }
 {
     let size = classes.len();

@@ -16,6 +16,7 @@ pub mod SoundStores
 pub mod SoundLine
 pub mod SoundFresh
 pub mod SoundCycle
+pub mod SilenceLaws
 pub mod CellTokenLaws
 pub mod PlaneTestLaws
 pub mod PutLaws

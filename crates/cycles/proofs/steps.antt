@@ -13,11 +13,13 @@ pub mod InputLaws
 pub mod ValuesLaws
 pub mod AreaLaws
 pub mod SeenLaws
-pub mod CycleMemoryLaws
 pub mod CandidateLaws
+pub mod TriedLaws
 pub mod BindingWrites
 pub mod BindingPuts
+pub mod RulePuts
 pub mod GuardLaws
 pub mod GuardPuts
 pub mod GuardWalks
 pub mod RuleGuards
+pub mod CycleMemoryLaws

@@ -8,6 +8,7 @@ pub mod FreshMemory
 pub mod FieldReads
 pub mod HeaderReads
 pub mod LineReads
+pub mod ReadSets
 pub mod AllRules
 pub mod Guards
 pub mod Failing

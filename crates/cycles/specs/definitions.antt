@@ -12,4 +12,6 @@ pub mod Row
 pub mod Readings
 pub mod Planes
 pub mod ClosedSet
+pub mod Reads
+pub mod Quiescence
 pub mod SoundStores

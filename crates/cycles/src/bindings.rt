@@ -1,11 +1,12 @@
-// All rules, each for every binding of its variables.
+// The rules that are tried, each for every binding of its variables.
 ghost use Prim.Native.Nat.{_+_, _*_, _≤_};
 ghost use mathlib.Core.Path.{_≡_};
 ghost use mathlib.Core.Bool.{cond};
 ghost use lib.ListN.{length, getD};
 ghost use Rattle.checking.specs.contracts.Directory.{ENTITY-COUNT-ROW, rule-row};
-ghost use Rattle.checking.specs.definitions.CountFaults.{MOST-INTERFACES};
-ghost use Rattle.cycles.specs.contracts.AllRules.{complete, candidate, Ranged, Ranges, Bindings-put, Rules-put};
+ghost use Rattle.checking.specs.definitions.CountFaults.{MOST-ENTITIES, MOST-INTERFACES};
+ghost use Rattle.cycles.specs.definitions.Planes.{MOST-CELL-BYTES};
+ghost use Rattle.cycles.specs.contracts.AllRules.{complete, candidate, Ranged, Ranges, Bindings-put, Set-put, Rules-put};
 ghost use Rattle.cycles.specs.contracts.Guards.{ALL-GUARD-ROWS, Guards-found, Marks-set};
 ghost use Rattle.cycles.specs.contracts.Evaluation.{MOST-PENDING-BYTES};
 use crate::calls::rule_at;
@@ -16,6 +17,8 @@ use crate::finding::find_guards;
 use crate::guards::narrow;
 use crate::layout::ALL_GUARD_ROWS;
 use crate::layout::ALL_RANGE_ROWS;
+use crate::quiescence::tried_rules;
+use cell_sets::has_bit;
 use checking::layout::ENTITY_COUNT_ROW;
 use checking::layout::ENTITY_INTERFACE_ROWS;
 use checking::layout::MOST_ENTITIES;
@@ -226,8 +229,8 @@ fn rule_guards(
     find_guards(classes, refs, row(d, RULE_ROWS + (k as usize)) + 1, guards)
 }
 
-// What all rules write goes into the area.
-pub fn all_rules(
+// The rules of a set, by their numbers, one after another: what they write goes into the area.
+fn try_rules(
     classes: &[u8],
     values: &[u32],
     refs: &[u16],
@@ -237,12 +240,13 @@ pub fn all_rules(
     cells: &[u8],
     previous_flags: &[u8],
     previous_cells: &[u8],
+    set: u64,
     area: &mut [u8],
 )
     requires { ⌜ MOST-PENDING-BYTES ≤ length (now area) ⌝ }
     ensures { λ _. ⌜
-        Rules-put (now (classes .entry)) (now (values .entry)) (now (d .entry)) (now (refs .entry)) (now (scopes .entry)) (now (flags .entry))
-        (now (cells .entry)) (now («previous_flags» .entry)) (now («previous_cells» .entry)) (now (area .entry)) (now (area .exit)) ⌝ }
+        Set-put (now (classes .entry)) (now (values .entry)) (now (d .entry)) (now (refs .entry)) (now (scopes .entry)) (now (flags .entry))
+        (now (cells .entry)) (now («previous_flags» .entry)) (now («previous_cells» .entry)) (now (area .entry)) (now (area .exit)) set ⌝ }
 {
     let n = row(d, RULE_COUNT_ROW);
     if MOST_RULES < n {
@@ -256,8 +260,13 @@ pub fn all_rules(
     let mut ranges: [u8; ALL_RANGE_ROWS] = [0; ALL_RANGE_ROWS];
     find_ranges(d, flags, entities as u8, &mut ranges);
     let mut guards: [usize; ALL_GUARD_ROWS] = [0; ALL_GUARD_ROWS];
-    let mut k: u8 = 0;
-    while (k as usize) < n {
+    let mut next: u8 = 0;
+    while (next as usize) < n {
+        let k = next;
+        next += 1;
+        if !has_bit(set, k) {
+            continue;
+        }
         let count = rule_guards(classes, refs, scopes, d, k, &mut guards);
         bind(
             classes,
@@ -277,6 +286,46 @@ pub fn all_rules(
             none,
             area,
         );
-        k += 1;
     }
+}
+
+// What all rules write goes into the area. A rule that reads no cell that moved would write nothing: it is passed over. Answers the set of the rules
+// that are tried.
+pub fn all_rules(
+    classes: &[u8],
+    values: &[u32],
+    refs: &[u16],
+    scopes: &[u8],
+    d: &[u16],
+    flags: &[u8],
+    cells: &[u8],
+    previous_flags: &[u8],
+    previous_cells: &[u8],
+    area: &mut [u8],
+) -> u64
+    requires { ⌜ MOST-PENDING-BYTES ≤ length (now area) ⌝ }
+    requires { ⌜ (MOST-ENTITIES ≤ length (now flags)) × (MOST-ENTITIES ≤ length (now «previous_flags»)) ⌝ }
+    requires { ⌜ (MOST-CELL-BYTES ≤ length (now cells)) × (MOST-CELL-BYTES ≤ length (now «previous_cells»)) ⌝ }
+    ensures { λ r. ⌜
+        Rules-put (now (classes .entry)) (now (values .entry)) (now (d .entry)) (now (refs .entry)) (now (scopes .entry)) (now (flags .entry))
+        (now (cells .entry)) (now («previous_flags» .entry)) (now («previous_cells» .entry)) (now (area .entry)) (now (area .exit)) r ⌝ }
+{
+    let tried = tried_rules(scopes, d, flags, cells, previous_flags, previous_cells);
+    if tried == 0 {
+        return tried;
+    }
+    try_rules(
+        classes,
+        values,
+        refs,
+        scopes,
+        d,
+        flags,
+        cells,
+        previous_flags,
+        previous_cells,
+        tried,
+        area,
+    );
+    tried
 }

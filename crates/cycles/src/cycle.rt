@@ -1,4 +1,4 @@
-// A cycle: a line's inputs are applied, all rules are evaluated, and the next stores are put.
+// A cycle: a line's inputs are applied, the rules that read what moved are tried, and the next stores are put.
 ghost use mathlib.Core.Path.{_≡_};
 ghost use mathlib.Core.List.{_++_};
 ghost use mathlib.Core.Bool.{cond};
@@ -6,7 +6,8 @@ ghost use Prim.Native.Nat.{_+_, _*_, _≤_, _<_};
 ghost use lib.ListN.{length, drop};
 ghost use Rattle.checking.specs.definitions.CountFaults.{MOST-ENTITIES};
 ghost use Rattle.cycles.specs.definitions.Planes.{CELL-BYTES, ENTITY-CELLS, ENTITY-CELL-BYTES, MOST-CELL-BYTES, MOST-STORES-BYTES, table};
-ghost use Rattle.cycles.specs.contracts.CycleMemory.{present-by, seen-flag, leaves-by, seen-value, next-value, Value-of, Values-put, Cycled};
+ghost use Rattle.cycles.specs.contracts.CycleMemory.{present-by, seen-flag, leaves-by, seen-value, next-value, Value-of, any-sort, no-action};
+ghost use Rattle.cycles.specs.contracts.CycleMemory.{Members-put, Seen-put, Cycled};
 use crate::bindings::all_rules;
 use crate::layout::CELL_BYTES;
 use crate::layout::ENTITY_BYTES;
@@ -14,6 +15,7 @@ use crate::layout::ENTITY_CELLS;
 use crate::layout::MOST_CELL_BYTES;
 use crate::layout::MOST_PENDING_BYTES;
 use crate::layout::NO_READING;
+use crate::planes::NO_TOKEN;
 use crate::planes::cell_token;
 use crate::planes::is_sort;
 use crate::planes::put_stores;
@@ -99,7 +101,7 @@ fn seen_value(
     Value::Unset
 }
 
-// Puts the cells of n entities after the line.
+// Puts the cells of n entities after the line over unset cells; a cell of no member stays unset.
 fn see_cells(
     classes: &[u8],
     d: &[u16],
@@ -115,45 +117,55 @@ fn see_cells(
         (ENTITY-CELL-BYTES * n ≤ length (now cells)) × (ENTITY-CELL-BYTES * n ≤ length (now inputs))
         × (ENTITY-CELL-BYTES * n ≤ length (now out)) ⌝ }
     ensures { λ _. ⌜
-        Values-put (now (classes .entry)) (now (d .entry))
+        Members-put (now (classes .entry)) (now (d .entry)) any-sort
         (seen-value (now (present .entry)) (now (seen .entry)) (now (cells .entry)) (now (inputs .entry))) (ENTITY-CELLS * n)
         (now (out .entry)) (now (out .exit)) ⌝ }
 {
     let end = ENTITY_CELLS * n;
     let mut i = 0;
     while i < end {
-        let v = seen_value(classes, d, present, seen, cells, inputs, i);
-        put_cell(out, i, v);
-        i += 1;
+        if NO_TOKEN <= cell_token(d, i) {
+            // its entity has no further member
+            i = i - i % ENTITY_CELLS + ENTITY_CELLS;
+        } else {
+            let v = seen_value(classes, d, present, seen, cells, inputs, i);
+            put_cell(out, i, v);
+            i += 1;
+        }
     }
 }
 
 // ---- what the cycle leaves
 
-// Cell number i after the cycle: an action's as it was written, any other as the rules saw it.
-fn next_value(classes: &[u8], d: &[u16], cells: &[u8], area: &[u8], i: usize) -> Value
+// Puts what the rules saw in cell number i, unless the member whose first token has that number is an action: that stands as it was written.
+fn put_seen(classes: &[u8], token: usize, cells: &[u8], i: usize, area: &mut [u8])
     requires { ⌜ (i * CELL-BYTES + CELL-BYTES ≤ length (now cells)) × (i * CELL-BYTES + CELL-BYTES ≤ length (now area)) ⌝ }
-    ensures { λ r. ⌜ Value-of (now (classes .entry)) (now (d .entry)) (next-value (now (cells .entry)) (now (area .entry))) i r ⌝ }
+    ensures { λ _. ⌜ Seen-put (now (classes .entry)) token (now (cells .entry)) i (now (area .entry)) (now (area .exit)) ⌝ }
 {
-    if is_sort(classes, cell_token(d, i), ACTION) {
-        return cell(area, i);
+    if is_sort(classes, token, ACTION) {
+        return;
     }
-    cell(cells, i)
+    put_cell(area, i, cell(cells, i));
 }
 
-// Puts the cells of n entities after the cycle into the area, which has the writes.
+// Makes of the area, which has the writes, the cells of n entities after the cycle. An action's stands as it was written, and a cell of no member is unset.
 fn put_next(classes: &[u8], d: &[u16], n: usize, cells: &[u8], area: &mut [u8])
     requires { ⌜ (ENTITY-CELL-BYTES * n ≤ length (now cells)) × (ENTITY-CELL-BYTES * n ≤ length (now area)) ⌝ }
     ensures { λ _. ⌜
-        Values-put (now (classes .entry)) (now (d .entry)) (next-value (now (cells .entry)) (now (area .entry))) (ENTITY-CELLS * n)
+        Members-put (now (classes .entry)) (now (d .entry)) no-action (next-value (now (cells .entry)) (now (area .entry))) (ENTITY-CELLS * n)
         (now (area .entry)) (now (area .exit)) ⌝ }
 {
     let end = ENTITY_CELLS * n;
     let mut i = 0;
     while i < end {
-        let v = next_value(classes, d, cells, area, i);
-        put_cell(area, i, v);
-        i += 1;
+        let token = cell_token(d, i);
+        if NO_TOKEN <= token {
+            // its entity has no further member
+            i = i - i % ENTITY_CELLS + ENTITY_CELLS;
+        } else {
+            put_seen(classes, token, cells, i, area);
+            i += 1;
+        }
     }
 }
 

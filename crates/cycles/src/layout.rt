@@ -1,7 +1,9 @@
 // The memory of cells and planes, of columns, ranges and guards.
+use checking::layout::ALL_SCOPE_ROWS;
 use checking::layout::MOST_ENTITIES;
 use checking::layout::MOST_INTERFACES;
 use checking::layout::MOST_MEMBERS;
+use checking::layout::MOST_RULES;
 
 // ---- cells
 
@@ -66,6 +68,13 @@ pub const NO_COLUMN: usize = MOST_COLUMNS;
 pub const NO_HEADER: usize = MOST_COLUMNS + 1;
 
 // ---- rules
+
+// Behind the rows of scopes each rule has the set of the cells that it reads, eight to a byte.
+pub const READ_SETS_AT: usize = ALL_SCOPE_ROWS;
+
+pub const READ_SET_BYTES: usize = MOST_CELLS / 8;
+
+pub const SCOPES_BYTES: usize = READ_SETS_AT + READ_SET_BYTES * MOST_RULES;
 
 // Where among the entities the candidates for each interface begin and end.
 pub const ALL_RANGE_ROWS: usize = 2 * MOST_INTERFACES;

@@ -12,6 +12,7 @@ pub mod guards; // what must hold for a rule to write anything
 pub mod header; // the columns of a line
 pub mod layout; // the sizes of memory
 pub mod planes; // flags and cells in memory
+pub mod quiescence; // which rules are tried
 pub mod record; // sender, number and values of a record
 pub mod rows; // the fields of a row, and the header of rows
 

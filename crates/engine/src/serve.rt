@@ -6,7 +6,7 @@ ghost use lib.ListN.{length};
 ghost use Rattle.text.specs.contracts.TokenTable.{columns-of};
 ghost use Rattle.checking.specs.definitions.Verdict.{MOST-BYTES};
 ghost use Rattle.checking.specs.contracts.CheckedBench.{has-room};
-ghost use Rattle.checking.specs.contracts.Resolution.{ALL-SCOPE-ROWS};
+ghost use Rattle.cycles.specs.contracts.ReadSets.{SCOPES-BYTES};
 ghost use Rattle.engine.specs.contracts.LineMemory.{taken-answer, Short-row};
 ghost use Rattle.engine.specs.contracts.Serving.{SHORT-TEXT, Served, served, Room, On-bench, refusal, sheeted-answer};
 ghost use Rattle.engine.specs.definitions.Calls.{ROW};
@@ -16,14 +16,14 @@ use crate::line::take_line;
 use checking::check::Checked;
 use checking::check::check;
 use checking::coded;
-use checking::layout::ALL_SCOPE_ROWS;
 use checking::layout::DIRECTORY;
 use checking::layout::MOST_BYTES;
-use checking::resolver::resolve;
 use cycles::layout::MOST_ROW_BYTES;
+use cycles::layout::SCOPES_BYTES;
 use cycles::put_row_header;
 use days::sheet::Sheeted;
 use days::sheet::put_sheet;
+use reads::resolve;
 use senders::fingerprint::fingerprint;
 use senders::is_sender;
 use senders::is_state;
@@ -112,7 +112,7 @@ fn on_bench(
     out: &mut [u8],
 ) -> u64
     requires { ⌜ length (now text) ≤ MOST-BYTES ⌝ }
-    requires { ⌜ (length (now classes) ≤ length (now refs)) × (ALL-SCOPE-ROWS ≤ length (now scopes)) ⌝ }
+    requires { ⌜ (length (now classes) ≤ length (now refs)) × (SCOPES-BYTES ≤ length (now scopes)) ⌝ }
     requires { ⌜ Room call (now state) (now shown) (now names) (now out) ⌝ }
     ensures { λ r. ⌜
         On-bench call (now (text .entry)) (now (classes .entry)) (now (offsets .entry)) (now (lengths .entry)) (now (literals .entry)) (now (d .entry))
@@ -201,7 +201,7 @@ fn on_text(
     out: &mut [u8],
 ) -> u64
     requires { ⌜ has-room (now text) (columns-of (now classes) (now offsets) (now lengths) (now literals)) (now d) ≡ true ⌝ }
-    requires { ⌜ (length (now classes) ≤ length (now refs)) × (ALL-SCOPE-ROWS ≤ length (now scopes)) ⌝ }
+    requires { ⌜ (length (now classes) ≤ length (now refs)) × (SCOPES-BYTES ≤ length (now scopes)) ⌝ }
     requires { ⌜ Room call (now state) (now shown) (now names) (now out) ⌝ }
     ensures { λ r. ⌜
         record { answer = r; state = now (state .exit); out = now (out .exit) }
@@ -252,7 +252,7 @@ fn on_short_text(
     let mut literals = [0u32; SHORT_TEXT];
     let mut d = [0u16; DIRECTORY];
     let mut refs = [0u16; SHORT_TEXT];
-    let mut scopes = [0u8; ALL_SCOPE_ROWS];
+    let mut scopes = [0u8; SCOPES_BYTES];
     on_text(
         call,
         text,
@@ -291,7 +291,7 @@ fn on_long_text(
     let mut literals = [0u32; MOST_BYTES];
     let mut d = [0u16; DIRECTORY];
     let mut refs = [0u16; MOST_BYTES];
-    let mut scopes = [0u8; ALL_SCOPE_ROWS];
+    let mut scopes = [0u8; SCOPES_BYTES];
     on_text(
         call,
         text,

@@ -9,15 +9,15 @@ ghost use Prim.Native.Nat.{_+_, _≤_, _<_};
 ghost use lib.ListN.{length};
 ghost use Rattle.text.specs.contracts.TokenTable.{columns-of};
 ghost use Rattle.checking.specs.contracts.CheckedBench.{has-room};
-ghost use Rattle.checking.specs.contracts.Resolution.{ALL-SCOPE-ROWS};
+ghost use Rattle.cycles.specs.contracts.ReadSets.{SCOPES-BYTES};
 ghost use Rattle.senders.specs.definitions.StateImage.{STATE};
 ghost use Rattle.replay.specs.contracts.Awaiting.{bench-memory};
 ghost use Rattle.replay.specs.contracts.Feeding.{ROOM, Lent, Fed, Finished, Starts, is-over, is-closed};
 use checking::check::Checked;
 use checking::check::check;
-use checking::resolver::resolve;
 use cycles::layout::MOST_ROW_BYTES;
 use gathering::gather;
+use reads::resolve;
 use rows::put_bench_refusal;
 use rows::put_line;
 use senders::fingerprint::fingerprint;
@@ -62,7 +62,7 @@ pub fn start(
     out: &mut [u8],
 ) -> Begun
     requires { ⌜ has-room (now text) (columns-of (now classes) (now offsets) (now lengths) (now literals)) (now d) ≡ true ⌝ }
-    requires { ⌜ (length (now classes) ≤ length (now refs)) × (ALL-SCOPE-ROWS ≤ length (now scopes)) ⌝ }
+    requires { ⌜ (length (now classes) ≤ length (now refs)) × (SCOPES-BYTES ≤ length (now scopes)) ⌝ }
     requires { ⌜ (STATE ≤ length (now state)) × (ROOM ≤ length (now out)) ⌝ }
     ensures { λ r. ⌜
         Starts (now (text .entry)) (now (classes .exit)) (now (offsets .exit)) (now (lengths .exit)) (now (literals .exit)) (now (d .exit))

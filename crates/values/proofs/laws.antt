@@ -7,6 +7,7 @@ pub mod ByteLaws
 pub mod PutLaws
 pub mod DigitLaws
 pub mod StorableLaws
+pub mod SameLaws
 pub mod FittingLaws
 pub mod CellLaws
 pub mod FormLaws

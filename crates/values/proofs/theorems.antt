@@ -1,3 +1,4 @@
 -- What is promised, proved.
 pub mod PrintedReadsBack
 pub mod WholeDivision
+pub mod SameResults

@@ -1,16 +1,19 @@
-//! Safe wrappers over the seven calls of the engine's archive.
+//! Safe wrappers over the seven calls of the engine's archive, and over the one call of the archive that is there for tests alone.
 
 use std::collections::hash_map::DefaultHasher;
 use std::fs;
 use std::hash::Hasher;
 
-/// Where the linked archive lay when it was linked.
-pub const PATH: &str = env!("ENGINE_ARCHIVE");
+/// Where the linked archives lay when they were linked, and what they were.
+const LINKED: [(&str, &str); 2] =
+    [(env!("ENGINE_ARCHIVE"), env!("ENGINE_ARCHIVE_SUM")), (env!("PROBE_ARCHIVE"), env!("PROBE_ARCHIVE_SUM"))];
 
-/// Ends the program unless the archive that was linked is the one that lies there now.
+/// Ends the program unless the archives that were linked are those that lie there now.
 pub fn assert_current() {
-    let bytes = fs::read(PATH).unwrap_or_else(|error| panic!("the archive is gone, {PATH}: {error}"));
-    assert_eq!(format!("{:016x}", sum(&bytes)), env!("ENGINE_ARCHIVE_SUM"), "another archive was linked than {PATH}");
+    for (path, linked) in LINKED {
+        let bytes = fs::read(path).unwrap_or_else(|error| panic!("the archive is gone, {path}: {error}"));
+        assert_eq!(format!("{:016x}", sum(&bytes)), linked, "another archive was linked than {path}");
+    }
 }
 
 /// The same sum as in build.rs.
@@ -60,6 +63,16 @@ mod c {
             sheet_length: usize,
         ) -> u64;
         pub fn byte_class(byte: u8) -> u64;
+        pub fn rules_tried(
+            bench: *const u8,
+            bench_length: usize,
+            before: *const u8,
+            before_length: usize,
+            after: *const u8,
+            after_length: usize,
+            tried: *mut u8,
+            tried_length: usize,
+        ) -> u64;
     }
 }
 
@@ -113,6 +126,21 @@ pub fn bench_sheet(bench: &[u8], state: &[u8], readings: &[u8], cells: &[u8], sh
             cells.len(),
             sheet.as_mut_ptr(),
             sheet.len(),
+        )
+    }
+}
+
+pub fn rules_tried(bench: &[u8], before: &[u8], after: &[u8], tried: &mut [u8]) -> u64 {
+    unsafe {
+        c::rules_tried(
+            bench.as_ptr(),
+            bench.len(),
+            before.as_ptr(),
+            before.len(),
+            after.as_ptr(),
+            after.len(),
+            tried.as_mut_ptr(),
+            tried.len(),
         )
     }
 }

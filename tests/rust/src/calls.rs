@@ -1,12 +1,12 @@
-//! The six calls on lent memory as the interpreter answers them. Each is a function of the lent bytes alone. The seventh, a byte's class,
-//! lends nothing: it is the interpreter's own function.
+//! The six calls on lent memory as the interpreter answers them, and that of the test archive. Each is a function of the lent bytes alone.
+//! One more, a byte's class, lends nothing: it is the interpreter's own function.
 
-use crate::image::{self, sheet_size, BENCH_SIZE, ROW_SIZE, STATE_SIZE};
+use crate::image::{self, sheet_size, BENCH_SIZE, ROW_SIZE, STATE_SIZE, TRIED_SIZE};
 use crate::interpreter::grammar::Bench;
 use crate::interpreter::line::{self, Taken};
 use crate::interpreter::machine::{self, State};
 use crate::interpreter::text::name_form;
-use crate::interpreter::{accept, row as rows, sheet as sheets};
+use crate::interpreter::{accept, rest, row as rows, sheet as sheets};
 
 /// The number in the low 8 bits, the offset or length above.
 pub fn answer(number: u8, rest: usize) -> u64 {
@@ -46,7 +46,7 @@ pub fn bench_line(bench: &[u8], state: &mut [u8], names: &[u8], values: &[u8], r
         Err(number) => answer(number, 0),
         // A line sent again leaves the state's memory alone.
         Ok(Taken::Resent(sender)) => write(&rows::row(&bench, &before.senders[sender]), row),
-        Ok(Taken::Next(next, sender)) => {
+        Ok(Taken::Next(next, sender, _)) => {
             image::encode_state(&bench, &next, state);
             write(&rows::row(&bench, &next.senders[sender]), row)
         }
@@ -82,6 +82,19 @@ pub fn bench_sheet(bench: &[u8], state: &[u8], readings: &[u8], cells: &[u8], sh
         Err(number) => answer(number, 0),
         Ok(printed) => write(&printed, sheet),
     }
+}
+
+/// The rules that a line tries that leads from one state to another, as 8 bytes, the lowest first.
+pub fn rules_tried(bench: &[u8], before: &[u8], after: &[u8], tried: &mut [u8]) -> u64 {
+    if bench.len() < BENCH_SIZE || before.len() < STATE_SIZE || after.len() < STATE_SIZE || tried.len() < TRIED_SIZE {
+        return answer(31, 0);
+    }
+    let Some(bench) = checked(bench) else { return answer(32, 0) };
+    let (Some(before), Some(after)) = (image::decode_state(&bench, before), image::decode_state(&bench, after)) else {
+        return answer(33, 0);
+    };
+    tried[..TRIED_SIZE].copy_from_slice(&rest::tried_between(&bench, &before, &after).to_le_bytes());
+    answer(0, 0)
 }
 
 fn checked(memory: &[u8]) -> Option<Bench<'_>> {

@@ -1,7 +1,7 @@
 //! Runs both sides on a case and compares answers and every lent byte.
 
 use crate::generate::case::{Call, Case, Lent, Step};
-use crate::image::{BENCH_SIZE, ROW_SIZE, STATE_SIZE};
+use crate::image::{BENCH_SIZE, ROW_SIZE, STATE_SIZE, TRIED_SIZE};
 use crate::interpreter::bytes::byte_class;
 use crate::memory::{Memory, Side, Tally, OURS};
 use crate::resent::Rows;
@@ -28,6 +28,7 @@ const THEIRS: Side = Side {
     header: archive::bench_header,
     row: archive::bench_row,
     sheet: archive::bench_sheet,
+    tried: archive::rules_tried,
 };
 
 /// Both sides under way on one bench text.
@@ -59,8 +60,8 @@ impl Sides {
 
     /// Does one step on both sides; gives the answer that both gave.
     pub fn step(&mut self, step: &Step) -> Result<Option<u64>, Box<Mismatch>> {
-        self.ours.lend_sheet(step);
-        self.theirs.lend_sheet(step);
+        self.ours.lend(step);
+        self.theirs.lend(step);
         let before = self.theirs.clone();
         // Copies, to see that the engine leaves even what it only reads.
         let (text, lent_step) = (self.text.clone(), step.clone());
@@ -78,9 +79,31 @@ impl Sides {
         if let Some(what) = fault {
             return Err(Box::new(self.mismatch(step, what, ours, theirs)));
         }
+        if matches!(step.call, Call::Line { .. }) {
+            self.rules_tried(&before)?;
+        }
         self.steps += 1;
         self.tally.count(&self.text, step, theirs, &before, &self.theirs);
         Ok(theirs)
+    }
+
+    /// Asks both sides which rules a line tried, whatever became of it: one that is refused or sent again leaves the state, so none.
+    fn rules_tried(&self, before: &Memory) -> Result<(), Box<Mismatch>> {
+        let ours = tried(&OURS, before, &self.ours);
+        let texts_read = interpreter::texts_read();
+        let theirs = tried(&THEIRS, before, &self.theirs);
+        assert_eq!(interpreter::texts_read(), texts_read, "the test archive's call ends in the interpreter: it is compared with itself");
+        if ours == theirs {
+            return Ok(());
+        }
+        Err(Box::new(Mismatch {
+            step: self.steps,
+            what: "the rules that a line tries differ".into(),
+            ours: Some(ours.0),
+            theirs: Some(theirs.0),
+            our_text: show_set(&ours.1),
+            their_text: show_set(&theirs.1),
+        }))
     }
 
     /// What the steps so far were.
@@ -106,7 +129,10 @@ impl Sides {
         if self.ours.row != self.theirs.row {
             return Some("the memories of the row differ");
         }
-        (self.ours.sheet != self.theirs.sheet).then_some("the memories of the sheet differ")
+        if self.ours.sheet != self.theirs.sheet {
+            return Some("the memories of the sheet differ");
+        }
+        (self.ours.tried != self.theirs.tried).then_some("the sets of rules differ")
     }
 
     fn ends_kept(&self, before: &Memory, step: &Step) -> bool {
@@ -116,10 +142,15 @@ impl Sides {
             && kept(&self.theirs.state, &before.state, lent.state.min(STATE_SIZE))
             && kept(&self.theirs.row, &before.row, lent.row.min(ROW_SIZE))
             && kept(&self.theirs.sheet, &before.sheet, step.lent_sheet())
+            && self.theirs.states == before.states
+            && kept(&self.theirs.tried, &before.tried, step.lent_tried()[2].min(TRIED_SIZE))
     }
 
     fn mismatch(&self, step: &Step, what: &str, ours: Option<u64>, theirs: Option<u64>) -> Mismatch {
         let written = |memory: &Memory, answer: Option<u64>| {
+            if let Call::Tried { .. } = step.call {
+                return show_set(&memory.tried);
+            }
             let length = answer.filter(|answer| answer & 255 == 0).map_or(0, |answer| answer >> 8) as usize;
             let memory = if matches!(step.call, Call::Sheet { .. }) { &memory.sheet } else { &memory.row };
             memory[..length.min(memory.len())].to_vec()
@@ -133,6 +164,14 @@ impl Sides {
             their_text: written(&self.theirs, theirs),
         }
     }
+}
+
+/// One side's answer to which rules a line tried, with the memory of the set and as many bytes after it.
+fn tried(side: &Side, before: &Memory, after: &Memory) -> (u64, [u8; 2 * TRIED_SIZE]) {
+    let mut tried = [0xa5; 2 * TRIED_SIZE];
+    let (before_state, after_state) = (&before.state[..STATE_SIZE], &after.state[..STATE_SIZE]);
+    let answer = (side.tried)(&before.bench[..BENCH_SIZE], before_state, after_state, &mut tried[..TRIED_SIZE]);
+    (answer, tried)
 }
 
 /// Runs a whole case.
@@ -152,6 +191,11 @@ pub fn other_classes() -> Vec<(u8, u64, u64)> {
 
 // What a reader sees of a mismatch.
 
+/// A set of rules as the bytes that stand for it.
+fn show_set(memory: &[u8]) -> Vec<u8> {
+    memory.iter().take(TRIED_SIZE).map(|byte| format!("{byte:02x} ")).collect::<String>().into_bytes()
+}
+
 pub fn show_answer(answer: Option<u64>) -> String {
     match answer {
         None => "no answer".into(),
@@ -169,6 +213,7 @@ pub fn show_step(step: &Step) -> String {
         Call::Sheet { readings, cells, .. } => {
             format!("bench_sheet [{}] [{}] for a sheet of {} bytes", show_bytes(readings), show_bytes(cells), step.lent_sheet())
         }
+        Call::Tried { before, after, .. } => format!("rules_tried of {:?} bytes: {before:02x?}, {after:02x?}", step.lent_tried()),
         Call::SetBench { at, bytes } => format!("write to the bench's memory at {at}: [{}]", show_bytes(bytes)),
         Call::SetState { at, bytes } => format!("write to the state's memory at {at}: {bytes:02x?}"),
     };

@@ -1,9 +1,21 @@
 //! How often each class of what a run tries came up.
 
-use std::collections::BTreeMap;
+use std::collections::{BTreeMap, BTreeSet};
 
 /// A group and a name in it.
 pub type Class = (&'static str, String);
+
+/// The classes that one thing belongs to.
+#[derive(Default)]
+pub struct Seen(pub BTreeSet<Class>);
+
+impl Seen {
+    pub fn add_if(&mut self, is: bool, group: &'static str, name: &str) {
+        if is {
+            self.0.insert((group, name.into()));
+        }
+    }
+}
 
 #[derive(Clone, Debug, Default)]
 pub struct Counts(BTreeMap<Class, u64>);

@@ -9,6 +9,8 @@ use crate::interpreter::value::{Cell, Kind, Value};
 pub const BENCH_SIZE: usize = 32_772;
 pub const STATE_SIZE: usize = 35_117;
 pub const ROW_SIZE: usize = 32_768;
+/// The stated size of a set of rules: a bit for each of at most 64.
+pub const TRIED_SIZE: usize = 8;
 /// The stated size of a sheet: 30 closing rows, and two rows more for each line feed of the readings.
 pub const SHEET_LEAST: usize = 2_430;
 pub const SHEET_MORE: usize = 162;

@@ -6,10 +6,9 @@ use second::interpreter::line::SENDERS_MOST;
 use second::memory::{Tally, NUMBERS};
 use second::options::{Options, USAGE};
 use second::places::coverage::place_name;
-use second::ranks;
 use second::resent::Seen;
 use second::two_runs::{self, Verdict};
-use second::{archive, shrink};
+use second::{archive, ranks, rests, shrink};
 use std::env;
 use std::process::ExitCode;
 
@@ -17,6 +16,8 @@ use std::process::ExitCode;
 const TWO_RUNS_EVERY: u64 = 6;
 /// In one case of so many every sender's last line is sent again after each step.
 const AGAIN_EVERY: u64 = 10;
+/// With one case of so many comes one whose lines move little.
+const REST_EVERY: u64 = 8;
 /// Only the first failing cases are shown.
 const SHOWN_MOST: u64 = 3;
 
@@ -93,7 +94,9 @@ impl Report {
         let put_in = self.compared(number, &generate::places::case(seed, number), |tally, of| tally.places.add(&of.places));
         let spoilt = self.compared(number, &generate::spoils::case(seed, number), |tally, of| tally.senders.add(&of.senders));
         let ranked = self.compared(number, &generate::ranks::case(seed, number), |tally, of| tally.ranks.add(&of.ranks));
-        let passed = put_in && spoilt && ranked && ran;
+        let rested = !number.is_multiple_of(REST_EVERY)
+            || self.compared(number, &generate::rests::case(seed, number), |tally, of| tally.rests.add(&of.rests));
+        let passed = put_in && spoilt && ranked && rested && ran;
         self.passed += u64::from(passed);
         self.failed += u64::from(!passed);
     }
@@ -175,6 +178,8 @@ impl Report {
         self.tally.senders.print();
         println!("texts and lines by what they try of ranks, each being in many:");
         self.tally.ranks.print();
+        println!("lines and calls by the rules that are tried, each being in many:");
+        self.tally.rests.print();
         let Seen { again, late, asked } = self.tally.resent;
         println!("{again} lines sent again that were taken in the same run, {late} of them after lines of others; {asked} rows of such asked for");
         println!(
@@ -214,6 +219,10 @@ impl Report {
         }
         for (group, name) in self.tally.ranks.lacking(ranks::required(), least) {
             println!("ranks, {group}: {name}: less than {least}");
+            complete = false;
+        }
+        for (group, name) in self.tally.rests.lacking(rests::required(), least) {
+            println!("rests, {group}: {name}: less than {least}");
             complete = false;
         }
         if self.ranked * 2 < self.trials || self.proper_ranked_differing < (cases / 500).max(1) {

@@ -1,13 +1,15 @@
-//! Lent memory and the six calls on it, the same for both sides of a comparison.
+//! Lent memory and the seven calls on it, the same for both sides of a comparison.
 
 use crate::calls;
 use crate::counts::Counts;
+use crate::cycles::Cycle;
 use crate::generate::case::{Call, Case, Lent, Step, LONGER_MOST};
 use crate::generate::prng::Prng;
 use crate::image::{BENCH_SIZE, ROW_SIZE, STATE_SIZE};
 use crate::places::coverage::Coverage as Places;
 use crate::ranks;
 use crate::resent;
+use crate::rests;
 use crate::senders::coverage::Coverage as Senders;
 use crate::sheets::coverage::Coverage as Sheets;
 use std::collections::BTreeMap;
@@ -22,6 +24,9 @@ pub struct Memory {
     pub row: Vec<u8>,
     /// Lent anew for each sheet.
     pub sheet: Vec<u8>,
+    /// Two states and a set of rules, lent anew for each call that asks for one.
+    pub states: [Vec<u8>; 2],
+    pub tried: Vec<u8>,
     fill: u64,
 }
 
@@ -29,15 +34,36 @@ impl Memory {
     pub fn new(fill: u64) -> Memory {
         let mut prng = Prng::new(fill);
         let mut filled = |size: usize| prng.bytes(size + LONGER_MOST + CANARY);
-        Memory { bench: filled(BENCH_SIZE), state: filled(STATE_SIZE), row: filled(ROW_SIZE), sheet: Vec::new(), fill }
+        Memory {
+            bench: filled(BENCH_SIZE),
+            state: filled(STATE_SIZE),
+            row: filled(ROW_SIZE),
+            sheet: Vec::new(),
+            states: Default::default(),
+            tried: Vec::new(),
+            fill,
+        }
     }
 
-    /// The sheet's memory for this step, filled anew: its size follows from the readings.
-    pub fn lend_sheet(&mut self, step: &Step) {
-        self.sheet = match step.call {
-            Call::Sheet { .. } => Prng::new(!self.fill).bytes(step.lent_sheet() + CANARY),
-            _ => Vec::new(),
+    /// The memory that is there for this step alone, filled anew: that of a sheet, whose size follows from the readings, or that of two
+    /// states and a set of rules.
+    pub fn lend(&mut self, step: &Step) {
+        let filled = |size: usize| Prng::new(!self.fill).bytes(size + CANARY);
+        let holding = |image: &[u8], size: usize| {
+            let mut memory = filled(size.max(image.len()));
+            memory[..image.len()].copy_from_slice(image);
+            memory
         };
+        (self.sheet, self.states, self.tried) = Default::default();
+        match &step.call {
+            Call::Sheet { .. } => self.sheet = filled(step.lent_sheet()),
+            Call::Tried { before, after, .. } => {
+                let [before_size, after_size, tried_size] = step.lent_tried();
+                self.states = [holding(before, before_size), holding(after, after_size)];
+                self.tried = filled(tried_size);
+            }
+            _ => {}
+        }
     }
 }
 
@@ -50,7 +76,10 @@ type RowCall = fn(&[u8], &[u8], &[u8], &mut [u8]) -> u64;
 /// Bench, state, readings, cells, sheet.
 type SheetCall = fn(&[u8], &[u8], &[u8], &[u8], &mut [u8]) -> u64;
 
-/// The six calls of one side.
+/// Bench, state before, state after, rules.
+type TriedCall = fn(&[u8], &[u8], &[u8], &mut [u8]) -> u64;
+
+/// The seven calls of one side.
 pub struct Side {
     pub check: fn(&[u8], &mut [u8]) -> u64,
     pub fresh: fn(&[u8], &mut [u8]) -> u64,
@@ -58,6 +87,7 @@ pub struct Side {
     pub header: fn(&[u8], &mut [u8]) -> u64,
     pub row: RowCall,
     pub sheet: SheetCall,
+    pub tried: TriedCall,
 }
 
 /// The interpreter's side.
@@ -68,10 +98,11 @@ pub const OURS: Side = Side {
     header: calls::bench_header,
     row: calls::bench_row,
     sheet: calls::bench_sheet,
+    tried: calls::rules_tried,
 };
 
 impl Side {
-    /// One call; `None` for a step that only writes memory. A sheet's memory is lent before.
+    /// One call; `None` for a step that only writes memory. What is there for the step alone is lent before.
     pub fn answer(&self, text: &[u8], step: &Step, memory: &mut Memory) -> Option<u64> {
         let Lent { bench, state, row } = step.lent;
         let (bench, state, row) = (&mut memory.bench[..bench], &mut memory.state[..state], &mut memory.row[..row]);
@@ -83,6 +114,10 @@ impl Side {
             Call::Line { names, values } => Some((self.line)(bench, state, names, values, row)),
             Call::Sheet { readings, cells, .. } => {
                 Some((self.sheet)(bench, state, readings, cells, &mut memory.sheet[..step.lent_sheet()]))
+            }
+            Call::Tried { .. } => {
+                let ([before, after], sizes) = (&memory.states, step.lent_tried());
+                Some((self.tried)(bench, &before[..sizes[0]], &after[..sizes[1]], &mut memory.tried[..sizes[2]]))
             }
             Call::SetBench { at, bytes } => overwrite(&mut memory.bench, *at, bytes),
             Call::SetState { at, bytes } => overwrite(&mut memory.state, *at, bytes),
@@ -101,7 +136,7 @@ pub const NUMBERS: [u8; 20] = [0, 11, 12, 13, 14, 15, 16, 17, 18, 21, 22, 23, 24
 /// How often each number was answered.
 #[derive(Clone, Debug, Default)]
 pub struct Tally {
-    /// Of all calls but those for a sheet.
+    /// Of all calls but those for a sheet or a set of rules.
     pub answers: BTreeMap<u8, u64>,
     pub calls: u64,
     /// Accepted lines that gave some fired action.
@@ -113,6 +148,8 @@ pub struct Tally {
     pub places: Places,
     /// Of texts and lines.
     pub ranks: Counts,
+    /// Of lines, and of calls for a set of rules.
+    pub rests: Counts,
 }
 
 impl Tally {
@@ -127,6 +164,7 @@ impl Tally {
         self.resent.add(other.resent);
         self.places.add(&other.places);
         self.ranks.add(&other.ranks);
+        self.rests.add(&other.rests);
     }
 
     /// Counts one step and its answer, with the bench text and the memory before and after it.
@@ -139,8 +177,15 @@ impl Tally {
         if matches!(step.call, Call::Sheet { .. }) {
             return self.sheets.take(step, answer, after);
         }
+        if matches!(step.call, Call::Tried { .. }) {
+            return self.rests.take(rests::of_call(text, step, answer, after));
+        }
         self.senders.take(step, answer, before);
-        self.ranks.take(ranks::of_line(step, answer, before));
+        if let Some(cycle) = Cycle::of(step, answer, before, after) {
+            let writes = cycle.writes();
+            self.ranks.take(ranks::of_writes(&writes));
+            self.rests.take(rests::of_cycle(&cycle, &writes));
+        }
         let row = &after.row;
         self.calls += 1;
         *self.answers.entry((answer & 255) as u8).or_default() += 1;
@@ -161,7 +206,7 @@ pub fn answers(case: &Case) -> Tally {
     let mut tally = Tally::default();
     let mut rows = resent::Rows::default();
     for step in &case.steps {
-        memory.lend_sheet(step);
+        memory.lend(step);
         let before = memory.clone();
         let answer = OURS.answer(&case.text, step, &mut memory);
         tally.count(&case.text, step, answer, &before, &memory);

@@ -1,16 +1,11 @@
 //! What the texts and lines of a run tried of ranks, and what they must have. It is measured on the words and on the writes, not taken from
 //! how they were made.
 
-use crate::counts::Class;
-use crate::generate::case::{Call, Step};
-use crate::image::{decode_bench, decode_state};
-use crate::interpreter::accept;
+use crate::counts::{Class, Seen};
 use crate::interpreter::check::PASSES;
 use crate::interpreter::grammar::{self, Bench};
-use crate::interpreter::line::{self, Taken};
-use crate::interpreter::machine::{standing, writes_of, Write, RIGHT};
+use crate::interpreter::machine::{standing, Write};
 use crate::interpreter::text::{words, Token, Word};
-use crate::memory::Memory;
 use std::collections::{BTreeMap, BTreeSet};
 
 const ACCEPTED: &str = "accepted texts";
@@ -100,17 +95,6 @@ const WRITTEN: [&str; 14] = [
     "another value by the last of the highest rank",
     "another value by the first of the lowest rank",
 ];
-
-#[derive(Default)]
-struct Seen(BTreeSet<Class>);
-
-impl Seen {
-    fn add_if(&mut self, is: bool, group: &'static str, name: &str) {
-        if is {
-            self.0.insert((group, name.into()));
-        }
-    }
-}
 
 // Texts.
 
@@ -215,20 +199,11 @@ impl Seen {
 
 // Lines.
 
-/// The classes of a line that is taken and not sent again, with the memory before it.
-pub fn of_line(step: &Step, answer: u64, before: &Memory) -> BTreeSet<Class> {
-    let writes = written(step, answer, before).unwrap_or_default();
+/// The classes of a line that is taken and not sent again, by all its writes.
+pub fn of_writes(writes: &[Write]) -> BTreeSet<Class> {
     let mut seen = Seen::default();
-    by_cell(&writes).values().for_each(|writes| seen.writes(writes));
+    by_cell(writes).values().for_each(|writes| seen.writes(writes));
     seen.0
-}
-
-fn written(step: &Step, answer: u64, before: &Memory) -> Option<Vec<Write>> {
-    let Call::Line { names, values } = &step.call else { return None };
-    let bench = decode_bench(&before.bench).and_then(|text| accept(text).ok()).filter(|_| answer & 255 == 0)?;
-    let state = decode_state(&bench, &before.state)?;
-    let Ok(Taken::Next(next, place)) = line::take(&bench, &state, names, values) else { return None };
-    writes_of(RIGHT, &bench, &state, &next.senders[place].last).ok().map(|(_, writes)| writes)
 }
 
 /// Writes by their cells, in their order.

@@ -32,7 +32,7 @@ fn run_line(bench: &Bench, state: State, columns: &[Column], values: &[u8], out:
             return Ok(state);
         }
         Ok(Taken::Resent(sender)) => (state, sender),
-        Ok(Taken::Next(next, sender)) => (next, sender),
+        Ok(Taken::Next(next, sender, _)) => (next, sender),
     };
     print(out, &rows::row(bench, &state.senders[sender]))?;
     Ok(state)

@@ -36,9 +36,14 @@ pub fn shrink(case: &Case) -> Option<(Case, Box<Mismatch>)> {
 fn with_text(case: &Case, text: &[u8]) -> Case {
     let mut changed = Case { text: text.to_vec(), ..case.clone() };
     for step in &mut changed.steps {
-        if let Call::SetState { at: 0, bytes } = &mut step.call {
-            if bytes.starts_with(&fingerprint(&case.text).to_le_bytes()) {
-                bytes[..4].copy_from_slice(&fingerprint(text).to_le_bytes());
+        let images = match &mut step.call {
+            Call::SetState { at: 0, bytes } => vec![bytes],
+            Call::Tried { before, after, .. } => vec![before, after],
+            _ => Vec::new(),
+        };
+        for image in images {
+            if image.starts_with(&fingerprint(&case.text).to_le_bytes()) {
+                image[..4].copy_from_slice(&fingerprint(text).to_le_bytes());
             }
         }
     }
@@ -96,8 +101,10 @@ fn plain_sizes(case: &mut Case, still: &mut dyn FnMut(&Case) -> bool) {
     for at in 0..case.steps.len() {
         let mut plain = case.clone();
         plain.steps[at].lent = EXACT;
-        if let Call::Sheet { over, .. } = &mut plain.steps[at].call {
-            *over = 0;
+        match &mut plain.steps[at].call {
+            Call::Sheet { over, .. } => *over = 0,
+            Call::Tried { over, .. } => *over = [0; 3],
+            _ => {}
         }
         if plain != *case && still(&plain) {
             *case = plain;

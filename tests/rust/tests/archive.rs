@@ -39,6 +39,7 @@ fn cases_agree() {
     for number in 0..100 {
         assert!(compare::run(&generate::case(3, number)).is_ok(), "case {number}");
         assert!(compare::run(&generate::ranks::case(3, number)).is_ok(), "text {number} with ranks");
+        assert!(compare::run(&generate::rests::case(3, number)).is_ok(), "case {number} with rules at rest");
     }
 }
 

@@ -221,7 +221,7 @@ fn answer(flaw: Flaw, bench: &Bench, state: &mut State, columns: &[line::Column]
             Ok(Some(row::row(bench, &now)))
         }
         Taken::Resent(sender) => Ok(Some(row::row(bench, &state.senders[sender]))),
-        Taken::Next(next, sender) => {
+        Taken::Next(next, sender, _) => {
             *state = next;
             let row = row::row(bench, &state.senders[sender]);
             Ok(Some(if flaw == Flaw::NoSender { row[state.senders[sender].name.len() + 1..].to_vec() } else { row }))

@@ -513,7 +513,7 @@ fn each_sheet(mut look: impl FnMut(&Given, (u64, Vec<u8>))) {
     for case in (0..CASES).map(|number| generate::case(SEED, number)) {
         let mut memory = Memory::new(case.fill);
         for step in &case.steps {
-            memory.lend_sheet(step);
+            memory.lend(step);
             let before = matches!(step.call, Call::Sheet { .. }).then(|| memory.clone());
             let answer = OURS.answer(&case.text, step, &mut memory);
             if let (Some(before), Some(answer)) = (before, answer) {

@@ -1,7 +1,8 @@
 """make_inputs.py FOLDER [SEED]: the inputs of the benchmark, the same for the same seed.
 
-FOLDER/{pedal,usual,heavy}/ get bench.txt, readings.txt and decimal.txt (the same readings for CLIPS, which cannot take the bits of a
-real: decimal reals, and `nil` for `?`); heavy/ also gets the rules for CLIPS, rules.clp. FOLDER/check/ gets bench files of about 1 KB and 32 KB.
+FOLDER/{pedal,usual,heavy,usual-quiet,heavy-quiet}/ get bench.txt, readings.txt and decimal.txt (the same readings for CLIPS, which cannot take the
+bits of a real: decimal reals, and `nil` for `?`); the heavy ones also get the rules for CLIPS, rules.clp. Of the quiet ones most lines move only the
+stage. FOLDER/check/ gets bench files of about 1 KB and 32 KB.
 """
 import os
 import random
@@ -9,7 +10,8 @@ import struct
 import sys
 
 HERE = os.path.dirname(os.path.abspath(__file__))
-LINES = {"pedal": 100_000, "usual": 100_000, "heavy": 150}
+LINES = {"pedal": 100_000, "usual": 100_000, "heavy": 150, "usual-quiet": 100_000, "heavy-quiet": 5_000}
+QUIET = 0.95  # of the lines of a quiet bench
 SENDER = "box"  # of all lines
 
 # The heavy bench: each rule has three variables, and each is written eight times with another number.
@@ -40,8 +42,10 @@ HEAVY_RULES = [
 ]
 
 
-def heavy_bench():
-    text = HEAVY_HEAD
+def heavy_bench(quiet):
+    """For quiet lines the first sensor has a position too, which no rule reads."""
+    text = HEAVY_HEAD.replace("event lit : bool }", "event lit : bool event pos : whole }") if quiet else HEAVY_HEAD
+    assert quiet == ("event pos" in text)
     for i in range(8):
         text += f"entity s{i} : Sensor {{ room = {i // 2} gain = {i % 4 + 1} }}\n"
     for i in range(8):
@@ -184,13 +188,25 @@ def heavy(rng):
         yield fields
 
 
+def usual_quiet(rng):
+    for fields in usual(rng):
+        yield fields[:1] + ["-"] * (len(fields) - 1) if rng.random() < QUIET else fields
+
+
+def heavy_quiet(rng):
+    for pos, fields in enumerate(heavy(rng)):
+        yield (["-"] * len(fields) if rng.random() < QUIET else fields) + [pos]
+
+
 NAMES = {
     "pedal": "p.down s.pos",
     "usual": "stage.pos stage.edge stage.dir pedal.count pedal.held camera.width "
     + " ".join(f"probe{k}.temp probe{k}.ok" for k in range(1, 5)),
     "heavy": " ".join([f"s{k}.level s{k}.lit" for k in range(8)] + [f"g{k}.open" for k in range(8)] + [f"m{k}.flow" for k in range(8)]),
 }
-MAKERS = {"pedal": pedal, "usual": usual, "heavy": heavy}
+NAMES["usual-quiet"] = NAMES["usual"]
+NAMES["heavy-quiet"] = NAMES["heavy"] + " s0.pos"
+MAKERS = {"pedal": pedal, "usual": usual, "heavy": heavy, "usual-quiet": usual_quiet, "heavy-quiet": heavy_quiet}
 
 
 def names_line(name):
@@ -218,13 +234,14 @@ def main():
     folder, seed = sys.argv[1], int(sys.argv[2]) if len(sys.argv) > 2 else 1
     for name in LINES:
         os.makedirs(os.path.join(folder, name), exist_ok=True)
-        if name == "heavy":
-            bench = heavy_bench()
+        kind = name.removesuffix("-quiet")
+        if kind == "heavy":
+            bench = heavy_bench(quiet=name != kind)
         else:
-            with open(os.path.join(HERE, name + ".txt"), encoding="ascii") as file:
+            with open(os.path.join(HERE, kind + ".txt"), encoding="ascii") as file:
                 bench = file.read()
         write(os.path.join(folder, name, "bench.txt"), bench)
-        if name == "heavy":
+        if kind == "heavy":
             write(os.path.join(folder, name, "rules.clp"), heavy_clips())
         rng = random.Random(f"{seed} {name}")
         lines = list(numbered(rng, LINES[name], MAKERS[name](rng)))

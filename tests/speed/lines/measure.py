@@ -22,17 +22,19 @@ before = os.environ.get("BENCH_BEFORE")
 
 def opponents(bench):
     """Name, command, and whether its reals are decimals."""
-    lua = os.path.join(tests, bench + ".lua")
+    kind = bench.removesuffix("-quiet")
+    lua = os.path.join(tests, kind + ".lua")
     batch = os.path.join(folder, bench, "batch.clp")
     with open(batch, "w", encoding="utf-8") as file:
-        files = [os.path.join(tests, name) for name in ("lines.clp", bench + ".clp")]
-        if bench == "heavy":
+        files = [os.path.join(tests, name) for name in ("lines.clp", kind + ".clp")]
+        if kind == "heavy":
             files.append("rules.clp")
         file.write("".join(f'(load* "{name}")\n' for name in files) + "(main)\n(exit)\n")
     listed = [
         ("runner", [runner], False),
         *([(BEFORE, [os.path.abspath(before)], False)] if before else []),
-        ("second interpreter", [second, "."], False),
+        # it tries every choice: too long for so many heavy lines
+        *([("second interpreter", [second, "."], False)] if bench != "heavy-quiet" else []),
         ("Lua 5.4", ["lua5.4", lua], False),
         ("LuaJIT", ["luajit", lua], False),
         ("LuaJIT, compiler off", ["luajit", "-joff", lua], False),
@@ -103,7 +105,7 @@ def call_times():
 
 def main():
     table = []
-    for bench in ("pedal", "usual", "heavy"):
+    for bench in ("pedal", "usual", "heavy", "usual-quiet", "heavy-quiet"):
         cwd = os.path.join(folder, bench)
         listed = opponents(bench)
         expected = rows([runner], cwd)

@@ -2,18 +2,21 @@
 use Prim.Native.Nat.{ℕ, zero, suc, _+_}
 use native.Mathlib.Nat.{zero-add}
 use mathlib.Core.Path.{_≡_, refl, ap₂, subst}
-use mathlib.Core.Bool.{Bool, true, false}
+use mathlib.Core.Bool.{Bool, true, false, not, _||_}
 use mathlib.Core.List.{List, [], _∷_, _++_, map, flatMap}
 use mathlib.Core.Option.{Option, none, some, Option·none-ne-some}
 use mathlib.Core.Logic.{_⊎_, inl, inr}
 use native.Mathlib.Omega.{arith}
 use lib.Dec.{T}
 use lib.ListN.{getElem?}
+use lib.Ieee.Fits.{and-l, and-r}
 use Rattle.values.specs.definitions.Bytes.{same-bytes}
 use Rattle.text.specs.definitions.Syntax.{Name}
+use Rattle.text.proofs.laws.ListLaws.{none-some, some-injective}
 use Rattle.checking.specs.definitions.Scope.{Indexed, here-or-later, look-up}
-use Rattle.cycles.specs.definitions.Spots.{numbered}
+use Rattle.cycles.specs.definitions.Spots.{numbered, every}
 use Rattle.cycles.specs.definitions.ClosedSet.{Among, here, there}
+use Rattle.cycles.specs.definitions.Reads.{one-passes}
 
 -- every item of the list has the property
 abbrev pub All-in : {A : Type 0} → List A → (A → Type 0) → Type 0
@@ -66,6 +69,21 @@ module _ {A : Type 0} where
       go : (k : ℕ) × (x .number ≡ 0 + k) × (getElem? xs k ≡ some (x .item)) → getElem? xs (x .number) ≡ some (x .item)
       go (k, e, h) = rw (e, zero-add k) h
 
+  -- an item with its number is among those of a list with numbers
+  numbered-among-from : (n : ℕ) (xs : List A) (k : ℕ) {x : A} → getElem? xs k ≡ some x → Among (record { number = n + k; item = x }) (numbered n xs)
+  unfolding numbered
+  numbered-among-from n [] k h = absurd (none-some h)
+  numbered-among-from n (y ∷ xs) zero {x} h =
+      let e : y ≡ x = some-injective h in
+      let d : n + 0 ≡ n = omega arith in
+      rw (d, e) here
+  numbered-among-from n (y ∷ xs) (suc k) {x} h =
+      let d : n + suc k ≡ suc n + k = omega arith in
+      rw d (there (numbered-among-from (suc n) xs k h))
+
+  pub numbered-among : (xs : List A) (k : ℕ) {x : A} → getElem? xs k ≡ some x → Among (record { number = k; item = x }) (numbered 0 xs)
+  numbered-among xs k {x} h = subst (λ i. Among (record { number = i; item = x }) (numbered 0 xs)) (zero-add k) (numbered-among-from 0 xs k h)
+
   -- what a look-up finds stands in the list at its number
   pub look-up-at : (name-of : A → Name) (n : List ℕ) (xs : List A) {r : Indexed A} → look-up name-of n xs ≡ some r → getElem? xs (r .number) ≡ some (r .item)
   unfolding look-up
@@ -82,12 +100,58 @@ module _ {A : Type 0} where
           let i : _≡_ {A = Indexed A} (record { number = suc (q .number); item = q .item }) r = cc in
           subst (λ (p : Indexed A). getElem? (x ∷ xs) (p .number) ≡ some (p .item)) i (later q refl)
 
+  pub among-at : {x : A} {xs : List A} → Among x xs → (k : ℕ) × (getElem? xs k ≡ some x)
+  among-at here = (0, refl)
+  among-at (there a) = let (k, h) = among-at a in (suc k, h)
+
   pub at-among : (xs : List A) (k : ℕ) {x : A} → getElem? xs k ≡ some x → Among x xs
   at-among [] k {x} h = absurd (Option·none-ne-some x h)
   at-among (y ∷ xs) zero {x} h = let e : y ≡ x = cc in rw e here
   at-among (y ∷ xs) (suc k) h = there (at-among xs k h)
 
+or-left : (b c : Bool) → T b → T (b || c)
+or-left true c h = tt
+
+or-right : (b c : Bool) → T c → T (b || c)
+or-right true c h = tt
+or-right false c h = h
+
+module _ {A : Type 0} where
+  pub every-at : (test : A → Bool) (xs : List A) → T (every test xs) → All-in xs (λ x. T (test x))
+  unfolding every
+  every-at test [] h x a = elim a [ ]
+  every-at test (y ∷ xs) h _ here = and-l (test y) (every test xs) h
+  every-at test (y ∷ xs) h x (there a) = every-at test xs (and-r (test y) (every test xs) h) x a
+
+  pub some-at : (test : A → Bool) {x : A} {xs : List A} → Among x xs → T (test x) → T (one-passes test xs)
+  unfolding one-passes
+  some-at test {x} (here {xs = xs}) h = or-left (test x) (one-passes test xs) h
+  some-at test (there {y = y} {xs = xs} a) h = or-right (test y) (one-passes test xs) (some-at test a h)
+
+  -- where each item fails, every one fails its opposite
+  pub every-not : (test : A → Bool) (xs : List A) → All-in xs (λ x. test x ≡ false) → T (every (λ x. not (test x)) xs)
+  unfolding every
+  every-not test [] h = tt
+  every-not test (x ∷ xs) h = rw (h x here) (every-not test xs (λ y a. h y (there a)))
+
+  pub some-of : (test : A → Bool) (xs : List A) → T (one-passes test xs) → (x : A) × Among x xs × T (test x)
+  unfolding one-passes
+  some-of test [] h = absurd h
+  some-of test (y ∷ xs) h = go (test y) refl (λ g. some-of test xs g) h
+    where
+      later : ((x : A) × Among x xs × T (test x)) → (x : A) × Among x (y ∷ xs) × T (test x)
+      later (x, a, t) = (x, there a, t)
+
+      go : (b : Bool) → test y ≡ b → (T (one-passes test xs) → (x : A) × Among x xs × T (test x)) → T (b || one-passes test xs)
+          → (x : A) × Among x (y ∷ xs) × T (test x)
+      go true e others h = (y, here, rw e tt)
+      go false e others h = later (others h)
+
 module _ {A B : Type 0} where
+  pub among-map : (g : A → B) {x : A} {xs : List A} → Among x xs → Among (g x) (map g xs)
+  among-map g here = here
+  among-map g (there a) = there (among-map g a)
+
   pub all-in-map : (g : A → B) (xs : List A) (P : B → Type 0) → All-in xs (λ x. P (g x)) → All-in (map g xs) P
   all-in-map g [] P p = λ x a. elim a [ ]
   all-in-map g (x ∷ xs) P p = all-in-cons (g x) (map g xs) P (p x here) (all-in-map g xs P (λ y a. p y (there a)))

@@ -98,7 +98,7 @@ module _ (f : File) where
 -- ---- rules
 
 module _ (f : File) (now previous : Store) (sound : Sound-store f now) (sound-previous : Sound-store f previous) where
-  rule-runs : (r : Rule) → Known-rule f r
+  pub rule-runs : (r : Rule) → Known-rule f r
       → (ref-rule-writes f now previous r ≡ running (rule-writes f now previous r)) × All (Sound-write f) (rule-writes f now previous r)
   unfolding ref-rule-writes rule-writes
   rule-runs r k =

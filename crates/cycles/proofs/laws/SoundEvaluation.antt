@@ -213,7 +213,7 @@ module _ (f : File) (s : Scope) (sp : Spots) (resolves : Resolves f s sp) (now p
         test-runs (found-spot x (k .found)) q (c .test) (h .test),
       )
 
-  condition-runs : (c : Condition) → All (Known-clause s) (clauses c) → ref-holds sp now previous c ≡ running (holds sp now previous c)
+  pub condition-runs : (c : Condition) → All (Known-clause s) (clauses c) → ref-holds sp now previous c ≡ running (holds sp now previous c)
   unfolding ref-holds holds clauses
   condition-runs (clause c) h = clause-runs c (h c (List·Memᴰ·head refl))
   condition-runs (both a b) h =

@@ -29,3 +29,7 @@ module _ {A : Type 0} where
   pub member-among : {x : A} {xs : List A} → List·Memᴰ x xs → Among x xs
   member-among (List·Memᴰ·head e) = rw e here
   member-among (List·Memᴰ·tail m) = there (member-among m)
+
+  pub among-member : {x : A} {xs : List A} → Among x xs → List·Memᴰ x xs
+  among-member here = List·Memᴰ·head refl
+  among-member (there a) = List·Memᴰ·tail (among-member a)

@@ -4,26 +4,24 @@ use native.Mathlib.Numerals.{add-one}
 use native.Mathlib.Omega.{arith}
 use mathlib.Core.Path.{_≡_, refl, sym, ap, _∙_}
 use mathlib.Core.Bool.{Bool, true, false, true≢false, cond, _||_}
-use mathlib.Core.List.{List, [], _∷_, _++_, flatMap}
+use mathlib.Core.List.{List, [], _∷_, _++_}
 use mathlib.Core.Option.{some}
 use lib.Dec.{T, leb, ltb, eqb}
 use lib.Ieee.Fits.{and-r}
-use lib.ListN.{length, getD, getElem?, drop, drop-of-length-le, set, length-set}
+use lib.ListN.{length, getD, getElem?, drop, set, length-set}
 use lib.Seq.{getD-set-same, getD-set-other}
 use borrow.Author.Tests.{leb-true, leb-false, ltb-true, ltb-false, eqb-true, eqb-false, le-leb, lt-leb}
 use Rattle.values.specs.definitions.Bytes.{same-bytes}
-use Rattle.text.specs.definitions.Syntax.{Entity, Rule}
+use Rattle.text.specs.definitions.Syntax.{Entity}
 use Rattle.text.proofs.laws.ListLaws.{some-injective, none-some}
-use Rattle.text.proofs.laws.SpotLaws.{stands-drop}
 use Rattle.checking.specs.definitions.Scope.{Variable, variables}
 use Rattle.checking.specs.contracts.Directory.{rule-row, entity-interface-row}
 use Rattle.checking.specs.contracts.Resolution.{scope-row}
 use Rattle.checking.proofs.laws.DirectoryLaws.{number-inside}
 use Rattle.cycles.specs.declared.evaluate.Binding.{Binding}
 use Rattle.cycles.specs.definitions.Bindings.{bindings}
-use Rattle.cycles.specs.contracts.TotalMachine.{rule-writes, all-writes}
 use Rattle.cycles.specs.contracts.Evaluation.{bound, puts, Rule-puts}
-use Rattle.cycles.specs.contracts.AllRules.{Rules-given, Gives, complete, candidate, Ranged, Ranges, Entity-added, Bindings-put, Rules-put}
+use Rattle.cycles.specs.contracts.AllRules.{Gives, complete, candidate, Ranged, Ranges, Entity-added, Bindings-put}
 use Rattle.cycles.specs.contracts.Guards.{Guards-found, Needless, no-candidate, silent, Marked, Marks-set}
 use Rattle.cycles.proofs.steps.EvaluationLaws.{puts-append}
 use Rattle.cycles.proofs.steps.ResolvedLaws.{rule-puts-binding}
@@ -382,62 +380,3 @@ module _ {classes values d refs scopes flags cells previous-flags previous-cells
           let (v, h) = next-variable c (incomplete-more scopes k level y n) in
           let last = last-writes c h {e = e + getD d 1 0} (omega arith) in
           ap (puts after) (sym (writes-between c h (getD d 1 0) e (λ x from u i. outside c h x i (λ p. omega (arith, p .1))) ∙ last)) ∙ turns .left c v h)
-
--- ---- all rules
-
-module _ (classes values d refs scopes flags cells previous-flags previous-cells : List ℕ) where
-  -- the rules before number k have had their turns
-  pub record Rules-left (area : List ℕ) (k : ℕ) (after : List ℕ) : Type 0 where
-    pub left : (text offsets lengths : List ℕ)
-        (g : Rules-given text classes offsets lengths values d refs scopes flags cells previous-flags previous-cells)
-        → puts after (flatMap (rule-writes (g .checked .bench .file) (g .now) (g .previous)) (drop k (g .checked .bench .file .rules)))
-        ≡ puts area (all-writes (g .checked .bench .file) (g .now) (g .previous))
-
-module _ {classes values d refs scopes flags cells previous-flags previous-cells : List ℕ} {area : List ℕ} where
-  pub rules-begin : Rules-left classes values d refs scopes flags cells previous-flags previous-cells area 0 area
-  unfolding all-writes
-  rules-begin = record { left = λ text offsets lengths g. refl }
-
-  -- no checked bench has so many rules
-  pub rules-impossible : {n : ℕ} → n ≡ getD d 2 0 → 64 < n → {after : List ℕ}
-      → Rules-put classes values d refs scopes flags cells previous-flags previous-cells area after
-  rules-impossible e h = record { writes = λ text offsets lengths g. absurd (omega (arith, g .checked .bench .directory .rules, g .checked .few-rules)) }
-
-  -- nor so many entities
-  pub entities-impossible : {n : ℕ} → n ≡ getD d 1 0 → 32 < n → {after : List ℕ}
-      → Rules-put classes values d refs scopes flags cells previous-flags previous-cells area after
-  entities-impossible e h = record {
-    writes = λ text offsets lengths g. absurd (omega (arith, g .checked .bench .directory .entities, g .checked .few .entities));
-  }
-
-  module _ {k : ℕ} {after : List ℕ} (rules : Rules-left classes values d refs scopes flags cells previous-flags previous-cells area k after) where
-    pub rule-turns : {n : ℕ} → n ≡ getD d 2 0 → k < n → {b : Binding} {next : List ℕ}
-        → Bindings-put classes values d refs scopes flags cells previous-flags previous-cells k 0 b after next
-        → Rules-left classes values d refs scopes flags cells previous-flags previous-cells area (k + 1) next
-    unfolding rule-writes flatMap
-    rule-turns i l {b} {next} p = record {
-      left = λ text offsets lengths g.
-          let (r, h) = number-inside (g .checked .bench .file .rules) k (omega (arith, g .checked .bench .directory .rules)) in
-          one text offsets lengths g r h;
-    }
-      where
-        one : (text offsets lengths : List ℕ)
-            (g : Rules-given text classes offsets lengths values d refs scopes flags cells previous-flags previous-cells)
-            (r : Rule) → getElem? (g .checked .bench .file .rules) k ≡ some r
-            → puts next (flatMap (rule-writes (g .checked .bench .file) (g .now) (g .previous)) (drop (k + 1) (g .checked .bench .file .rules)))
-            ≡ puts area (all-writes (g .checked .bench .file) (g .now) (g .previous))
-        one text offsets lengths g r h =
-            let f = g .checked .bench .file in
-            let later = flatMap (rule-writes f (g .now) (g .previous)) (drop (suc k) (f .rules)) in
-            let e : next ≡ puts after (rule-writes f (g .now) (g .previous) r) =
-            p .writes text offsets lengths g r h [] refl (omega arith) (λ v e q. absurd (none-some q)) (λ n v e s q. absurd (none-some q)) in
-            rw (add-one k) (ap (λ area. puts area later) e ∙ sym (puts-append after (rule-writes f (g .now) (g .previous) r) later)
-            ∙ (rw (stands-drop (f .rules) k h) at (rules .left text offsets lengths g)))
-
-    pub rules-end : {n : ℕ} → n ≡ getD d 2 0 → n ≤ k → Rules-put classes values d refs scopes flags cells previous-flags previous-cells area after
-    unfolding puts flatMap
-    rules-end i l = record {
-      writes = λ text offsets lengths g.
-          let e = drop-of-length-le (g .checked .bench .file .rules) {i = k} (omega (arith, g .checked .bench .directory .rules)) in
-          rw e at (rules .left text offsets lengths g);
-    }

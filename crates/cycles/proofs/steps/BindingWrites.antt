@@ -29,7 +29,8 @@ use Rattle.cycles.specs.definitions.Bindings.{number-if, candidates, bin
 use Rattle.cycles.specs.definitions.ClosedSet.{is-of}
 use Rattle.cycles.specs.contracts.AllRules.{Rules-given, Binds, Gives, candidate, Entity-added}
 use Rattle.cycles.proofs.laws.AmongLaws.{flatMap-same}
-use Rattle.cycles.proofs.steps.CandidateLaws.{same-interface, known-number, few-variables, variable-interface}
+use Rattle.checking.proofs.laws.InterfaceNumbers.{same-interface}
+use Rattle.cycles.proofs.steps.CandidateLaws.{known-number, few-variables, variable-interface}
 
 -- one more entity, of its variable's interface
 binds-more : (f : File) (vs : List Variable) (es : List ℕ) (v : Variable) (e : ℕ) → Binds f vs es → getElem? vs (length es) ≡ some v

@@ -1,15 +1,19 @@
 -- A cycle in the memory of the stores: the store that rules see, their writes, and the next stores.
 use Prim.Native.Nat.{ℕ, _+_, _*_, _/_, _%_, _≤_, _<_}
 use native.Mathlib.Omega.{arith}
-use mathlib.Core.Path.{_≡_, sym, ap, ap₂, _∙_, subst}
-use mathlib.Core.Bool.{true, cond}
+use mathlib.Core.Path.{_≡_, refl, sym, ap, ap₂, _∙_, subst}
+use mathlib.Core.Bool.{true, false, cond, false≢true}
 use mathlib.Core.List.{List, _++_}
-use mathlib.Core.Option.{none}
+use mathlib.Core.Option.{Option, none, some}
 use lib.ListN.{length, getD, take, drop, replicate, length-drop, length-replicate}
 use lib.Seq.{drop-drop}
+use borrow.Author.Tests.{not-false}
 use Rattle.values.specs.declared.Value.{Value}
+use Rattle.values.specs.declared.Value.the-variants.{Unset}
+use Rattle.values.specs.declared.Kind.the-variants.{Wholes}
 use Rattle.values.specs.definitions.Cells.{cell-bytes, cell-at}
-use Rattle.text.specs.definitions.Syntax.{File}
+use Rattle.values.proofs.laws.StorableLaws.{unset-storable}
+use Rattle.text.specs.definitions.Syntax.{Member, File}
 use Rattle.text.proofs.laws.ListLaws.{All}
 use Rattle.checking.specs.definitions.Scope.{member-of, is-action}
 use Rattle.checking.specs.contracts.CheckedBench.{Checked-bench}
@@ -29,8 +33,18 @@ use Rattle.cycles.specs.definitions.Planes.{MOST-STORES-BYTES, table, en
 use Rattle.cycles.specs.contracts.LineReads.{presence-table, input-table}
 use Rattle.cycles.specs.contracts.PlaneMemory.{gathered, Stores-gathered}
 use Rattle.cycles.specs.contracts.Evaluation.{Stored, puts}
+use Rattle.cycles.specs.contracts.ReadSets.{Reads-are}
 use Rattle.cycles.specs.contracts.AllRules.{Rules-put}
-use Rattle.cycles.specs.contracts.CycleMemory.{seen-flag, seen-value, next-value, Values-put, Cycled}
+use Rattle.cycles.specs.contracts.CycleMemory.{
+  seen-flag,
+  seen-value,
+  next-value,
+  any-sort,
+  no-action,
+  Others-stand,
+  Members-put,
+  Cycled,
+}
 use Rattle.cycles.proofs.laws.TableLaws.{table-same}
 use Rattle.cycles.proofs.laws.CellTokenLaws.{few-within}
 use Rattle.cycles.proofs.laws.PlaneParts.{flag-piece, cell-piece, flag-sized, cell-sized}
@@ -40,28 +54,50 @@ use Rattle.cycles.proofs.laws.GatheredLaws.{Areas-of, gathered-stores, 
 use Rattle.cycles.proofs.laws.StoredLaws.{decoded-stored}
 use Rattle.cycles.proofs.laws.SoundEvaluation.{Sound-write}
 use Rattle.cycles.proofs.laws.SoundBindings.{rules-run}
-use Rattle.cycles.proofs.laws.SoundStores.{seen-sound}
-use Rattle.cycles.proofs.steps.AreaLaws.{zeros-have, after-puts}
-use Rattle.cycles.proofs.steps.SeenLaws.{flags-seen, cells-seen, tables-stored}
+use Rattle.cycles.proofs.laws.SoundStores.{seen-sound, stored-sound}
+use Rattle.cycles.proofs.laws.SilenceLaws.{tried-write-all}
+use Rattle.cycles.proofs.steps.RulePuts.{tried-put}
+use Rattle.cycles.proofs.steps.AreaLaws.{zeros-have, after-puts, none-stands, zeros-cell, Neat, neat-bytes, neat-puts}
+use Rattle.cycles.proofs.steps.SeenLaws.{flags-seen, value-is, cells-seen, tables-stored}
+
+-- memory of unset cells
+abbrev pub Unset-cells : List ℕ → Type 0
+Unset-cells l = (i : ℕ) → i < 384 → take 9 (drop (i * 9) l) ≡ cell-bytes Unset
+
+pub zeros-unset-cells : (n : ℕ) → 3456 ≤ n → Unset-cells (replicate n 0)
+zeros-unset-cells n h i l = zeros-cell n i (omega arith)
 
 -- memory that takes writes, with nothing written to it
 pub record Blank (area : List ℕ) : Type 0 where
   pub room : 3840 ≤ length area
   pub nothing : (i : ℕ) → i < 384 → Has 3456 area i none
+  pub unset : Unset-cells area
 
 pub zeros-blank : (n : ℕ) → 3840 ≤ n → Blank (replicate n 0)
-zeros-blank n h = record { room = rw (length-replicate {A = ℕ} n 0) h; nothing = λ i l. zeros-have 3456 n i (omega arith) (omega arith) }
+zeros-blank n h = record {
+  room = rw (length-replicate {A = ℕ} n 0) h;
+  nothing = λ i l. zeros-have 3456 n i (omega arith) (omega arith);
+  unset = zeros-unset-cells n (omega arith);
+}
 
 -- what the steps of a cycle of n entities leave in memory: flags and cells that the rules see, the area of writes, the next cells, the stores
 pub record Steps-done (f : File) (classes values d refs scopes : List ℕ) (n : ℕ)
-    (input-flags input-cells stores blank flags rest-flags cells rest-cells area next after : List ℕ) : Type 0 where
+    (input-flags input-cells stores blank flags rest-flags no-cells cells area next after : List ℕ) : Type 0 where
   pub flags-put : flags ≡ table (seen-flag stores input-flags) 0 n ++ rest-flags
-  pub cells-put : cells ≡ table (λ k. cell-bytes (seen-value stores flags (behind n stores) input-cells f k)) 0 (12 * n) ++ rest-cells
-  pub rules-put : Rules-put classes values d refs scopes flags cells (behind (109 * n) stores) (behind (109 * n + n) stores) blank area
-  pub next-put : next ≡ table (λ k. cell-bytes (next-value cells area f k)) 0 (12 * n) ++ drop (12 * n * 9) area
+  pub cells-put : Others-stand f any-sort (seen-value stores flags (behind n stores) input-cells f) (12 * n) no-cells
+      → cells ≡ table (λ k. cell-bytes (seen-value stores flags (behind n stores) input-cells f k)) 0 (12 * n) ++ drop (12 * n * 9) no-cells
+  pub tried : ℕ
+  pub rules-put : Rules-put classes values d refs scopes flags cells (behind (109 * n) stores) (behind (109 * n + n) stores) blank area tried
+  pub next-put : Others-stand f no-action (next-value cells area f) (12 * n) area
+      → next ≡ table (λ k. cell-bytes (next-value cells area f k)) 0 (12 * n) ++ drop (12 * n * 9) area
   pub stores-put : after ≡ gathered n flags next ++ gathered n flags cells ++ drop (stores-size n) stores
 
 -- ---- the next cells
+
+action-next : (cells area : List ℕ) (f : File) (k : ℕ) {x : Member} → member-of f (k / 12) (k % 12) ≡ some x
+    → is-sort no-action (some x) ≡ false → cell-at area k ≡ next-value cells area f k
+unfolding next-value is-sort
+action-next cells area f k {x} p q = rw (p, not-false (is-action (x .sort)) q)
 
 module _ (f : File) (h : Within-counts f) (s : Store) (ws : List Write) (sound : All (Sound-write f) ws)
     {flags cells area blank : List ℕ} (stand : Stored (entity-count f) flags cells s) (b : Blank blank) (e : area ≡ puts blank ws) where
@@ -87,6 +123,23 @@ module _ (f : File) (h : Within-counts f) (s : Store) (ws : List Write) (sound :
   unfolding next-value stored
   next-is k l = ap₂ (cond (is-sort is-action (member-of f (k / 12) (k % 12)))) (written-is k l) (seen-is k l)
 
+  -- the area has the bytes of actions' cells, and of those of no member
+  pub next-others : Sound-store f s → Others-stand f no-action (next-value cells area f) (12 * entity-count f) area
+  unfolding written-value
+  next-others sees k l q =
+      let few = h .entities in
+      let i : k < 384 = omega arith in
+      let neat : Neat blank k = record { kind = Wholes; value = Unset; can = unset-storable Wholes; bytes = b .unset k i } in
+      subst (λ (x : List ℕ). take 9 (drop (k * 9) x) ≡ cell-bytes (cell-at x k)) (sym e)
+      (neat-bytes (neat-puts f h k i ws sound blank (b .room) neat))
+      ∙ ap cell-bytes (go (member-of f (k / 12) (k % 12)) refl q)
+    where
+      go : (o : Option Member) → member-of f (k / 12) (k % 12) ≡ o → is-sort no-action o ≡ false → cell-at area k ≡ next-value cells area f k
+      go none p q =
+          written-is k l ∙ ap written-value (none-stands f (k / 12) (k % 12) p ws sound)
+          ∙ sym (next-is k l ∙ stored-sound f s ws sees sound .no-cell (k / 12) (k % 12) p)
+      go (some x) p q = action-next cells area f k p q
+
   pub next-cells : table (λ k. cell-bytes (next-value cells area f k)) 0 (12 * entity-count f)
       ≡ table (cell-piece (stored f s ws .cell)) 0 (12 * entity-count f)
   next-cells =
@@ -95,15 +148,21 @@ module _ (f : File) (h : Within-counts f) (s : Store) (ws : List Write) (sound :
 
 -- ---- a whole cycle
 
+no-sort : (o : Option Member) → is-sort any-sort o ≡ false → o ≡ none
+unfolding is-sort
+no-sort none q = refl
+no-sort (some x) q = absurd (false≢true (sym q))
+
 module _ {text classes offsets lengths values d refs scopes : List ℕ} (c : Checked-bench text classes offsets lengths values d)
     (references : References text classes offsets lengths d refs) (scopes-are : Scopes text classes offsets lengths d scopes)
-    {input-flags input-cells stores blank flags rest-flags cells rest-cells area next after : List ℕ}
-    (is : are-stores (c .bench .file) stores ≡ true) (big : MOST-STORES-BYTES ≤ length stores) (b : Blank blank)
+    (reads-are : Reads-are text classes offsets lengths d scopes)
+    {input-flags input-cells stores blank flags rest-flags no-cells cells area next after : List ℕ}
+    (is : are-stores (c .bench .file) stores ≡ true) (big : MOST-STORES-BYTES ≤ length stores) (b : Blank blank) (unset : Unset-cells no-cells)
     (i : Inputs) (taken : Sound-inputs (c .bench .file) i)
     (given-flags : take (entity-count (c .bench .file)) input-flags ≡ presence-table i (entity-count (c .bench .file)))
     (given-cells : take (108 * entity-count (c .bench .file)) input-cells ≡ input-table i (entity-count (c .bench .file)))
     (done : Steps-done (c .bench .file) classes values d refs scopes (entity-count (c .bench .file)) input-flags input-cells stores blank flags
-    rest-flags cells rest-cells area next after) where
+    rest-flags no-cells cells area next after) where
   abbrev f : File
   f = c .bench .file
 
@@ -135,10 +194,23 @@ module _ {text classes offsets lengths values d refs scopes : List ℕ} (c : Che
   unfolding decode-stores
   flags-stand = done .flags-put ∙ ap (λ (l : List ℕ). l ++ rest-flags) (flags-seen f i stores input-flags input-cells given-flags)
 
+  abbrev rest-cells : List ℕ
+  rest-cells = drop (12 * n * 9) no-cells
+
+  -- nothing is seen in a cell of no member
+  seen-others : Others-stand f any-sort (seen-value stores flags (behind n stores) input-cells f) (12 * n) no-cells
+  unfolding decode-stores
+  seen-others k l q =
+      let few = within .entities in
+      let is-seen : seen-value stores flags (behind n stores) input-cells f k ≡ sees .cell (k / 12) (k % 12) =
+      rw (behind-all n stores) (value-is f i stores input-flags input-cells taken given-cells rest-flags flags-stand k l) in
+      unset k (omega arith)
+      ∙ ap cell-bytes (sym (is-seen ∙ sees-sound .no-cell (k / 12) (k % 12) (no-sort (member-of f (k / 12) (k % 12)) q)))
+
   cells-stand : cells ≡ table (cell-piece (sees .cell)) 0 (12 * n) ++ rest-cells
   unfolding decode-stores
   cells-stand =
-      done .cells-put
+      done .cells-put seen-others
       ∙ rw (behind-all n stores)
       (ap (λ (l : List ℕ). l ++ rest-cells) (cells-seen f i stores input-flags input-cells taken given-cells rest-flags flags-stand))
 
@@ -154,15 +226,18 @@ module _ {text classes offsets lengths values d refs scopes : List ℕ} (c : Che
       (decoded-stored n (drop (109 * n) stores) (omega arith))
 
   area-is : area ≡ puts blank writes
-  area-is = done .rules-put .writes text offsets lengths (record {
-    checked = c;
-    references = references;
-    scopes-are = scopes-are;
-    now = sees;
-    previous = was .previous;
-    now-stored = sees-stored;
-    previous-stored = previous-stored;
-  })
+  area-is =
+      tried-put (done .rules-put) text offsets lengths (record {
+        checked = c;
+        references = references;
+        scopes-are = scopes-are;
+        reads-are = reads-are;
+        now = sees;
+        previous = was .previous;
+        now-stored = sees-stored;
+        previous-stored = previous-stored;
+      })
+      ∙ ap (puts blank) (tried-write-all f sees (was .previous) sees-sound (sound .previous))
 
   -- the first cells of an area that begins with so many
   first-cells : (value : ℕ → ℕ → Value) {l : List ℕ} (rest : List ℕ) → l ≡ table (cell-piece value) 0 (12 * n) ++ rest
@@ -176,7 +251,8 @@ module _ {text classes offsets lengths values d refs scopes : List ℕ} (c : Che
       record {
         present = present;
         now = first-cells (stored f sees writes .cell) (drop (12 * n * 9) area)
-            (done .next-put ∙ ap (λ (l : List ℕ). l ++ drop (12 * n * 9) area) (next-cells f within sees writes writes-sound sees-stored b area-is));
+            (done .next-put (next-others f within sees writes writes-sound sees-stored b area-is sees-sound)
+            ∙ ap (λ (l : List ℕ). l ++ drop (12 * n * 9) area) (next-cells f within sees writes writes-sound sees-stored b area-is));
         previous-present = present;
         previous = first-cells (sees .cell) rest-cells cells-stand;
       }
@@ -189,29 +265,31 @@ module _ {text classes offsets lengths values d refs scopes : List ℕ} (c : Che
 module _ {classes values d refs scopes : List ℕ} {n : ℕ} {input-flags input-cells stores : List ℕ} (e : n ≡ getD d 1 0) where
   pub cycle-impossible : 32 < n → {after : List ℕ} → Cycled classes values d refs scopes input-flags input-cells stores after
   cycle-impossible h = record {
-    is = λ text offsets lengths c r s m i t g k. let q = c .bench .directory .entities in absurd (omega (arith, c .few .entities));
+    is = λ text offsets lengths c r s x m i t g k. let q = c .bench .directory .entities in absurd (omega (arith, c .few .entities));
   }
 
   pub cycled : n ≤ 32 → MOST-STORES-BYTES ≤ length stores → (no-flags : List ℕ) {blank no-cells flags cells area next after : List ℕ} → Blank blank
+      → Unset-cells no-cells
       → flags ≡ table (seen-flag stores input-flags) 0 n ++ drop n no-flags
-      → Values-put classes d (seen-value stores flags (behind n stores) input-cells) (12 * n) no-cells cells
-      → Rules-put classes values d refs scopes flags cells (behind (109 * n) stores) (behind (109 * n + n) stores) blank area
-      → Values-put classes d (next-value cells area) (12 * n) area next
+      → Members-put classes d any-sort (seen-value stores flags (behind n stores) input-cells) (12 * n) no-cells cells
+      → {tried : ℕ} → Rules-put classes values d refs scopes flags cells (behind (109 * n) stores) (behind (109 * n + n) stores) blank area tried
+      → Members-put classes d no-action (next-value cells area) (12 * n) area next
       → Stores-gathered (getD d 1 0) flags next cells stores after
       → Cycled classes values d refs scopes input-flags input-cells stores after
-  cycled few big no-flags {blank} {no-cells} {flags} {cells} {area} {next} {after} b a v w u p = record {
-    is = λ text offsets lengths c r s m i t g k.
+  cycled few big no-flags {blank} {no-cells} {flags} {cells} {area} {next} {after} b unset a v {tried} w u p = record {
+    is = λ text offsets lengths c r s x m i t g k.
         let f = c .bench .file in
         let z : n ≡ entity-count f = e ∙ c .bench .directory .entities in
-        let done : Steps-done f classes values d refs scopes n input-flags input-cells stores blank flags (drop n no-flags) cells
-        (drop (12 * n * 9) no-cells) area next after = record {
+        let done : Steps-done f classes values d refs scopes n input-flags input-cells stores blank flags (drop n no-flags) no-cells
+        cells area next after = record {
           flags-put = a;
           cells-put = v .is text offsets lengths (c .bench) (c .few);
+          tried = tried;
           rules-put = w;
           next-put = u .is text offsets lengths (c .bench) (c .few);
           stores-put = subst (λ (j : ℕ). after ≡ gathered j flags next ++ gathered j flags cells ++ drop (stores-size j) stores) (sym e) (p .is (omega arith));
         } in
-        cycle-put c r s m big b i t g k
-        (subst (λ (j : ℕ). Steps-done f classes values d refs scopes j input-flags input-cells stores blank flags (drop n no-flags) cells
-        (drop (12 * n * 9) no-cells) area next after) z done);
+        cycle-put c r s x m big b unset i t g k
+        (subst (λ (j : ℕ). Steps-done f classes values d refs scopes j input-flags input-cells stores blank flags (drop n no-flags) no-cells
+        cells area next after) z done);
   }

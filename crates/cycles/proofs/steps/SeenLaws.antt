@@ -1,33 +1,45 @@
 -- The store that rules see, from memory: a store's plane, and a line's inputs.
-use Prim.Native.Nat.{ℕ, _+_, _*_, _/_, _%_, _≤_, _<_}
+use Prim.Native.Nat.{ℕ, zero, suc, _+_, _-_, _*_, _/_, _%_, _≤_, _<_}
 use native.Mathlib.Omega.{arith}
 use mathlib.Core.Path.{_≡_, refl, sym, ap, ap₂, _∙_}
 use mathlib.Core.Bool.{Bool, true, false, not, _&&_, cond}
-use mathlib.Core.List.{List, _++_}
+use mathlib.Core.List.{List, _++_, append-assoc}
 use mathlib.Core.Option.{Option, none, some, Option·getD}
 use lib.Dec.{eqb}
-use lib.ListN.{length, getD, take, drop, length-append}
-use lib.Seq.{drop-at, getD-drop}
+use lib.ListN.{length, getD, take, drop, length-append, take-append-drop}
+use lib.Seq.{drop-drop}
 use borrow.Author.Tests.{lt-ltb, eq-eqb, ne-eqb}
 use Rattle.values.specs.declared.Value.{Value}
 use Rattle.values.specs.declared.Value.the-variants.{Unset}
-use Rattle.values.specs.definitions.Cells.{unpacked, cell-bytes, cell-at, with-cell}
+use Rattle.values.specs.definitions.Cells.{cell-bytes, cell-at, with-cell}
 use Rattle.values.proofs.laws.StorableLaws.{length-cell-bytes}
 use Rattle.values.proofs.laws.CellLaws.{length-with-cell}
-use Rattle.text.specs.definitions.Syntax.{File}
+use Rattle.text.specs.definitions.Syntax.{Sort, Member, File}
 use Rattle.checking.specs.definitions.Scope.{member-of, is-attribute, is-action}
+use Rattle.checking.specs.contracts.DirectoryReads.{Few}
+use Rattle.checking.specs.contracts.Directory.{Bench}
 use Rattle.cycles.specs.definitions.Store.{Store, Inputs}
 use Rattle.cycles.specs.definitions.Cycle.{is-sort, present-after, leaves, seen}
 use Rattle.cycles.specs.definitions.SoundStores.{Sound-store, Sound-inputs}
 use Rattle.cycles.specs.definitions.Planes.{table, flag, presence-flag, entity-count, input-at, decode-store}
 use Rattle.cycles.specs.contracts.LineReads.{presence-table, input-table}
-use Rattle.cycles.specs.contracts.CellTokens.{Cell-token, Sort-test}
+use Rattle.cycles.specs.contracts.CellTokens.{NO-TOKEN, Cell-token, Sort-test}
 use Rattle.cycles.specs.contracts.Evaluation.{Stored}
-use Rattle.cycles.specs.contracts.CycleMemory.{present-by, seen-flag, leaves-by, seen-value, next-value, Value-of, Values-put}
-use Rattle.cycles.proofs.laws.TableLaws.{begins-with, word-drop, table-same, length-table, table-fill, table-flag, table-cell, table-input}
+use Rattle.cycles.specs.contracts.CycleMemory.{
+  present-by,
+  seen-flag,
+  leaves-by,
+  seen-value,
+  next-value,
+  Value-of,
+  no-action,
+  Members-put,
+  Seen-put,
+}
+use Rattle.cycles.proofs.laws.TableLaws.{begins-with, table-same, table-next, length-table, table-fill, table-flag, table-cell, table-input}
 use Rattle.cycles.proofs.laws.CellFits.{cell-read, input-read}
 use Rattle.cycles.proofs.laws.CellNumbers.{cell-entity, cell-member, cell-below}
-use Rattle.cycles.proofs.laws.CellTokenLaws.{action-class, attribute-class}
+use Rattle.cycles.proofs.laws.CellTokenLaws.{action-class, attribute-class, none-behind}
 use Rattle.cycles.proofs.laws.PlaneParts.{
   flag-piece,
   presence-piece,
@@ -41,21 +53,59 @@ use Rattle.cycles.proofs.laws.PlaneParts.{
   some-kind,
 }
 
--- ---- values put cell by cell
+-- ---- cells put one after another
 
-module _ {classes d : List ℕ} (value : File → ℕ → Value) where
-  pub values-begin : (l : List ℕ) → Values-put classes d value 0 l l
+-- a piece that is there already, and k of them
+module _ (piece : ℕ → List ℕ) (before : List ℕ) (i : ℕ) where
+  cell-stays : take 9 (drop (i * 9) before) ≡ piece i → table piece 0 i ++ drop (i * 9) before ≡ table piece 0 (i + 1) ++ drop (i * 9 + 9) before
+  cell-stays e =
+      ap (λ (l : List ℕ). table piece 0 i ++ l)
+      (sym (take-append-drop 9 (drop (i * 9) before)) ∙ ap₂ (λ (x y : List ℕ). x ++ y) e (drop-drop 9 (i * 9) before))
+      ∙ sym (append-assoc (table piece 0 i) (piece i) (drop (i * 9 + 9) before))
+      ∙ ap (λ (l : List ℕ). l ++ drop (i * 9 + 9) before) (sym (table-next piece i))
+
+cells-stay : (piece : ℕ → List ℕ) (before : List ℕ) (i k : ℕ) → ((j : ℕ) → j < k → take 9 (drop ((i + j) * 9) before) ≡ piece (i + j))
+    → table piece 0 i ++ drop (i * 9) before ≡ table piece 0 (i + k) ++ drop ((i + k) * 9) before
+cells-stay piece before i zero h = let e : i + 0 ≡ i = omega arith in rw e
+cells-stay piece before i (suc k) h =
+    let e : i + suc k ≡ i + k + 1 = omega arith in
+    let z : (i + k + 1) * 9 ≡ (i + k) * 9 + 9 = omega arith in
+    cells-stay piece before i k (λ j l. h j (omega arith)) ∙ rw (e, z) (cell-stays piece before (i + k) (h k (omega arith)))
+
+module _ {classes d : List ℕ} (sort : Sort → Bool) (value : File → ℕ → Value) where
+  pub members-begin : (l : List ℕ) → Members-put classes d sort value 0 l l
   unfolding table
-  values-begin l = record { same = refl; is = λ text offsets lengths w c. refl }
+  members-begin l = record { same = refl; is = λ text offsets lengths w c h. refl }
 
-  pub values-next : {i : ℕ} {before l m : List ℕ} {v : Value} → Values-put classes d value i before l → Value-of classes d value i v → m ≡ with-cell l i v
-      → (i + 1) * 9 ≤ length before → Values-put classes d value (i + 1) before m
-  values-next {i} {before} {l} {m} {v} p h e r = record {
-    same = ap length e ∙ length-with-cell l i v ∙ p .same;
-    is = λ text offsets lengths w c.
-        e ∙ ap₂ (λ (x : List ℕ) (y : Value). with-cell x i y) (p .is text offsets lengths w c) (h .is text offsets lengths w c)
-        ∙ table-fill (λ k. cell-bytes (value (w .file) k)) 9 (λ k. length-cell-bytes (value (w .file) k)) i before r;
-  }
+  module _ {i : ℕ} {before l : List ℕ} (p : Members-put classes d sort value i before l) where
+    -- a cell that is put
+    pub member-put : {m : List ℕ} {v : Value} → Value-of classes d value i v → m ≡ with-cell l i v → (i + 1) * 9 ≤ length before
+        → Members-put classes d sort value (i + 1) before m
+    member-put {m} {v} h e r = record {
+      same = ap length e ∙ length-with-cell l i v ∙ p .same;
+      is = λ text offsets lengths w c others.
+          e ∙ ap₂ (λ (x : List ℕ) (y : Value). with-cell x i y) (p .is text offsets lengths w c (λ j b. others j (omega arith))) (h .is text offsets lengths w c)
+          ∙ table-fill (λ k. cell-bytes (value (w .file) k)) 9 (λ k. length-cell-bytes (value (w .file) k)) i before r;
+    }
+
+    -- k cells that are left as they are
+    pub members-left : (k : ℕ)
+        → ((text offsets lengths : List ℕ) (w : Bench text classes offsets lengths d) → Few (w .file) → (j : ℕ) → j < k
+        → is-sort sort (member-of (w .file) ((i + j) / 12) ((i + j) % 12)) ≡ false)
+        → Members-put classes d sort value (i + k) before l
+    members-left k h = record {
+      same = p .same;
+      is = λ text offsets lengths w c others.
+          p .is text offsets lengths w c (λ j b. others j (omega arith))
+          ∙ cells-stay (λ j. cell-bytes (value (w .file) j)) before i k (λ j b. others (i + j) (omega arith) (h text offsets lengths w c j b));
+    }
+
+    -- from a cell without a member on, as far as its entity's cells go
+    pub members-rest : {token r : ℕ} → Cell-token d i token → NO-TOKEN ≤ token → r ≡ i - i % 12 + 12 → Members-put classes d sort value r before l
+    unfolding is-sort
+    members-rest {token} {r} t h e =
+        let k : r ≡ i + (12 - i % 12) = omega arith in
+        rw k (members-left (12 - i % 12) (λ text offsets lengths w c j b. ap (is-sort sort) (none-behind t h w c j (omega arith))))
 
 -- ---- a cell after the line, as code finds it
 
@@ -96,50 +146,37 @@ module _ (present seen-flags cells inputs : List ℕ) {classes d : List ℕ} {i 
             rw (eq-eqb (getD inputs (i * 9) 0) 4 t, l, a);
       }
 
--- ---- a cell after the cycle, as code finds it
+-- ---- a cell after the cycle, as code puts it
 
-module _ (cells area : List ℕ) {classes d : List ℕ} {i at : ℕ} {r : Bool} (k : Cell-token d i at) (s : Sort-test classes at 6 r) {v : Value} where
-  pub value-written : r ≡ true → v ≡ cell-at area i → Value-of classes d (next-value cells area) i v
+no-action-left : (o : Option Member) → is-sort is-action o ≡ true → is-sort no-action o ≡ false
+unfolding is-sort
+no-action-left none h = refl
+no-action-left (some x) h = ap not h
+
+module _ (cells : List ℕ) {classes d before l m : List ℕ} {i token : ℕ} where
+  -- an action's is left as it was written
+  pub seen-put : Members-put classes d no-action (next-value cells before) i before l → Cell-token d i token → Seen-put classes token cells i l m
+      → (i + 1) * 9 ≤ length before → Members-put classes d no-action (next-value cells before) (i + 1) before m
   unfolding next-value
-  value-written q e = record {
-    is = λ text offsets lengths w c.
-        let o = member-of (w .file) (i / 12) (i % 12) in
-        let a : is-sort is-action o ≡ true =
-        sym (s .is text offsets lengths o (k .is text classes offsets lengths w c) is-action action-class) ∙ q in
-        rw a e;
-  }
+  seen-put p t s r = go (s .action) (s .tested) (s .is)
+    where
+      told : {b : Bool} → Sort-test classes token 6 b → (text offsets lengths : List ℕ) (w : Bench text classes offsets lengths d) → Few (w .file)
+          → is-sort is-action (member-of (w .file) (i / 12) (i % 12)) ≡ b
+      told q text offsets lengths w c =
+          sym (q .is text offsets lengths (member-of (w .file) (i / 12) (i % 12)) (t .is text classes offsets lengths w c) is-action action-class)
 
-  pub value-seen : r ≡ false → v ≡ cell-at cells i → Value-of classes d (next-value cells area) i v
-  unfolding next-value
-  value-seen q e = record {
-    is = λ text offsets lengths w c.
-        let o = member-of (w .file) (i / 12) (i % 12) in
-        let a : is-sort is-action o ≡ false =
-        sym (s .is text offsets lengths o (k .is text classes offsets lengths w c) is-action action-class) ∙ q in
-        rw a e;
-  }
-
--- the area's cell number i, while the cells before it are put
-cell-behind : (l : List ℕ) (i : ℕ) → cell-at (drop (i * 9) l) 0 ≡ cell-at l i
-cell-behind l i =
-    let z : i * 9 + 0 ≡ i * 9 = omega arith in
-    ap₂ unpacked (getD-drop (i * 9) l 0 0 ∙ ap (λ (k : ℕ). getD l k 0) z) (word-drop 8 (i * 9) l 1)
-
-module _ (cells : List ℕ) {classes d before l : List ℕ} {i : ℕ} (p : Values-put classes d (next-value cells before) i before l) where
-  pub next-still : {v : Value} → Value-of classes d (next-value cells l) i v → Value-of classes d (next-value cells before) i v
-  unfolding next-value
-  next-still h = record {
-    is = λ text offsets lengths w c.
-        let f = w .file in
-        let piece : ℕ → List ℕ = λ k. cell-bytes (next-value cells before f k) in
-        let rest : drop (i * 9) l ≡ drop (i * 9) before =
-        ap (drop (i * 9)) (p .is text offsets lengths w c)
-        ∙ drop-at (table piece 0 i) (drop (i * 9) before) (i * 9) (length-table piece 9 (λ k. length-cell-bytes (next-value cells before f k)) 0 i) in
-        let same : cell-at l i ≡ cell-at before i =
-        sym (cell-behind l i) ∙ ap (λ (x : List ℕ). cell-at x 0) rest ∙ cell-behind before i in
-        h .is text offsets lengths w c
-        ∙ ap (λ (x : Value). cond (is-sort is-action (member-of f (i / 12) (i % 12))) x (cell-at cells i)) same;
-  }
+      go : (b : Bool) → Sort-test classes token 6 b → m ≡ cond b l (with-cell l i (cell-at cells i))
+          → Members-put classes d no-action (next-value cells before) (i + 1) before m
+      go true q e =
+          rw e
+          (members-left no-action (next-value cells before) p 1
+          (λ text offsets lengths w c j b.
+          let z : i + j ≡ i = omega arith in
+          rw z (no-action-left (member-of (w .file) (i / 12) (i % 12)) (told q text offsets lengths w c))))
+      go false q e =
+          let found : Value-of classes d (next-value cells before) i (cell-at cells i) =
+          record { is = λ text offsets lengths w c. rw (told q text offsets lengths w c) refl } in
+          member-put no-action (next-value cells before) p found e r
 
 -- ---- the store
 
@@ -191,7 +228,7 @@ module _ (f : File) (i : Inputs) (present flags inputs : List ℕ) where
           let b : eqb (getD present e 0) 1 ≡ now .present e = rw (lt-ltb e n h) in
           ap₂ (λ (x y : Bool). x && not y) b (ap (λ (t : ℕ). eqb t 1) a ∙ read-flag (present-after now i e))
 
-      value-is : (k : ℕ) → k < 12 * n → seen-value present seen-flags cells inputs f k ≡ seen f now i .cell (k / 12) (k % 12)
+      pub value-is : (k : ℕ) → k < 12 * n → seen-value present seen-flags cells inputs f k ≡ seen f now i .cell (k / 12) (k % 12)
       unfolding seen seen-value decode-store
       value-is k h =
           let e : k / 12 < n = omega arith in

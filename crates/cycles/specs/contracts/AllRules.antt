@@ -1,8 +1,8 @@
--- What all rules of a bench write, each for every binding of its variables: of a checked bench in columns, and two stores in memory.
-use Prim.Native.Nat.{ℕ, _+_, _*_, _≤_, _<_}
+-- What the rules of a bench that are tried write, each for every binding of its variables: of a checked bench in columns, and two stores in memory.
+use Prim.Native.Nat.{ℕ, suc, _+_, _*_, _≤_, _<_}
 use mathlib.Core.Path.{_≡_}
 use mathlib.Core.List.{List, [], _∷_, _++_, flatMap}
-use mathlib.Core.Bool.{Bool, true, _&&_, _||_}
+use mathlib.Core.Bool.{Bool, true, false, not, _&&_, _||_, cond}
 use mathlib.Core.Option.{some}
 use lib.Dec.{T, leb, eqb}
 use lib.ListN.{length, getD, getElem?, drop}
@@ -12,13 +12,16 @@ use Rattle.checking.specs.contracts.CheckedBench.{Checked-bench}
 use Rattle.checking.specs.contracts.Directory.{entity-interface-row}
 use Rattle.checking.specs.contracts.Resolution.{FIRST-VARIABLE, References, scope-row, Scopes}
 use Rattle.checking.specs.definitions.CountFaults.{MOST-INTERFACES, MOST-VARIABLES}
+use Rattle.cell_sets.specs.definitions.Sets.{has-bit}
 use Rattle.cycles.specs.declared.evaluate.Binding.{Binding}
 use Rattle.cycles.specs.definitions.Store.{Store}
 use Rattle.cycles.specs.definitions.Spots.{spots}
 use Rattle.cycles.specs.contracts.TotalMachine.{binding-writes}
 use Rattle.cycles.specs.definitions.Bindings.{bindings}
-use Rattle.cycles.specs.contracts.TotalMachine.{all-writes}
+use Rattle.cycles.specs.contracts.TotalMachine.{rule-writes}
 use Rattle.cycles.specs.definitions.ClosedSet.{is-of}
+use Rattle.cycles.specs.definitions.Quiescence.{is-quiescent}
+use Rattle.cycles.specs.contracts.ReadSets.{Reads-are}
 use Rattle.cycles.specs.contracts.Evaluation.{bound, Stored, puts}
 
 -- a checked bench with its rules' names resolved, and two stores of it
@@ -26,10 +29,27 @@ pub record Rules-given (text classes offsets lengths values d refs scopes flags 
   pub checked : Checked-bench text classes offsets lengths values d
   pub references : References text classes offsets lengths d refs
   pub scopes-are : Scopes text classes offsets lengths d scopes
+  pub reads-are : Reads-are text classes offsets lengths d scopes
   pub now : Store
   pub previous : Store
   pub now-stored : Stored (length (checked .bench .file .entities)) flags cells now
   pub previous-stored : Stored (length (checked .bench .file .entities)) previous-flags previous-cells previous
+
+-- the rules of a list that are in the set, the first of them having number k
+unfoldable pub rules-in : (set k : ℕ) → List Rule → List Rule
+unfolding has-bit
+rules-in set k [] = []
+rules-in set k (r ∷ rs) = cond (has-bit set k) (r ∷ rules-in set (suc k) rs) (rules-in set (suc k) rs)
+
+-- a set of rules, a bit for each by its number: exactly those that are not quiescent
+pub record Rules-tried (d scopes flags cells previous-flags previous-cells : List ℕ) (tried : ℕ) : Type 0 where
+  pub is : (text classes offsets lengths values refs : List ℕ)
+      (g : Rules-given text classes offsets lengths values d refs scopes flags cells previous-flags previous-cells)
+      → (k : ℕ) (r : Rule) → getElem? (g .checked .bench .file .rules) k ≡ some r
+      → has-bit tried k ≡ not (is-quiescent (g .checked .bench .file) (g .now) (g .previous) r)
+  pub none : (text classes offsets lengths values refs : List ℕ)
+      (g : Rules-given text classes offsets lengths values d refs scopes flags cells previous-flags previous-cells)
+      → (k : ℕ) → length (g .checked .bench .file .rules) ≤ k → has-bit tried k ≡ false
 
 -- entities for the first of a rule's variables, each of its variable's interface
 abbrev pub Binds : File → List Variable → List ℕ → Type 0
@@ -72,7 +92,14 @@ module _ (classes values d refs scopes flags cells previous-flags previous-cells
         ≡ puts area (flatMap (λ rest. binding-writes (spots (g .checked .bench .file) (variables r) (es ++ rest)) (g .now) (g .previous) r)
         (bindings (g .checked .bench .file) (g .now) (drop level (variables r))))
 
-  pub record Rules-put (area after : List ℕ) : Type 0 where
+  -- what the rules of any set write, one after another, and no others
+  pub record Set-put (area after : List ℕ) (set : ℕ) : Type 0 where
     pub writes : (text offsets lengths : List ℕ)
         (g : Rules-given text classes offsets lengths values d refs scopes flags cells previous-flags previous-cells)
-        → after ≡ puts area (all-writes (g .checked .bench .file) (g .now) (g .previous))
+        → after
+        ≡ puts area (flatMap (rule-writes (g .checked .bench .file) (g .now) (g .previous)) (rules-in set 0 (g .checked .bench .file .rules)))
+
+  -- the same of the rules that are tried, and which they are
+  pub record Rules-put (area after : List ℕ) (tried : ℕ) : Type 0 where
+    pub set-put : Set-put area after tried
+    pub tried-are : Rules-tried d scopes flags cells previous-flags previous-cells tried

@@ -1,14 +1,15 @@
 -- What a cycle leaves in the memory of the stores: of a checked bench in columns, with its rules' names resolved.
-use Prim.Native.Nat.{ℕ, _*_, _/_, _%_}
+use Prim.Native.Nat.{ℕ, _*_, _/_, _%_, _<_}
 use mathlib.Core.Path.{_≡_}
 use mathlib.Core.List.{List, _++_}
-use mathlib.Core.Bool.{Bool, true, not, _&&_, cond}
+use mathlib.Core.Bool.{Bool, true, false, not, _&&_, cond}
 use lib.Dec.{eqb}
 use lib.ListN.{length, getD, take, drop}
 use Rattle.values.specs.declared.Value.{Value}
 use Rattle.values.specs.declared.Value.the-variants.{Unset}
-use Rattle.values.specs.definitions.Cells.{cell-bytes, cell-at}
-use Rattle.text.specs.definitions.Syntax.{File}
+use Rattle.values.specs.definitions.Cells.{cell-bytes, cell-at, with-cell}
+use Rattle.text.specs.definitions.Tokens.{ACTION}
+use Rattle.text.specs.definitions.Syntax.{Sort, File}
 use Rattle.checking.specs.contracts.DirectoryReads.{Few}
 use Rattle.checking.specs.contracts.Directory.{Bench}
 use Rattle.checking.specs.definitions.Scope.{member-of, is-attribute, is-action}
@@ -30,7 +31,9 @@ use Rattle.cycles.specs.definitions.Planes.{
   are-stores,
   with-stores,
 }
+use Rattle.cycles.specs.contracts.CellTokens.{Sort-test}
 use Rattle.cycles.specs.contracts.LineReads.{presence-table, input-table}
+use Rattle.cycles.specs.contracts.ReadSets.{Reads-are}
 
 -- ---- the steps, from memory to memory
 
@@ -64,11 +67,31 @@ next-value cells area f i = cond (is-sort is-action (member-of f (i / ENTITY-CEL
 pub record Value-of (classes d : List ℕ) (value : File → ℕ → Value) (i : ℕ) (v : Value) : Type 0 where
   pub is : (text offsets lengths : List ℕ) (w : Bench text classes offsets lengths d) → Few (w .file) → v ≡ value (w .file) i
 
--- the values of the first k cells, put at the front of memory
-pub record Values-put (classes d : List ℕ) (value : File → ℕ → Value) (k : ℕ) (before after : List ℕ) : Type 0 where
+-- the sorts whose cells are put: all of them, or all but actions
+abbrev pub any-sort : Sort → Bool
+any-sort s = true
+
+abbrev pub no-action : Sort → Bool
+no-action s = not (is-action s)
+
+-- of the first k cells, those of other sorts or of no member have the bytes of their values
+abbrev pub Others-stand : File → (Sort → Bool) → (ℕ → Value) → ℕ → List ℕ → Type 0
+Others-stand f sort value k l =
+    (i : ℕ) → i < k → is-sort sort (member-of f (i / ENTITY-CELLS) (i % ENTITY-CELLS)) ≡ false
+    → take CELL-BYTES (drop (i * CELL-BYTES) l) ≡ cell-bytes (value i)
+
+-- the values of the members of those sorts among the first k cells, put over memory that has the values of the others: then it has those of all
+pub record Members-put (classes d : List ℕ) (sort : Sort → Bool) (value : File → ℕ → Value) (k : ℕ) (before after : List ℕ) : Type 0 where
   pub same : length after ≡ length before
   pub is : (text offsets lengths : List ℕ) (w : Bench text classes offsets lengths d) → Few (w .file)
+      → Others-stand (w .file) sort (value (w .file)) k before
       → after ≡ table (λ i. cell-bytes (value (w .file) i)) 0 k ++ drop (k * CELL-BYTES) before
+
+-- what the rules saw in cell number i, put to memory unless the member whose first token has that number is an action
+pub record Seen-put (classes : List ℕ) (token : ℕ) (cells : List ℕ) (i : ℕ) (before after : List ℕ) : Type 0 where
+  pub action : Bool
+  pub tested : Sort-test classes token ACTION action
+  pub is : after ≡ cond action before (with-cell before i (cell-at cells i))
 
 -- ---- the contract
 
@@ -77,6 +100,7 @@ pub record Values-put (classes d : List ℕ) (value : File → ℕ → Value) (k
 pub record Cycled (classes values d refs scopes input-flags input-cells stores after : List ℕ) : Type 0 where
   pub is : (text offsets lengths : List ℕ) (c : Checked-bench text classes offsets lengths values d)
       → References text classes offsets lengths d refs → Scopes text classes offsets lengths d scopes
+      → Reads-are text classes offsets lengths d scopes
       → are-stores (c .bench .file) stores ≡ true
       → (i : Inputs) → Sound-inputs (c .bench .file) i
       → take (entity-count (c .bench .file)) input-flags ≡ presence-table i (entity-count (c .bench .file))

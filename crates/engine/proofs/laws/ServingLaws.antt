@@ -15,7 +15,7 @@ use Rattle.checking.specs.declared.check.Checked.the-variants as checked-as
 use Rattle.checking.specs.definitions.Verdict.{Verdict, verdict, verdict-answer, file-of, accepted-file, MOST-BYTES}
 use Rattle.checking.proofs.laws.VerdictLaws.{accepted-length as text-length, accepted-is-file}
 use Rattle.checking.specs.contracts.CheckedBench.{checked-answer, Checked-bench, Accepts, Says, has-room, Checks}
-use Rattle.checking.specs.contracts.Resolution.{Resolves}
+use Rattle.reads.specs.contracts.RulesResolved.{Rules-resolved}
 use Rattle.cycles.specs.contracts.RowMemory.{Header-put}
 use Rattle.cycles.proofs.laws.RowPuts.{short-names}
 use Rattle.senders.specs.definitions.Sender.{MOST-NAME-BYTES, is-sender}
@@ -122,7 +122,7 @@ module _ {text classes offsets lengths literals d state shown names values out :
   unfolding served freshened
   fresh-served e p = record { is = λ c. rw (accepted-is c, ← e, p .is (c .bench) (c .few) (c .valued)) }
 
-  pub line-served : {refs scopes new-refs new-scopes : List ℕ} → Resolves text classes offsets lengths d refs scopes new-refs new-scopes
+  pub line-served : {refs scopes new-refs new-scopes : List ℕ} → Rules-resolved text classes offsets lengths d refs scopes new-refs new-scopes
       → {new-state new-out : List ℕ} {t : Taken} {r : ℕ}
       → Line-taken text classes offsets lengths literals d new-refs new-scopes names values state out new-state new-out t → r ≡ taken-answer t
       → On-bench Line text classes offsets lengths literals d state shown names values out new-state new-out r
@@ -130,7 +130,7 @@ module _ {text classes offsets lengths literals d state shown names values out :
   line-served resolves takes e = record {
     is = λ c.
         rw (accepted-is c, e)
-        (ap (λ (a : After-line). served-line a) (takes .is (record { checked = c; references = resolves .references; scopes-are = resolves .scopes-are })));
+        (ap (λ (a : After-line). served-line a) (takes .is (record { checked = c; references = resolves .references; scopes-are = resolves .scopes-are; reads-are = resolves .reads-are })));
   }
 
   pub header-served : {new : List ℕ} {n r : ℕ} → Header-put text classes offsets lengths d out new n → (n ≤ 32768 → r ≡ 256 * n)
@@ -162,7 +162,7 @@ module _ {text classes offsets lengths literals d state shown names values out :
           rw (accepted-is c, o, n, e, i .is, i .count);
     }
 
-  pub sheet-served : {refs scopes new-refs new-scopes : List ℕ} → Resolves text classes offsets lengths d refs scopes new-refs new-scopes
+  pub sheet-served : {refs scopes new-refs new-scopes : List ℕ} → Rules-resolved text classes offsets lengths d refs scopes new-refs new-scopes
       → {new : List ℕ} {t : Sheeted} {r : ℕ}
       → Sheet-put text classes offsets lengths literals d new-refs new-scopes shown names values out new t → r ≡ sheeted-answer t
       → On-bench Sheet text classes offsets lengths literals d state shown names values out state new r
@@ -173,7 +173,7 @@ module _ {text classes offsets lengths literals d state shown names values out :
         rw (accepted-is c, e)
         (ap (λ (a : After-sheet). served-sheet a state)
         (sheet-said (sheet-if-state f (state-of (fingerprint text) f shown) names values) out t
-        (puts .is (record { checked = c; references = resolves .references; scopes-are = resolves .scopes-are }))));
+        (puts .is (record { checked = c; references = resolves .references; scopes-are = resolves .scopes-are; reads-are = resolves .reads-are }))));
   }
 
 -- ---- a refused text

@@ -8,7 +8,7 @@ use Rattle.replay.proofs.start.Tie as tie
 use Rattle.replay.proofs.start.Reads as reads
 use Rattle.replay.proofs.start.Lts as lts
 use Rattle.checking.proofs.check.check.Reads as check-reads
-use Rattle.checking.proofs.resolve.Reads as resolve-reads
+use Rattle.reads.proofs.resolve.Reads as resolve-reads
 use Rattle.replay.proofs.rows.put_bench_refusal.Reads as put-bench-refusal-reads
 use Rattle.senders.proofs.fingerprint.fingerprint.Reads as fingerprint-reads
 use Rattle.senders.proofs.put_fresh.Reads as put-fresh-reads

@@ -8,7 +8,7 @@ use Rattle.text.specs.contracts.TokenTable.{Token-columns, columns-of}
 use Rattle.checking.specs.declared.check.Checked.{Checked}
 use Rattle.checking.specs.declared.check.Checked.the-variants as checked-as
 use Rattle.checking.specs.contracts.CheckedBench.{Checks}
-use Rattle.checking.specs.contracts.Resolution.{Resolves}
+use Rattle.reads.specs.contracts.RulesResolved.{Rules-resolved}
 use Rattle.checking.proofs.laws.VerdictLaws.{accepted-verdict}
 use Rattle.checking.proofs.laws.AcceptedLaws.{within-counts}
 use Rattle.values.specs.contracts.Puts.{Put}
@@ -52,20 +52,20 @@ module _ {text d e classes offsets lengths literals : List ℕ} {t : Token-colum
 
   -- the rows as code lends them
   pub accepted-starts : {n : ℕ} → r ≡ checked-as.Accepted n → {old-refs old-scopes : List ℕ}
-      → Resolves text (take (n - 0) classes) offsets lengths e old-refs old-scopes refs scopes
+      → Rules-resolved text (take (n - 0) classes) offsets lengths e old-refs old-scopes refs scopes
       → (state out : List ℕ) {new-state : List ℕ} {print : ℕ} → print ≡ fingerprint text
       → Fresh-state-put text (take (n - 0) classes) offsets lengths literals e print state new-state
       → Starts text classes offsets lengths literals e refs scopes new-state out (record { rows = n; stage = Names; used = 0 })
   unfolding opening awaited-first
   accepted-starts {n} q {old-refs} {old-scopes} resolves0 state out {new-state} {print} p fresh0 =
       let z : n - 0 ≡ n = omega arith in
-      let resolves = subst (λ (x : ℕ). Resolves text (take x classes) offsets lengths e old-refs old-scopes refs scopes) z resolves0 in
+      let resolves = subst (λ (x : ℕ). Rules-resolved text (take x classes) offsets lengths e old-refs old-scopes refs scopes) z resolves0 in
       let puts = subst (λ (x : ℕ). Fresh-state-put text (take x classes) offsets lengths literals e print state new-state) z fresh0 in
       let a = accepted-says {text = text} {d = e} {u = columns-of classes offsets lengths literals} q (checks .says) in
       let c = a .stands in
       let f = c .bench .file in
       let b : Resolved (bench-memory text (take n classes) offsets lengths literals e refs scopes) =
-      record { checked = c; references = resolves .references; scopes-are = resolves .scopes-are } in
+      record { checked = c; references = resolves .references; scopes-are = resolves .scopes-are; reads-are = resolves .reads-are } in
       let counts = within-counts f (accepted-verdict text (c .accepts)) in
       record {
         few = a .rows .0;

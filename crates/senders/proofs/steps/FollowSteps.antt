@@ -137,7 +137,7 @@ module _ {text classes offsets lengths literals d refs scopes : List ℕ} (b : R
   pub cycle-left : {u : List ℕ} → Cycled classes literals d refs scopes flags cells (behind 5 m) u → u ≡ with-stores (entity-count f) next (drop 5 m)
   cycle-left cycles =
       let tested : are-stores f (behind 5 m) ≡ true = ap (are-stores f) (behind-all 5 m) ∙ stores-tested print f m h in
-      cycles .is text offsets lengths (b .checked) (b .references) (b .scopes-are) tested (l .inputs) (stand .sound) (stand .presence) (stand .given)
+      cycles .is text offsets lengths (b .checked) (b .references) (b .scopes-are) (b .reads-are) tested (l .inputs) (stand .sound) (stand .presence) (stand .given)
       ∙ ap₂ (λ (t : Stores) (k : List ℕ). with-stores (entity-count f) (cycle f t (l .inputs)) k)
       (ap (decode-stores (entity-count f)) (behind-all 5 m) ∙ stores-there print f m h) (behind-all 5 m)
 

@@ -13,6 +13,7 @@ use Rattle.checking.specs.contracts.Resolution.{References, Scopes}
 use Rattle.cycles.specs.definitions.Header.{Column, header}
 use Rattle.cycles.specs.definitions.Record.{Sent, record-of, Input, inputs-in, inputs-of}
 use Rattle.cycles.specs.definitions.Planes.{entity-count}
+use Rattle.cycles.specs.contracts.ReadSets.{Reads-are}
 use Rattle.cycles.specs.contracts.HeaderReads.{column-number, backwards}
 use Rattle.senders.specs.declared.judge.Judgement.{Judgement}
 use Rattle.senders.specs.definitions.Sender.{State, Line, kept}
@@ -28,6 +29,7 @@ pub record Resolved-bench (text classes offsets lengths literals d refs scopes :
   pub checked : Checked-bench text classes offsets lengths literals d
   pub references : References text classes offsets lengths d refs
   pub scopes-are : Scopes text classes offsets lengths d scopes
+  pub reads-are : Reads-are text classes offsets lengths d scopes
 
 -- the memory that a line leaves of a state's: a refused line and a retransmission leave it
 unfoldable pub state-memory : ℕ → File → State → Answer Accepted → List ℕ → List ℕ

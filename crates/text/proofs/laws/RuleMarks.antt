@@ -146,7 +146,7 @@ rule-marks r = priority-marks (r .priority) ++ (condition-marks (r .condition) +
 abbrev pub is-ruling : ℕ → Bool
 is-ruling c = is-leading c || eqb c COLON
 
-one-of-two : (f : ℕ → Bool) (a b c : ℕ) → f a ≡ false → f b ≡ false → eqb c a || eqb c b ≡ true → f c ≡ false
+pub one-of-two : (f : ℕ → Bool) (a b c : ℕ) → f a ≡ false → f b ≡ false → eqb c a || eqb c b ≡ true → f c ≡ false
 one-of-two f a b c p q h = go (eqb c a) refl (eqb c b) refl h
   where
     go : (x : Bool) → eqb c a ≡ x → (y : Bool) → eqb c b ≡ y → x || y ≡ true → f c ≡ false

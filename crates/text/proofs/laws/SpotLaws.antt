@@ -252,6 +252,20 @@ module _ {X : Type 0} {ts : List Token} {wanted : ℕ → Bool} {at : ℕ → X 
   and-then-plain {k = k} {wants = wants} f g =
       and-then-marks f (λ a xs e q. subst (λ l. Marks ts wanted at q (k a) (λ b ys. wants b (l ++ ys))) (sym e) (g a q))
 
+  -- and of which that part is known with its end
+  pub and-then-known : {A B : Type 0} {p : ℕ} {r : Parser A} {k : A → Parser B} {wants : B → List X → Type 0}
+      → Marks ts wanted at p r (λ a xs. xs ≡ []) → ((a : A) (m : ℕ) → r (drop p ts) ≡ read a m → Marks ts wanted at (p + m) (k a) wants)
+      → Marks ts wanted at p (and-then r k) wants
+  and-then-known {A} {B} {p} {r} {k} {wants} f g = record { marks = λ b n e. go b n (and-then-parts ts p r k b n e) }
+    where
+      go : (b : B) (n : ℕ) → (a : A) × (m : ℕ) × (r (drop p ts) ≡ read a m) × (j : ℕ) × (k a (drop (p + m) ts) ≡ read b j) × (m + j ≡ n)
+          → (xs : List X) × Spots ts wanted at p (p + n) xs × wants b xs
+      go b n (a, m, d, j, e, i) =
+          let (xs, q, h) = f .marks a m d in
+          let (ys, s, w) = g a m d .marks b j e in
+          let l : p + m + j ≡ p + n = omega arith in
+          (ys, spots-to l (spots-append (subst (λ zs. Spots ts wanted at p (p + m) zs) h q) s), w)
+
   -- one turn: the token that passes the test, and what the step reads after it
   module _ {A : Type 0} (test : ℕ → Bool) (step : A → Token → Parser A) (has : A → List X → Type 0)
       (turn : (p : ℕ) (a : A) (xs : List X) → has a xs → (t : Token) → getElem? ts p ≡ some t → test (t .class) ≡ true → (b : A) (n : ℕ)

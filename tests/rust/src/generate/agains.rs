@@ -9,7 +9,7 @@ pub fn put_in(case: &mut Case) {
     let mut memory = Memory::new(case.fill);
     let mut last: Vec<Step> = Vec::new();
     for step in plain {
-        memory.lend_sheet(&step);
+        memory.lend(&step);
         let state = memory.state.clone();
         let answer = OURS.answer(&case.text, &step, &mut memory);
         let accepted = answer.is_some_and(|answer| answer & 255 == 0);

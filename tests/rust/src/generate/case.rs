@@ -1,6 +1,6 @@
 //! A case: one bench text and a list of steps on lent memory.
 
-use crate::image::{sheet_size, BENCH_SIZE, ROW_SIZE, STATE_SIZE};
+use crate::image::{sheet_size, BENCH_SIZE, ROW_SIZE, STATE_SIZE, TRIED_SIZE};
 
 /// How many bytes of each memory a call is lent.
 #[derive(Clone, Copy, Debug, PartialEq, Eq)]
@@ -33,6 +33,14 @@ pub enum Call {
         /// By how many bytes the sheet's memory is longer than its stated size, which follows from the readings; below 0 it is shorter.
         over: isize,
     },
+    /// The call of the test archive: the rules that a line tries that leads from one of two states to the other.
+    Tried {
+        /// The images of the two states, or what else their memories begin with.
+        before: Vec<u8>,
+        after: Vec<u8>,
+        /// By how many bytes the memories of the two states and of the set are longer than their stated sizes; below 0 shorter.
+        over: [isize; 3],
+    },
     /// Not a call: writes these bytes to the bench's memory on both sides.
     SetBench {
         at: usize,
@@ -57,6 +65,18 @@ impl Step {
         match &self.call {
             Call::Sheet { readings, over, .. } => sheet_size(readings).saturating_add_signed(*over),
             _ => 0,
+        }
+    }
+
+    /// How many bytes of the two states and of the set of rules the call is lent; none if it asks for no such set.
+    pub fn lent_tried(&self) -> [usize; 3] {
+        match &self.call {
+            Call::Tried { over: [before, after, tried], .. } => [
+                STATE_SIZE.saturating_add_signed(*before),
+                STATE_SIZE.saturating_add_signed(*after),
+                TRIED_SIZE.saturating_add_signed(*tried),
+            ],
+            _ => [0; 3],
         }
     }
 }

@@ -1,6 +1,6 @@
 //! Seeded cases: valid benches and readings of several senders, damage in every way of document 01's table, limits, random bytes; in
-//! between sheets, and calls about senders that leave the state alone. Texts with bytes put in, texts with a fault at a rank and states
-//! with a part spoilt are cases of their own.
+//! between sheets, and calls about senders that leave the state alone. Texts with bytes put in, texts with a fault at a rank, states with a
+//! part spoilt and runs whose lines move little are cases of their own.
 
 pub mod agains;
 pub mod bench;
@@ -15,6 +15,7 @@ pub mod prng;
 pub mod probes;
 pub mod quotients;
 pub mod ranks;
+pub mod rests;
 pub mod run;
 pub mod senders;
 pub mod sheets;

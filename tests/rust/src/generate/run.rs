@@ -139,7 +139,7 @@ impl<'p> Run<'p> {
         (line.names(self.plan), line.values(self.sender(), number))
     }
 
-    fn resent(&mut self, prng: &mut Prng) -> Lent {
+    pub fn resent(&mut self, prng: &mut Prng) -> Lent {
         self.pass_to_known(prng);
         self.lent(&self.last(), self.number())
     }

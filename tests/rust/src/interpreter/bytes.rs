@@ -23,7 +23,7 @@ pub fn class(byte: u8) -> Class {
         b'a'..=b'z' | b'A'..=b'Z' => Class::Letter,
         b'0'..=b'9' => Class::Digit,
         b'_' => Class::Underscore,
-        mark if b"{}():=,.+-*/".contains(&mark) => Class::Mark,
+        b'{' | b'}' | b'(' | b')' | b':' | b'=' | b',' | b'.' | b'+' | b'-' | b'*' | b'/' => Class::Mark,
         b' ' | b'\t' | b'\n' => Class::Blank,
         b'#' => Class::Hash,
         // Of the bytes that document 01 allows, the rest.

@@ -1,7 +1,9 @@
-//! Lines of readings, with senders as order 5 of document 02 has them: 22, 21, 43, 42, 23, 24, 25, or a line that is taken.
+//! Lines of readings, with senders as order 5 of document 02 has them: 22, 21, 43, 42, 23, 24, 25, or a line that is taken, with the rules
+//! that it tries.
 
 use super::grammar::{Bench, Sort};
-use super::machine::{cycle, Given, Reading, Readings, State};
+use super::machine::{after, writes_of, Given, Reading, Readings, State, RIGHT};
+use super::rest;
 use super::text::{name_form, TEXT_MOST};
 use super::value::{Kind, Value};
 
@@ -21,8 +23,8 @@ pub enum Column {
 pub enum Taken {
     /// The last line of the sender in this place, sent again: the state stays.
     Resent(usize),
-    /// The state after the line, and the place of its sender.
-    Next(State, usize),
+    /// The state after the line, the place of its sender, and the set of the rules that are tried, as order 7 has it: the others rest.
+    Next(State, usize, u64),
 }
 
 /// The lines of a file: a last line feed closes the last line and opens none.
@@ -50,9 +52,12 @@ pub fn take_values(bench: &Bench, state: &State, columns: &[Column], values: &[u
     }
     let number = next_number(known.map_or(0, |place| state.senders[place].number), record.number)?;
     let line = Given { sender: record.sender, number, readings: &readings };
-    let next = cycle(bench, state, line).expect("the machine never stops on an accepted bench");
+    let (seen, writes) = writes_of(RIGHT, bench, state, &readings).expect("the machine never stops on an accepted bench");
+    let tried = rest::tried(bench, &seen, &state.before);
+    assert!(rest::only_these_write(tried, &writes), "a rule at rest writes");
+    let next = after(RIGHT, bench, state, line, seen, &writes);
     let place = next.sender(record.sender).expect("a sender is known from its first taken line");
-    Ok(Taken::Next(next, place))
+    Ok(Taken::Next(next, place, tried))
 }
 
 /// The place of a sender that is known. "A ninth is refused by 42, and an ill-formed sender by 43, both after 21 and before 23, with 43

@@ -173,13 +173,18 @@ pub fn cycle(bench: &Bench, state: &State, line: Given) -> Result<State, Stop> {
 /// One cycle of a machine that may be wrong.
 pub fn cycle_of(variant: Variant, bench: &Bench, state: &State, line: Given) -> Result<State, Stop> {
     let (seen, writes) = writes_of(variant, bench, state, line.readings)?;
+    Ok(after(variant, bench, state, line, seen, &writes))
+}
+
+/// The state after a line in which the rules saw this store and wrote this.
+pub fn after(variant: Variant, bench: &Bench, state: &State, line: Given, seen: Store, writes: &[Write]) -> State {
     let mut now = seen.clone();
     unset(bench, &mut now, None, &[Sort::Action]);
-    for ((entity, member), write) in (variant.standing)(&writes) {
+    for ((entity, member), write) in (variant.standing)(writes) {
         now.cells[entity][member] = Some(write.value);
     }
     let senders = keep(state, line, fired(bench, &now));
-    Ok(State { now, before: seen, senders })
+    State { now, before: seen, senders }
 }
 
 /// The store as the rules see it in a line with these readings, and all their writes, in order.

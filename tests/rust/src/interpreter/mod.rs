@@ -1,13 +1,14 @@
 //! The interpreter: each file is one part of document 01. Order 1 of document 02 changes one of them, the machine; order 2 another, the
 //! values; order 3 adds one, the day sheet; order 4 one that parts the bytes into classes, by which the text is then read; order 5 changes
 //! the lines and the rows, which then name their senders, and what the machine keeps of them; order 6 ranks the rules, from their words to
-//! the writes that stand.
+//! the writes that stand; order 7 adds one that says which rules rest.
 
 pub mod bytes;
 pub mod check;
 pub mod grammar;
 pub mod line;
 pub mod machine;
+pub mod rest;
 pub mod row;
 pub mod sheet;
 pub mod text;

@@ -80,7 +80,7 @@ pub fn day(bench: &Bench, state: &State, readings: &[u8], tell: &mut dyn FnMut(P
         let passed = match line::take_values(bench, &state, &columns, values) {
             Err(number) => Passed::Refused(number),
             Ok(Taken::Resent(sender)) => Passed::Resent(sender),
-            Ok(Taken::Next(next, sender)) => {
+            Ok(Taken::Next(next, sender, _)) => {
                 state = next;
                 Passed::Printed(sender)
             }

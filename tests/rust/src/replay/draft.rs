@@ -73,7 +73,7 @@ impl<'p> Draft<'p> {
         match line::take_values(self.bench, &self.state, &self.columns, values) {
             Err(_) => REFUSED_LINE,
             Ok(Taken::Resent(sender)) => self.row_length(sender),
-            Ok(Taken::Next(next, sender)) => {
+            Ok(Taken::Next(next, sender, _)) => {
                 self.state = next;
                 self.run.follow(&self.state);
                 self.lines.resize(self.state.senders.len(), Vec::new());

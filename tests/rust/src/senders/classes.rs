@@ -217,7 +217,7 @@ impl Line<'_> {
         self.readings(seen);
         match line::take(self.bench, self.state, self.names, self.values) {
             Ok(Taken::Resent(place)) => self.resent(place, seen, history),
-            Ok(Taken::Next(next, place)) => {
+            Ok(Taken::Next(next, place, _)) => {
                 self.taken(&next.senders[place].name, seen);
                 history.new_line(&next.senders[place].name);
             }

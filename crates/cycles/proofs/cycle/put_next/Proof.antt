@@ -1,34 +1,30 @@
--- `put_next` meets its contract: the cells before number i are put.
+-- `put_next` meets its contract: the cells before number i are put, or stand as they are.
 use Prim.Native.Nat.{_*_, _-_, _≤_}
 use native.Mathlib.Omega.{arith}
-use mathlib.Core.Path.{_≡_}
-use Rattle.cycles.specs.contracts.CycleMemory.{next-value, Values-put}
-use Rattle.cycles.proofs.steps.SeenLaws.{values-begin, values-next, next-still}
+use mathlib.Core.Path.{_≡_, refl}
+use Rattle.cycles.specs.contracts.CycleMemory.{next-value, no-action, Members-put}
+use Rattle.cycles.proofs.steps.SeenLaws.{members-begin, members-rest, seen-put}
 use borrow.Author.Needs.{needs}
 use Rattle.cycles.proofs.cycle.put_next.Statement.{statement}
 use Rattle.cycles.proofs.cycle.put_next.Tie as tie
 
 abbrev Inv-loop : tie.InvT-loop
-Inv-loop classes d n cells area₀ end i₀ area i = (i ≤ end) × Values-put classes d (next-value cells area₀) i area₀ area
+Inv-loop classes d n cells area₀ end i₀ area i = (i ≤ 12 * n) × Members-put classes d no-action (next-value cells area₀) i area₀ area
 
 abbrev μ-loop : tie.MeasureT-loop
-μ-loop classes d n cells area₀ end i₀ area i = end - i
+μ-loop classes d n cells area₀ end i₀ area i = 12 * n - i
 
 mul-end : tie.Need-mul-end Inv-loop μ-loop
-mul-end c = omega arith
+mul-end c = search needs
 
 loop-holds : tie.Need-loop-holds Inv-loop μ-loop
-loop-holds c = (omega arith, values-begin _ _)
+loop-holds c = (omega arith, members-begin _ _ _)
 
-next-value-requires : tie.Need-next-value-requires Inv-loop μ-loop
-next-value-requires c κs =
-    let loop = c .before .before .loop in
-    let l = loop .inv .1 .same in omega arith
+cell-token-requires : tie.Need-cell-token-requires Inv-loop μ-loop
+cell-token-requires c κs = search needs
 
-put-cell-requires : tie.Need-put-cell-requires Inv-loop μ-loop
-put-cell-requires c κs =
-    let loop = c .before .before .before .before .loop in
-    let l = loop .inv .1 .same in omega arith
+sub-i : tie.Need-sub-i Inv-loop μ-loop
+sub-i c = search needs
 
 add-i : tie.Need-add-i Inv-loop μ-loop
 add-i c = search needs
@@ -38,19 +34,26 @@ loop-less c = search needs
 
 loop-again : tie.Need-loop-again Inv-loop μ-loop
 loop-again c =
-    let args = c .before .before .before .before .before .before .before .before .before .before .before .before .args in
-    let loop = c .before .before .before .before .before .before .before .loop in
-    let found = c .before .before .before .before .next-value in
-    let put-cell = c .before .before .put-cell in (
-      omega arith,
-      values-next (next-value (args .cells .now) (args .area .now)) (loop .inv .1) (next-still (args .cells .now) (loop .inv .1) (found .ensures))
-          (put-cell .ensures) (omega arith),
-    )
+    let l = c .before .before .before .loop .inv in
+    (omega arith, members-rest _ _ (l .1) (c .before .cell-token .ensures) (c .if1 .taken) refl)
+
+put-seen-requires : tie.Need-put-seen-requires Inv-loop μ-loop
+put-seen-requires c κs = let l = c .before .before .before .before .loop .inv .1 .same in (omega arith, omega arith)
+
+add-i-2 : tie.Need-add-i-2 Inv-loop μ-loop
+add-i-2 c = search needs
+
+loop-less-2 : tie.Need-loop-less-2 Inv-loop μ-loop
+loop-less-2 c = search needs
+
+loop-again-2 : tie.Need-loop-again-2 Inv-loop μ-loop
+loop-again-2 c =
+    let l = c .before .before .before .before .before .before .before .loop .inv in
+    let put-seen = c .before .before .put-seen in
+    (omega arith, seen-put _ (l .1) (c .before .before .before .before .before .cell-token .ensures) (put-seen .ensures) (omega arith))
 
 same-length : tie.Need-same-length Inv-loop μ-loop
-same-length c =
-    let loop = c .before .loop in
-    loop .inv .1 .same
+same-length c = c .before .loop .inv .1 .same
 
 returns : tie.Need-returns Inv-loop μ-loop
 returns c =
@@ -67,10 +70,14 @@ put-next-spec =
     μ-loop
     mul-end
     loop-holds
-    next-value-requires
-    put-cell-requires
+    cell-token-requires
+    sub-i
     add-i
     loop-less
     loop-again
+    put-seen-requires
+    add-i-2
+    loop-less-2
+    loop-again-2
     same-length
     returns)

@@ -18,7 +18,7 @@ use Rattle.engine.proofs.serve.on_bench.Statement.{statement}
 use Rattle.engine.proofs.serve.on_bench.Tie as tie
 use Rattle.engine.proofs.serve.on_bench.Reads as reads
 use Rattle.engine.proofs.serve.on_bench.Lts as lts
-use Rattle.checking.proofs.resolve.Reads as resolve-reads
+use Rattle.reads.proofs.resolve.Reads as resolve-reads
 use Rattle.cycles.proofs.put_row_header.Reads as put-row-header-reads
 use Rattle.days.proofs.sheet.put_sheet.Reads as put-sheet-reads
 use Rattle.engine.proofs.bench.put_bench.Reads as put-bench-reads

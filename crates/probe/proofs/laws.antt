@@ -1,0 +1,2 @@
+-- Laws about definitions and about the forms of memory that contracts speak of: crates above may cite them.
+pub mod BitsLaws

@@ -1,0 +1,2 @@
+-- Steps of the proofs of functions: for this crate alone.
+pub mod TriedSteps

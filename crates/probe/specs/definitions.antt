@@ -1,0 +1,2 @@
+-- What is shown: the definitions that a reader has to believe.
+pub mod Tried

@@ -1,0 +1,2 @@
+-- Theorems: what the definitions compute.
+pub mod StoredTried

@@ -1,0 +1,2 @@
+-- What the stored cases are said in.
+pub mod TriedOf
