@@ -10,7 +10,7 @@ import struct
 import sys
 
 HERE = os.path.dirname(os.path.abspath(__file__))
-LINES = {"pedal": 100_000, "usual": 100_000, "heavy": 150, "usual-quiet": 100_000, "heavy-quiet": 5_000}
+LINES = {"pedal": 100_000, "usual": 100_000, "heavy": 150, "usual-quiet": 100_000, "heavy-quiet": 20_000}
 QUIET = 0.95  # of the lines of a quiet bench
 SENDER = "box"  # of all lines
 

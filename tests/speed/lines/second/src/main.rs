@@ -55,7 +55,7 @@ fn line_calls(folder: &Path, name: &str, most: usize) {
             let bench = accept(&text).ok().expect("accepted");
             let sender = match line::take(&bench, &state, names, values) {
                 Ok(Taken::Resent(sender)) => sender,
-                Ok(Taken::Next(next, sender)) => {
+                Ok(Taken::Next(next, sender, _)) => {
                     state = next;
                     sender
                 }
