@@ -43,7 +43,9 @@ fn values_differ(cells: &[u8], previous_cells: &[u8], i: usize) -> bool
 
 // Adds the cells of a range whose values differ.
 fn add_differing(first: usize, end: usize, cells: &[u8], previous_cells: &[u8], moved: &mut [u8])
-    requires { ⌜ (first ≤ end) × (end * 9 ≤ length (now cells)) × (end * 9 ≤ length (now «previous_cells»)) × (end ≤ 8 * length (now moved)) ⌝ }
+    requires { ⌜
+        (first ≤ end) × (end * 9 ≤ length (now cells)) × (end * 9 ≤ length (now «previous_cells»))
+        × (end ≤ 8 * length (now moved)) ⌝ }
     ensures { λ _. ⌜
         Added (cells-differ (now (cells .entry)) (now («previous_cells» .entry))) first end (is-in (now (moved .entry))) (is-in (now (moved .exit))) ⌝ }
 {
@@ -80,7 +82,9 @@ fn add_moved(
     previous_cells: &[u8],
     moved: &mut [u8],
 )
-    requires { ⌜ (first ≤ end) × (end * 9 ≤ length (now cells)) × (end * 9 ≤ length (now «previous_cells»)) × (end ≤ 8 * length (now moved)) ⌝ }
+    requires { ⌜
+        (first ≤ end) × (end * 9 ≤ length (now cells)) × (end * 9 ≤ length (now «previous_cells»))
+        × (end ≤ 8 * length (now moved)) ⌝ }
     ensures { λ _. ⌜
         Added (entity-moved flag «previous_flag» (now (cells .entry)) (now («previous_cells» .entry))) first end
         (is-in (now (moved .entry))) (is-in (now (moved .exit))) ⌝ }

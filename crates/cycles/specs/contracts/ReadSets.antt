@@ -20,6 +20,7 @@ READ-SET-BYTES = MOST-ENTITIES * ENTITY-CELLS / 8
 abbrev pub SCOPES-BYTES : ℕ
 SCOPES-BYTES = ALL-SCOPE-ROWS + READ-SET-BYTES * MOST-RULES
 
+-- the set of each rule has exactly the cells that its condition reads; of a rule with no more variables than a file may have, whose references are sure
 pub record Reads-are (text classes offsets lengths d scopes : List ℕ) : Type 0 where
   pub room : SCOPES-BYTES ≤ length scopes
   pub is : (k : ℕ) → k < getD d RULE-COUNT-ROW 0 → k < MOST-RULES → (c : Rule-world text classes offsets lengths d (getD d (rule-row k) 0))

@@ -34,11 +34,12 @@ seen-before s = s .stores .previous
 abbrev pub SET-BYTES : ℕ
 SET-BYTES = 8
 
--- a bench, the states before a line and after it, and memory for the set
+-- what is answered, and the memory for the set as it is left
 pub record After-tried : Type 0 where
   pub answer : ℕ
   pub tried : List ℕ
 
+-- the set stands at the front of its memory
 unfoldable pub tried-written : ℕ → List ℕ → After-tried
 tried-written set m = record { answer = 0; tried = low-first SET-BYTES set ++ drop SET-BYTES m }
 
@@ -49,11 +50,13 @@ tried-between f none after m = record { answer = 33; tried = m }
 tried-between f (some b) none m = record { answer = 33; tried = m }
 tried-between f (some b) (some a) m = tried-written (tried-set f (seen-before a) (seen-before b)) m
 
+-- 32, where the image is no bench; 33, where `before` or `after` is no state of it
 unfoldable pub tried-on-bench : ℕ → Option File → List ℕ → List ℕ → List ℕ → After-tried
 unfolding tried-between state-of
 tried-on-bench print none before after m = record { answer = 32; tried = m }
 tried-on-bench print (some f) before after m = tried-between f (state-of print f before) (state-of print f after) m
 
+-- 31, where any memory is shorter than its stated size
 unfoldable pub tried-call : List ℕ → List ℕ → List ℕ → List ℕ → After-tried
 unfolding tried-on-bench fingerprint-of bench-of
 tried-call bench before after m = elim (ltb (length bench) BENCH || ltb (length before) STATE || ltb (length after) STATE || ltb (length m) SET-BYTES) [
