@@ -9,7 +9,7 @@
 int main(void)
 {
     for (unsigned byte = 0; byte < 256; byte++)
-        printf("%u %" PRIu64 "\n", byte, byte_class((uint8_t)byte));
+        printf("%u %" PRIu64 "\n", byte, bench_byte_class((uint8_t)byte));
     /* What is printed has arrived only when standard output could be closed. */
     if (ferror(stdout) || fclose(stdout) != 0) {
         fprintf(stderr, "classes: standard output: not all could be written\n");

@@ -1,7 +1,8 @@
 /* Prints the day sheet of the folder that it is run in, from bench.txt and readings.txt and a fresh state: sheet CELLS. A refusal is
  * printed in the sheet's place, as the runner does. bin/bench builds it, calls it, and explains a refusal.
  *
- * Status: 0 the sheet or a refusal is printed; 2 bad usage; 3 it could not be, which is told on standard error. */
+ * Status: 0 the sheet or a refusal is printed; 2 bad usage; 3 it could not be. What could not be done, and that a sheet lacks lines, is told on standard
+ * error. */
 #include "bench_engine.h"
 
 #include <errno.h>
@@ -10,7 +11,10 @@
 #include <string.h>
 
 /* One byte more than a bench file may have is enough to have it refused, however long it is. */
-#define BENCH_TEXT_MOST 32769u
+#define TEXT_MOST (BENCH_LONGEST_TEXT + 1)
+
+/* A row with its line feed, and where the last digit of a line's number stands in it. */
+enum { ROW_BYTES = 81, NUMBER_LAST = 9 };
 
 struct bytes {
     uint8_t *start;
@@ -77,6 +81,24 @@ static uint64_t ask(struct bytes readings, const char *cells, struct bytes *shee
                        sheet->start, sheet->length);
 }
 
+/* A line that is on the sheet has a row with its number there, other rows have spaces in its place. */
+static size_t lines_shown(struct bytes sheet)
+{
+    size_t count = 0;
+    for (size_t i = 0; i + ROW_BYTES <= sheet.length; i += ROW_BYTES)
+        count += sheet.start[i + NUMBER_LAST] != ' ';
+    return count;
+}
+
+/* A sheet passes over lines that are refused or sent again: one that lacks some must not be taken for a whole one. */
+static void tell_lacking(struct bytes readings, struct bytes sheet)
+{
+    size_t feeds = line_feeds(readings), shown = lines_shown(sheet);
+    size_t lines = readings.length > 0 && readings.start[readings.length - 1] != '\n' ? feeds : feeds - 1; /* after the line of names */
+    if (shown < lines)
+        fprintf(stderr, "readings.txt: %zu of %zu lines are on the sheet: the others were refused, or sent again\n", shown, lines);
+}
+
 static int refused(unsigned number)
 {
     printf("refused %u\n", number);
@@ -91,19 +113,19 @@ int main(int count, char **words)
         fprintf(stderr, "usage: sheet CELLS\n");
         return 2;
     }
-    text = read_file("bench.txt", BENCH_TEXT_MOST);
+    text = read_file("bench.txt", TEXT_MOST);
     answer = bench_check(text.start, text.length, bench, sizeof bench);
     if (BENCH_NUMBER(answer) != 0) {
         printf("refused %u %zu\n", BENCH_NUMBER(answer), BENCH_REST(answer));
         return finish();
     }
-    state_fresh(bench, sizeof bench, state, sizeof state);
+    bench_fresh(bench, sizeof bench, state, sizeof state);
 
     /* Cells are refused before any line is read. Asking with no readings tells it at once, even if readings.txt is a pipe that is still
      * to be written. */
     answer = ask(readings, words[1], &sheet);
-    if (BENCH_NUMBER(answer) == 41)
-        return refused(41);
+    if (BENCH_NUMBER(answer) == BENCH_CELLS_REFUSED)
+        return refused(BENCH_CELLS_REFUSED);
     free(sheet.start);
 
     readings = read_file("readings.txt", SIZE_MAX);
@@ -111,5 +133,8 @@ int main(int count, char **words)
     if (BENCH_NUMBER(answer) != 0)
         return refused(BENCH_NUMBER(answer));
     fwrite(sheet.start, 1, BENCH_REST(answer), stdout);
-    return finish();
+    sheet.length = BENCH_REST(answer);
+    finish();
+    tell_lacking(readings, sheet);
+    return 0;
 }

@@ -114,7 +114,7 @@ static int rest_same(const struct region *region, size_t written)
         && memcmp(region->copy + start + written, region->lent + written, region->bytes - start - written) == 0;
 }
 
-/* The six calls on the regions. Each checks what holds for every answer. */
+/* The calls on the regions. Each checks what holds for every answer. */
 
 /* A state: four bytes for the bench text, the number of senders that it knows, two planes, and a part for each sender. A plane has a flag
  * and twelve cells of nine bytes for each entity, a part has the name's length, 24 bytes for the name, the sender's number and a plane. */
@@ -153,11 +153,11 @@ static uint64_t fresh(void)
 {
     uint64_t answer;
     save();
-    answer = state_fresh(bench.lent, bench.length, state.lent, state.length);
+    answer = bench_fresh(bench.lent, bench.length, state.lent, state.length);
     if (BENCH_NUMBER(answer) != 0)
-        check(all_same(), "a refused state_fresh leaves every byte");
+        check(all_same(), "a refused bench_fresh leaves every byte");
     else
-        check(rest_same(&state, state_used()) && all_same_but(&state, &state), "state_fresh writes the state alone");
+        check(rest_same(&state, state_used()) && all_same_but(&state, &state), "bench_fresh writes the state alone");
     return answer;
 }
 
@@ -254,6 +254,16 @@ static uint64_t day_of(const char *words, const char *chosen)
     put_text(&cells, chosen);
     lend_sheet(0);
     return day();
+}
+
+static uint64_t entity_name(size_t number)
+{
+    uint64_t answer;
+    save();
+    answer = bench_entity_name(text.lent, text.length, number);
+    check(all_same(), "bench_entity_name writes nothing");
+    check(BENCH_NUMBER(answer) == 0, "bench_entity_name refuses nothing");
+    return answer;
 }
 
 static void check_row(uint64_t answer, const char *wanted)
@@ -609,12 +619,110 @@ static void classes_of_bytes(void)
             wanted[(uint8_t)*byte] = class;
     lend_exact();
     for (unsigned byte = 0; byte < 256; byte++) {
-        check(byte_class((uint8_t)byte) == wanted[byte], "byte_class of each byte");
+        check(bench_byte_class((uint8_t)byte) == wanted[byte], "bench_byte_class of each byte");
         put_text(&text, "rules ?");
         text.lent[6] = (uint8_t)byte;
         int is_bad = wanted[byte] == BENCH_BYTE_UNDERSCORE || wanted[byte] >= BENCH_BYTE_COMMENT_ONLY;
         int is_gap = wanted[byte] == BENCH_BYTE_BLANK || wanted[byte] == BENCH_BYTE_HASH;
         check_answer(checked(), is_bad ? 12 : 13, is_gap ? 7 : 6, "a byte of each class after `rules`");
+    }
+}
+
+/* Names of entities. */
+
+static int is_name_byte(uint8_t byte)
+{
+    return byte == '_' || (byte >= '0' && byte <= '9') || (byte >= 'A' && byte <= 'Z') || (byte >= 'a' && byte <= 'z');
+}
+
+/* The start of the first word from here on, which in a text that is accepted no comment hides; the text's length if there is none. */
+static size_t word_from(size_t at)
+{
+    while (at < text.length && !is_name_byte(text.lent[at])) {
+        const uint8_t *feed = text.lent[at] == '#' ? memchr(text.lent + at, '\n', text.length - at) : text.lent + at;
+        at = feed ? (size_t)(feed - text.lent) + 1 : text.length;
+    }
+    return at;
+}
+
+static size_t word_length(size_t at)
+{
+    size_t length = 0;
+    while (at + length < text.length && is_name_byte(text.lent[at + length]))
+        length++;
+    return length;
+}
+
+/* What bench_entity_name is to answer for the text that is lent, if it is accepted: the word after the `entity` of that number. */
+static uint64_t name_found(size_t number)
+{
+    size_t at = word_from(0);
+    while (at < text.length) {
+        size_t length = word_length(at), next = word_from(at + length);
+        if (length == 6 && memcmp(text.lent + at, "entity", 6) == 0 && number-- == 0)
+            return 256 * (uint64_t)word_length(next) + 65536 * (uint64_t)next;
+        at = next;
+    }
+    return 0;
+}
+
+static const size_t far_numbers[] = {33, 255, 256, 65535, 65536, (size_t)1 << 32, ((size_t)1 << 32) + 1, SIZE_MAX / 2, SIZE_MAX - 1, SIZE_MAX};
+
+/* Every number of the text that is lent, and numbers of no entity: the low bits of a great number are no number. */
+static void check_names(size_t count, const char *what)
+{
+    for (size_t i = 0; i <= MOST_ENTITIES; i++) {
+        uint64_t answer = entity_name(i);
+        check(answer == (i < count ? name_found(i) : 0), what);
+        check((answer != 0) == (i < count), what);
+    }
+    for (size_t i = 0; i < sizeof far_numbers / sizeof far_numbers[0]; i++)
+        check(entity_name(far_numbers[i]) == 0, "the name of no entity");
+}
+
+static void check_name(size_t number, const char *wanted)
+{
+    uint64_t answer = entity_name(number);
+    check(BENCH_NAME_LENGTH(answer) == strlen(wanted), wanted);
+    check(BENCH_NAME_OFFSET(answer) + strlen(wanted) <= text.length, wanted);
+    check(memcmp(text.lent + BENCH_NAME_OFFSET(answer), wanted, strlen(wanted)) == 0, wanted);
+}
+
+static void names_of_entities(void)
+{
+    static const char end[] = "interface I{}entity abcdefghijklmnopqrstuvwx:I{}rules end";
+    static const char *const refused[] = {
+        "", "rules", "entity e : I { } rules end", "interface I { } entity e : I { } rules end end", "interface I { } entity e : I { } rules end ;",
+        "interface I { } entity e : I { } entity e : I { } rules end", "interface I { attribute a : whole } entity e : I { } rules end",
+        "interface I { attribute a : whole } entity e : I { a = true } rules end",
+        "interface I { action a ( whole ) } entity e : I { } rules when rank 10 event a from e value changed trigger action a ( 1 ) on e end end",
+    };
+    put_text(&text, PEDAL);
+    check_names(3, "names of the pedal bench");
+    check_name(0, "p");
+    check_name(1, "s");
+    check_name(2, "k");
+    put_text(&text, full_bench());
+    check_names(MOST_ENTITIES, "names of 32 entities");
+    check_name(31, "e31");
+    put_text(&text, "# entity no : I\ninterface I{}entity# entity x : I\n\tab#\n:I{}entity entity_:I{}rules end# entity y");
+    check_names(2, "names between comments");
+    check_name(0, "ab");
+    check_name(1, "entity_");
+    put_text(&text, "rules end");
+    check_names(0, "names of no entities");
+    lend(&text, 32768);
+    memset(text.lent, ' ', text.length);
+    memcpy(text.lent + 32768 - (sizeof end - 1), end, sizeof end - 1);
+    check_names(1, "a name at the end of the longest text");
+    check_name(0, "abcdefghijklmnopqrstuvwx");
+    lend(&text, 32769);
+    memset(text.lent, ' ', text.length);
+    memcpy(text.lent, end, sizeof end - 1);
+    check_names(0, "names of a text that is too long");
+    for (size_t i = 0; i < sizeof refused / sizeof refused[0]; i++) {
+        put_text(&text, refused[i]);
+        check_names(0, refused[i]);
     }
 }
 
@@ -794,14 +902,14 @@ static void short_memory(void)
     check_answer(checked(), 31, 0, "bench_check, short bench");
     put_text(&text, ";");
     check_answer(checked(), 31, 0, "31 comes before 12");
-    check_answer(fresh(), 31, 0, "state_fresh, short bench");
+    check_answer(fresh(), 31, 0, "bench_fresh, short bench");
     check_answer(line(), 31, 0, "bench_line, short bench");
     check_answer(header(), 31, 0, "bench_header, short bench");
     check_answer(row_of("?"), 31, 0, "bench_row, short bench");
     check_answer(day_of("by n", "k.keep"), 31, 0, "bench_sheet, short bench");
     start_pedal();
     lend(&state, BENCH_STATE_SIZE - 1);
-    check_answer(fresh(), 31, 0, "state_fresh, short state");
+    check_answer(fresh(), 31, 0, "bench_fresh, short state");
     check_answer(line(), 31, 0, "bench_line, short state");
     check_answer(row_of("?"), 31, 0, "bench_row, short state");
     check_answer(day_of("by n q", "q"), 31, 0, "bench_sheet, short state");
@@ -814,11 +922,66 @@ static void short_memory(void)
     lend(&state, 0);
     lend(&row, 0);
     check_answer(checked(), 31, 0, "bench_check, no bench");
-    check_answer(fresh(), 31, 0, "state_fresh, no memory");
+    check_answer(fresh(), 31, 0, "bench_fresh, no memory");
     check_answer(line(), 31, 0, "bench_line, no memory");
     check_answer(header(), 31, 0, "bench_header, no memory");
     check_answer(state_row(), 31, 0, "bench_row, no memory");
     check_answer(day_of("by n", "k.keep"), 31, 0, "bench_sheet, no bench and no state");
+}
+
+/* NULL with length 0, for each slice of each call: an empty text, or memory that is too short. */
+
+static void lend_null(struct region *region)
+{
+    region->lent = NULL;
+    region->length = 0;
+}
+
+static void start_null(struct region *region)
+{
+    start_pedal();
+    put_text(&sender, "a");
+    put_text(&readings, "by n");
+    put_text(&cells, "k.keep");
+    lend_sheet(0);
+    lend_null(region);
+}
+
+static void null_slices(void)
+{
+    start_null(&text);
+    check_answer(checked(), 13, 0, "bench_check, NULL text");
+    check_names(0, "bench_entity_name, NULL text");
+    lend_null(&bench);
+    check_answer(checked(), 31, 0, "bench_check, NULL alone");
+    start_null(&bench);
+    check_answer(checked(), 31, 0, "bench_check, NULL bench");
+    check_answer(fresh(), 31, 0, "bench_fresh, NULL bench");
+    check_answer(line(), 31, 0, "bench_line, NULL bench");
+    check_answer(header(), 31, 0, "bench_header, NULL bench");
+    check_answer(state_row(), 31, 0, "bench_row, NULL bench");
+    check_answer(day(), 31, 0, "bench_sheet, NULL bench");
+    start_null(&state);
+    check_answer(fresh(), 31, 0, "bench_fresh, NULL state");
+    check_answer(line(), 31, 0, "bench_line, NULL state");
+    check_answer(state_row(), 31, 0, "bench_row, NULL state");
+    check_answer(day(), 31, 0, "bench_sheet, NULL state");
+    start_null(&row);
+    check_answer(line(), 31, 0, "bench_line, NULL row");
+    check_answer(header(), 31, 0, "bench_header, NULL row");
+    check_answer(state_row(), 31, 0, "bench_row, NULL row");
+    start_null(&names);
+    check_answer(line(), 22, 0, "bench_line, NULL names");
+    start_null(&values);
+    check_answer(line(), 21, 0, "bench_line, NULL values");
+    start_null(&sender);
+    check_answer(state_row(), 43, 0, "bench_row, NULL sender");
+    start_null(&readings);
+    check_answer(day(), 22, 0, "bench_sheet, NULL readings");
+    start_null(&cells);
+    check_answer(day(), 41, 0, "bench_sheet, NULL cells");
+    start_null(&sheet);
+    check_answer(day(), 31, 0, "bench_sheet, NULL sheet");
 }
 
 /* Refusals of texts; each leaves the bench that was there. */
@@ -1137,7 +1300,7 @@ static void random_arguments(void)
     check_number(header(), "0032", "bench_header of a random bench");
     check_number(line(), "003233", "bench_line of a random bench");
     check_number(row_of("a"), "003233", "bench_row of a random bench");
-    check_number(fresh(), "0032", "state_fresh of a random bench");
+    check_number(fresh(), "0032", "bench_fresh of a random bench");
 }
 
 /* Changes some bytes of what is lent. */
@@ -1145,6 +1308,22 @@ static void blur(struct region *region)
 {
     for (size_t i = below(3) + 1; i > 0; i--)
         region->lent[below(region->length)] = (uint8_t)(below(2) == 0 ? random_number() : (uint64_t)"\n -.?nab1"[below(9)]);
+}
+
+/* Random bytes as a text of entities, or a text with some of its bytes changed: names are given exactly if the text is accepted. */
+static void random_names(void)
+{
+    size_t number = below(2) == 0 ? below(MOST_ENTITIES + 2) : (size_t)random_number();
+    lend_exact();
+    put_text(&text, PEDAL);
+    if (below(4) == 0)
+        scatter(&text, below(10) == 0 ? below(33000) : below(40));
+    else
+        blur(&text);
+    int is_accepted = BENCH_NUMBER(checked()) == 0;
+    check(entity_name(number) == (is_accepted ? name_found(number) : 0), "bench_entity_name of random bytes");
+    number = below(4);
+    check(entity_name(number) == (is_accepted ? name_found(number) : 0), "bench_entity_name of random bytes");
 }
 
 /* Random bytes as each argument of a sheet, or its bytes with some of them changed. */
@@ -1206,7 +1385,7 @@ static void random_everything(void)
     check_number(line(), "31323321222324254243", "bench_line of random bytes alone");
     check_number(state_row(), "31323343", "bench_row of random bytes alone");
     check_number(header(), "3132", "bench_header of random bytes alone");
-    check_number(fresh(), "3132", "state_fresh of random bytes alone");
+    check_number(fresh(), "3132", "bench_fresh of random bytes alone");
     check_number(checked(), "00311213141516171844", "bench_check of random bytes alone");
 }
 
@@ -1233,6 +1412,7 @@ int main(void)
         halves_left_of_zero();
         ranked_rules();
         classes_of_bytes();
+        names_of_entities();
         probe_sheet();
         later_day();
         two_boxes_sheet();
@@ -1241,6 +1421,7 @@ int main(void)
         odd_lines();
         longer_memory();
         short_memory();
+        null_slices();
         refused_texts();
         refused_lines();
         foreign_memory();
@@ -1248,6 +1429,8 @@ int main(void)
             random_arguments();
         for (int i = 0; i < 600; i++)
             random_day();
+        for (int i = 0; i < 600; i++)
+            random_names();
         for (int i = 0; i < 50; i++)
             random_everything();
     }

@@ -96,7 +96,7 @@ int main(int count, char **words)
     readings = read_file(words[1], "readings.txt");
     cells = read_file(words[1], "cells.txt");
     if (BENCH_NUMBER(bench_check(text.start, text.length, bench, sizeof bench)) != 0
-        || BENCH_NUMBER(state_fresh(bench, sizeof bench, state, sizeof state)) != 0) {
+        || BENCH_NUMBER(bench_fresh(bench, sizeof bench, state, sizeof state)) != 0) {
         fprintf(stderr, "%s/bench.txt is refused\n", words[1]);
         return 2;
     }

@@ -10,8 +10,8 @@ It aims at being easy to compare with the text, not at speed.  "Readings" below 
 pages that decide the documents' open points.  A quotation is document 01's unless
 document 02 or Readings is named beside it.
 
-Public: check, Bench, run, state_after, sheet, stated_size, printed_sheet, cells_read,
-tried, printed_tried, byte_class, printed_classes, main.
+Public: check, entity_part, Bench, run, state_after, sheet, stated_size, printed_sheet,
+cells_read, tried, printed_tried, byte_class, printed_classes, main.
 """
 
 import math
@@ -1166,6 +1166,21 @@ def check(text: bytes) -> Tuple[int, int]:
     except Refusal as refusal:
         return refusal.code, refusal.place
     return 0, 0
+
+
+def entity_part(text: bytes, number: int) -> Tuple[int, int]:
+    """Offset and length of "an entity's name, found by its number (from 0, file order)".
+
+    It "is a part of the bench text, empty if there is none or the text is refused"; the empty part stands at 0.
+    """
+    try:
+        entities = accepted_file(text).entities
+    except Refusal:
+        return 0, 0
+    if number >= len(entities):
+        return 0, 0
+    name = entities[number].name
+    return name.place, len(name.text)
 
 
 # --------------------------------------------------------------------------

@@ -19,9 +19,9 @@ import sys
 from itertools import product, zip_longest
 from pathlib import Path
 
-from bench_oracle import Bench, Reader, Real, byte_class, cells_read, check, clauses_of, cycles_of_lines, differ, negation
-from bench_oracle import operation, printed_classes, printed_sheet, printed_tried, run, sheet, state_after, stated_size
-from bench_oracle import tried, words_of
+from bench_oracle import Bench, Reader, Real, byte_class, cells_read, check, clauses_of, cycles_of_lines, differ
+from bench_oracle import entity_part, negation, operation, printed_classes, printed_sheet, printed_tried, run, sheet
+from bench_oracle import state_after, stated_size, tried, words_of
 
 SEED = 20240645
 OUTPUT = Path(__file__).resolve().parent / "cases.json"
@@ -3060,6 +3060,20 @@ def check_places_of_bytes():
         assert check(b"rules#" + bytes([byte]) + b"end") == answer, byte
 
 
+def check_entity_parts():
+    """Entities' names by number: in every stored text those behind its words `entity`, of a refused one none."""
+    text = b"interface I{}entity ab:I{}entity#entity x\nc:I{}rules end"
+    assert [entity_part(text, number) for number in (0, 1, 2, 2**64 - 1)] == [(20, 2), (42, 1), (0, 0), (0, 0)]
+    assert entity_part(text.ljust(32768), 1) == (42, 1)
+    assert entity_part(text.ljust(32769), 1) == (0, 0)
+    for case in CASES:
+        text = case["bench"].encode("ascii")
+        words = words_of(text) if case["check"] == [0, 0] else []
+        names = [name for word, name in zip(words, words[1:]) if word.text == b"entity"]
+        parts = [(name.place, len(name.text)) for name in names] + [(0, 0)]
+        assert [entity_part(text, number) for number in range(len(parts))] == parts, case["name"]
+
+
 def check_sizes():
     """Limits of length and number."""
     assert check(b"rules end".ljust(32768)) == (0, 0)
@@ -3511,6 +3525,7 @@ def make_all():
     check_quotients()
     check_classes()
     check_places_of_bytes()
+    check_entity_parts()
     check_sizes()
     check_missing_columns()
     check_kept_rows()

@@ -46,7 +46,7 @@ def lines(*parts):
 
 def add_stored():
     for case in json.loads((HERE / "cases.json").read_text()):
-        name = case["name"].removeprefix("run-")
+        name = case["name"][len("run-"):] if case["name"].startswith("run-") else case["name"]
         bench = case["bench"].encode("ascii")
         if case["readings"] is not None:
             add(name, bench, case["readings"].encode("ascii"), case["printed"].encode("ascii"))

@@ -20,7 +20,7 @@ pub mod MeaningLaws
 pub mod RuleWalks
 pub mod RulesLaws
 pub mod JudgedLaws
-pub mod EntityNameLaws
+pub mod EntitySpanLaws
 pub mod ReferenceLaws
 pub mod ResolvedNames
 pub mod ScopeLaws

@@ -1,2 +1,3 @@
 -- What is promised, proved.
 pub mod AdmittedLaws
+pub mod EntitySpans

@@ -6,4 +6,5 @@ pub mod CountFaults
 pub mod NameFaults
 pub mod KindFaults
 pub mod Verdict
+pub mod EntitySpan
 pub mod Admitted

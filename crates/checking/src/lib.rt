@@ -10,7 +10,7 @@ pub mod faults; // what a walk of the check finds
 pub mod interfaces; // the interfaces of a file
 pub mod layout; // the counts, and the rows of a directory
 pub mod meanings; // what the names in a rule mean
-pub mod names; // an entity's name by its number
+pub mod names; // entities' names by their numbers
 pub mod priorities; // the priorities of rules
 pub mod resolver; // what the names of rules refer to, as numbers
 pub mod rules; // names and kinds of rules
@@ -31,7 +31,9 @@ pub use faults::Found;
 pub use faults::earlier;
 pub use faults::unless;
 pub use interfaces::interface_faults;
+pub use names::Span;
 pub use names::entity_name;
+pub use names::entity_span;
 pub use resolver::resolve;
 pub use rules::rule_faults;
 pub use table::entity_number;

@@ -1,7 +1,8 @@
 // The names of a text's entities by their numbers.
 ghost use mathlib.Core.Path.{_≡_};
 ghost use Rattle.checking.specs.definitions.Verdict.{entity-name};
-ghost use Rattle.checking.specs.contracts.CheckSteps.{Names-entity};
+ghost use Rattle.checking.specs.definitions.EntitySpan.{entity-span};
+ghost use Rattle.checking.specs.contracts.CheckSteps.{Spans-entity};
 use crate::check::Checked;
 use crate::check::check;
 use crate::layout::DIRECTORY;
@@ -11,33 +12,42 @@ use crate::layout::MOST_BYTES;
 use crate::table::name;
 use crate::table::row;
 
-// The name of an entity by the answer of the check.
-fn name_checked<'a>(
-    text: &'a [u8],
+// A part of a text: the offset of its first byte, and how many it has.
+pub struct Span {
+    pub at: usize,
+    pub length: usize,
+}
+
+// Where the name of an entity stands, by the answer of the check.
+fn span_checked(
+    text: &[u8],
     offsets: &[u16],
     lengths: &[u8],
     d: &[u16],
     checked: Checked,
     number: usize,
-) -> &'a [u8]
-    ensures { λ r. ⌜ Names-entity (now (text .entry)) (now (offsets .entry)) (now (lengths .entry)) (now (d .entry)) checked number (now r) ⌝ }
+) -> Span
+    ensures { λ r. ⌜ Spans-entity (now (text .entry)) (now (offsets .entry)) (now (lengths .entry)) (now (d .entry)) checked number r ⌝ }
 {
     match checked {
-        Checked::NoRoom => &text[0..0],
-        Checked::Refused { code: _, at: _ } => &text[0..0],
+        Checked::NoRoom => Span { at: 0, length: 0 },
+        Checked::Refused { code: _, at: _ } => Span { at: 0, length: 0 },
         Checked::Accepted(_) => {
             if row(d, ENTITY_COUNT_ROW) <= number {
-                return &text[0..0];
+                return Span { at: 0, length: 0 };
             }
-            let first = row(d, ENTITY_ROWS + number);
-            name(text, offsets, lengths, first + 1)
+            let i = row(d, ENTITY_ROWS + number) + 1;
+            let at = row(offsets, i);
+            let found = name(text, offsets, lengths, i);
+            let length = found.len();
+            Span { at, length }
         }
     }
 }
 
-// The name of an entity by its number, in file order: a part of the text; empty if it has no such entity or is refused.
-pub fn entity_name(text: &[u8], number: usize) -> &[u8]
-    ensures { λ r. ⌜ now r ≡ entity-name (now (text .entry)) number ⌝ }
+// Where the name of an entity stands in the text, by its number, in file order; no bytes at 0 if it has no such entity or is refused.
+pub fn entity_span(text: &[u8], number: usize) -> Span
+    ensures { λ r. ⌜ r ≡ entity-span (now (text .entry)) number ⌝ }
 {
     let mut classes = [0u8; MOST_BYTES];
     let mut offsets = [0u16; MOST_BYTES];
@@ -52,5 +62,15 @@ pub fn entity_name(text: &[u8], number: usize) -> &[u8]
         &mut values,
         &mut d,
     );
-    name_checked(text, &offsets, &lengths, &d, checked, number)
+    span_checked(text, &offsets, &lengths, &d, checked, number)
+}
+
+// That part of the text.
+pub fn entity_name(text: &[u8], number: usize) -> &[u8]
+    ensures { λ r. ⌜ now r ≡ entity-name (now (text .entry)) number ⌝ }
+{
+    let span = entity_span(text, number);
+    let start = span.at;
+    let end = start + span.length;
+    &text[start..end]
 }

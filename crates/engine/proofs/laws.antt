@@ -12,3 +12,4 @@ pub mod LineLaws
 pub mod ServingLaws
 pub mod SheetLaws
 pub mod ClassLaws
+pub mod EntityLaws

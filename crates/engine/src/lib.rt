@@ -1,15 +1,17 @@
 // The engine's entry points: a bench file is checked once; then each line of readings is one call.
 //
-// Every call that is lent memory answers with one number: document 01's number in its low 8 bits, 0 for acceptance, and above them the offset of a
-// refused text or the length of a written row or sheet. Nothing lent is trusted: memory may have any bytes and any length, and a refusal changes none
-// of it.
+// Every call that is lent memory to write answers with one number: document 01's number in its low 8 bits, 0 for acceptance, and above them the
+// offset of a refused text or the length of a written row or sheet. The two others refuse nothing: `bench_byte_class` answers with the class of a
+// byte, `bench_entity_name` with the length and the offset of a name, above low 8 bits that are 0. Nothing lent is trusted: memory may have any bytes
+// and any length, and a refusal changes none of it.
 pub mod bench; // the bench image
 pub mod line; // a line on a checked bench
 pub mod serve; // a call on a bench's text
 
 ghost use Rattle.engine.specs.definitions.Calls.{Check-contract, Fresh-contract, Line-contract, Header-contract, Row-contract, Sheet-contract};
-ghost use Rattle.engine.specs.definitions.Calls.{Class-contract};
+ghost use Rattle.engine.specs.definitions.Calls.{Class-contract, Entity-contract};
 use bench::text_of;
+use checking::entity_span;
 use checking::layout::MOST_BYTES;
 use cycles::layout::MOST_ROW_BYTES;
 use cycles::layout::NUMBER_BYTES;
@@ -47,7 +49,7 @@ pub extern "C" fn bench_check(text: &[u8], bench: &mut [u8]) -> u64
 
 // Writes the fresh state of a checked bench: 31, 32, or 0.
 #[no_mangle]
-pub extern "C" fn state_fresh(bench: &[u8], state: &mut [u8]) -> u64
+pub extern "C" fn bench_fresh(bench: &[u8], state: &mut [u8]) -> u64
     ensures { λ r. ⌜ Fresh-contract (now (bench .entry)) (now (state .entry)) (now (state .exit)) r ⌝ }
 {
     if bench.len() < BENCH {
@@ -190,8 +192,18 @@ pub extern "C" fn bench_sheet(
 
 // The class of a byte, 0 to 7, as the lexer has it: letter, digit, `_`, mark, blank, `#`, for comments only, not allowed.
 #[no_mangle]
-pub extern "C" fn byte_class(byte: u8) -> u64
+pub extern "C" fn bench_byte_class(byte: u8) -> u64
     ensures { λ r. ⌜ Class-contract byte r ⌝ }
 {
     class_of_byte(byte) as u64
+}
+
+// Where the name of an entity stands in a bench text: 256 times its length and 65536 times its offset; 0 if the text has no entity with that number,
+// from 0 in file order, or is refused.
+#[no_mangle]
+pub extern "C" fn bench_entity_name(text: &[u8], number: usize) -> u64
+    ensures { λ r. ⌜ Entity-contract (now (text .entry)) number r ⌝ }
+{
+    let span = entity_span(text, number);
+    256 * (span.length as u64) + 65536 * (span.at as u64)
 }

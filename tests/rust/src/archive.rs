@@ -1,4 +1,4 @@
-//! Safe wrappers over the seven calls of the engine's archive, and over the one call of the archive that is there for tests alone.
+//! Safe wrappers over the eight calls of the engine's archive, and over the one call of the archive that is there for tests alone.
 
 use std::collections::hash_map::DefaultHasher;
 use std::fs;
@@ -26,7 +26,8 @@ fn sum(bytes: &[u8]) -> u64 {
 mod c {
     extern "C" {
         pub fn bench_check(text: *const u8, text_length: usize, bench: *mut u8, bench_length: usize) -> u64;
-        pub fn state_fresh(bench: *const u8, bench_length: usize, state: *mut u8, state_length: usize) -> u64;
+        pub fn bench_entity_name(text: *const u8, text_length: usize, number: usize) -> u64;
+        pub fn bench_fresh(bench: *const u8, bench_length: usize, state: *mut u8, state_length: usize) -> u64;
         pub fn bench_line(
             bench: *const u8,
             bench_length: usize,
@@ -62,7 +63,7 @@ mod c {
             sheet: *mut u8,
             sheet_length: usize,
         ) -> u64;
-        pub fn byte_class(byte: u8) -> u64;
+        pub fn bench_byte_class(byte: u8) -> u64;
         pub fn rules_tried(
             bench: *const u8,
             bench_length: usize,
@@ -82,8 +83,12 @@ pub fn bench_check(text: &[u8], bench: &mut [u8]) -> u64 {
     unsafe { c::bench_check(text.as_ptr(), text.len(), bench.as_mut_ptr(), bench.len()) }
 }
 
-pub fn state_fresh(bench: &[u8], state: &mut [u8]) -> u64 {
-    unsafe { c::state_fresh(bench.as_ptr(), bench.len(), state.as_mut_ptr(), state.len()) }
+pub fn bench_entity_name(text: &[u8], number: usize) -> u64 {
+    unsafe { c::bench_entity_name(text.as_ptr(), text.len(), number) }
+}
+
+pub fn bench_fresh(bench: &[u8], state: &mut [u8]) -> u64 {
+    unsafe { c::bench_fresh(bench.as_ptr(), bench.len(), state.as_mut_ptr(), state.len()) }
 }
 
 pub fn bench_line(bench: &[u8], state: &mut [u8], names: &[u8], values: &[u8], row: &mut [u8]) -> u64 {
@@ -146,6 +151,6 @@ pub fn rules_tried(bench: &[u8], before: &[u8], after: &[u8], tried: &mut [u8]) 
 }
 
 /// Lends nothing.
-pub fn byte_class(byte: u8) -> u64 {
-    unsafe { c::byte_class(byte) }
+pub fn bench_byte_class(byte: u8) -> u64 {
+    unsafe { c::bench_byte_class(byte) }
 }

@@ -1,12 +1,12 @@
-//! The six calls on lent memory as the interpreter answers them, and that of the test archive. Each is a function of the lent bytes alone.
-//! One more, a byte's class, lends nothing: it is the interpreter's own function.
+//! The seven calls on lent memory as the interpreter answers them, and that of the test archive. Each is a function of the lent bytes and
+//! numbers alone. One more, a byte's class, lends nothing: it is the interpreter's own function.
 
 use crate::image::{self, sheet_size, BENCH_SIZE, ROW_SIZE, STATE_SIZE, TRIED_SIZE};
 use crate::interpreter::grammar::Bench;
 use crate::interpreter::line::{self, Taken};
 use crate::interpreter::machine::{self, State};
 use crate::interpreter::text::name_form;
-use crate::interpreter::{accept, rest, row as rows, sheet as sheets};
+use crate::interpreter::{accept, entity_part, rest, row as rows, sheet as sheets};
 
 /// The number in the low 8 bits, the offset or length above.
 pub fn answer(number: u8, rest: usize) -> u64 {
@@ -24,7 +24,13 @@ pub fn bench_check(text: &[u8], bench: &mut [u8]) -> u64 {
     answer(0, 0)
 }
 
-pub fn state_fresh(bench: &[u8], state: &mut [u8]) -> u64 {
+/// Where an entity's name stands in a text; refuses nothing.
+pub fn bench_entity_name(text: &[u8], number: usize) -> u64 {
+    let (offset, length) = entity_part(text, number);
+    65_536 * offset as u64 + 256 * length as u64
+}
+
+pub fn bench_fresh(bench: &[u8], state: &mut [u8]) -> u64 {
     if bench.len() < BENCH_SIZE || state.len() < STATE_SIZE {
         return answer(31, 0);
     }

@@ -2,11 +2,11 @@
 
 use crate::generate::case::{Call, Case, Lent, Step};
 use crate::image::{BENCH_SIZE, ROW_SIZE, STATE_SIZE, TRIED_SIZE};
-use crate::interpreter::bytes::byte_class;
-use crate::memory::{Memory, Side, Tally, OURS};
+use crate::interpreter::bytes::bench_byte_class;
+use crate::memory::{LentText, Memory, Side, Tally, OURS};
 use crate::resent::Rows;
 use crate::show::show_bytes;
-use crate::{archive, interpreter};
+use crate::{archive, interpreter, names};
 
 /// The first step at which the two sides part.
 #[derive(Clone, Debug)]
@@ -15,7 +15,7 @@ pub struct Mismatch {
     pub what: String,
     pub ours: Option<u64>,
     pub theirs: Option<u64>,
-    /// The row or sheet of an accepted call.
+    /// The row or sheet of an accepted call, the set of rules or the name.
     pub our_text: Vec<u8>,
     pub their_text: Vec<u8>,
 }
@@ -23,7 +23,8 @@ pub struct Mismatch {
 /// The engine's side.
 const THEIRS: Side = Side {
     check: archive::bench_check,
-    fresh: archive::state_fresh,
+    name: archive::bench_entity_name,
+    fresh: archive::bench_fresh,
     line: archive::bench_line,
     header: archive::bench_header,
     row: archive::bench_row,
@@ -34,6 +35,7 @@ const THEIRS: Side = Side {
 /// Both sides under way on one bench text.
 pub struct Sides {
     text: Vec<u8>,
+    fill: u64,
     ours: Memory,
     theirs: Memory,
     steps: usize,
@@ -45,7 +47,7 @@ pub struct Sides {
 impl Sides {
     pub fn new(text: &[u8], fill: u64) -> Sides {
         let memory = Memory::new(fill);
-        Sides { text: text.to_vec(), ours: memory.clone(), theirs: memory, steps: 0, rows: Rows::default(), tally: Tally::default() }
+        Sides { text: text.to_vec(), fill, ours: memory.clone(), theirs: memory, steps: 0, rows: Rows::default(), tally: Tally::default() }
     }
 
     /// The engine's state memory.
@@ -64,13 +66,13 @@ impl Sides {
         self.theirs.lend(step);
         let before = self.theirs.clone();
         // Copies, to see that the engine leaves even what it only reads.
-        let (text, lent_step) = (self.text.clone(), step.clone());
+        let (text, lent_step) = (LentText::new(&self.text, self.fill), step.clone());
         let ours = OURS.answer(&self.text, step, &mut self.ours);
         let texts_read = interpreter::texts_read();
-        let theirs = THEIRS.answer(&text, &lent_step, &mut self.theirs);
+        let theirs = THEIRS.answer(text.lent(), &lent_step, &mut self.theirs);
         assert_eq!(interpreter::texts_read(), texts_read, "the engine's calls end in the interpreter: it is compared with itself");
-        let fault = if text != self.text || lent_step != *step {
-            Some("text, names, values, sender, readings or cells were written to")
+        let fault = if text != LentText::new(&self.text, self.fill) || lent_step != *step {
+            Some("text, what lies around it, names, values, sender, readings or cells were written to")
         } else if ours != theirs {
             Some("the answers differ")
         } else {
@@ -151,6 +153,9 @@ impl Sides {
             if let Call::Tried { .. } = step.call {
                 return show_set(&memory.tried);
             }
+            if let Call::Name { .. } = step.call {
+                return named(&self.text, answer);
+            }
             let length = answer.filter(|answer| answer & 255 == 0).map_or(0, |answer| answer >> 8) as usize;
             let memory = if matches!(step.call, Call::Sheet { .. }) { &memory.sheet } else { &memory.row };
             memory[..length.min(memory.len())].to_vec()
@@ -185,11 +190,18 @@ pub fn run(case: &Case) -> Result<Tally, Box<Mismatch>> {
 
 /// The bytes whose classes differ, each with the interpreter's class and the engine's.
 pub fn other_classes() -> Vec<(u8, u64, u64)> {
-    let classes = |byte: u8| (byte, byte_class(byte), archive::byte_class(byte));
+    let classes = |byte: u8| (byte, bench_byte_class(byte), archive::bench_byte_class(byte));
     (0..=255).map(classes).filter(|(_, ours, theirs)| ours != theirs).collect()
 }
 
 // What a reader sees of a mismatch.
+
+/// The part of the text that an answer gives, as far as there is one.
+fn named(text: &[u8], answer: Option<u64>) -> Vec<u8> {
+    let Some(answer) = answer else { return Vec::new() };
+    let (offset, length) = names::part(answer);
+    text.iter().skip(offset).take(length).copied().collect()
+}
 
 /// A set of rules as the bytes that stand for it.
 fn show_set(memory: &[u8]) -> Vec<u8> {
@@ -206,7 +218,8 @@ pub fn show_answer(answer: Option<u64>) -> String {
 pub fn show_step(step: &Step) -> String {
     let call = match &step.call {
         Call::Check => "bench_check".to_string(),
-        Call::Fresh => "state_fresh".to_string(),
+        Call::Name { number } => format!("bench_entity_name {number}"),
+        Call::Fresh => "bench_fresh".to_string(),
         Call::Header => "bench_header".to_string(),
         Call::Row { sender } => format!("bench_row [{}]", show_bytes(sender)),
         Call::Line { names, values } => format!("bench_line [{}] [{}]", show_bytes(names), show_bytes(values)),

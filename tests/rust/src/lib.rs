@@ -14,6 +14,7 @@ pub mod generate;
 pub mod image;
 pub mod interpreter;
 pub mod memory;
+pub mod names;
 pub mod options;
 pub mod places;
 pub mod ranks;

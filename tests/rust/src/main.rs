@@ -8,7 +8,7 @@ use second::options::{Options, USAGE};
 use second::places::coverage::place_name;
 use second::resent::Seen;
 use second::two_runs::{self, Verdict};
-use second::{archive, ranks, rests, shrink};
+use second::{archive, names, ranks, rests, shrink};
 use std::env;
 use std::process::ExitCode;
 
@@ -96,7 +96,8 @@ impl Report {
         let ranked = self.compared(number, &generate::ranks::case(seed, number), |tally, of| tally.ranks.add(&of.ranks));
         let rested = !number.is_multiple_of(REST_EVERY)
             || self.compared(number, &generate::rests::case(seed, number), |tally, of| tally.rests.add(&of.rests));
-        let passed = put_in && spoilt && ranked && rested && ran;
+        let named = self.compared(number, &generate::names::case(seed, number), |tally, of| tally.names.add(&of.names));
+        let passed = put_in && spoilt && ranked && named && rested && ran;
         self.passed += u64::from(passed);
         self.failed += u64::from(!passed);
     }
@@ -178,6 +179,8 @@ impl Report {
         self.tally.senders.print();
         println!("texts and lines by what they try of ranks, each being in many:");
         self.tally.ranks.print();
+        println!("calls for entities' names by what they try, each being in many:");
+        self.tally.names.print();
         println!("lines and calls by the rules that are tried, each being in many:");
         self.tally.rests.print();
         let Seen { again, late, asked } = self.tally.resent;
@@ -219,6 +222,10 @@ impl Report {
         }
         for (group, name) in self.tally.ranks.lacking(ranks::required(), least) {
             println!("ranks, {group}: {name}: less than {least}");
+            complete = false;
+        }
+        for (group, name) in self.tally.names.lacking(names::required(), least) {
+            println!("names, {group}: {name}: less than {least}");
             complete = false;
         }
         for (group, name) in self.tally.rests.lacking(rests::required(), least) {

@@ -1,4 +1,4 @@
-//! Lent memory and the seven calls on it, the same for both sides of a comparison.
+//! Lent memory and the eight calls on it, the same for both sides of a comparison.
 
 use crate::calls;
 use crate::counts::Counts;
@@ -6,6 +6,7 @@ use crate::cycles::Cycle;
 use crate::generate::case::{Call, Case, Lent, Step, LONGER_MOST};
 use crate::generate::prng::Prng;
 use crate::image::{BENCH_SIZE, ROW_SIZE, STATE_SIZE};
+use crate::names;
 use crate::places::coverage::Coverage as Places;
 use crate::ranks;
 use crate::resent;
@@ -67,6 +68,24 @@ impl Memory {
     }
 }
 
+/// A text between bytes that are not lent: nobody may touch any of them.
+#[derive(Clone, PartialEq, Eq)]
+pub struct LentText {
+    memory: Vec<u8>,
+    length: usize,
+}
+
+impl LentText {
+    pub fn new(text: &[u8], fill: u64) -> LentText {
+        let guards = Prng::new(fill).bytes(2 * CANARY);
+        LentText { memory: [&guards[..CANARY], text, &guards[CANARY..]].concat(), length: text.len() }
+    }
+
+    pub fn lent(&self) -> &[u8] {
+        &self.memory[CANARY..CANARY + self.length]
+    }
+}
+
 /// Bench, state, names, values, row.
 type LineCall = fn(&[u8], &mut [u8], &[u8], &[u8], &mut [u8]) -> u64;
 
@@ -79,9 +98,10 @@ type SheetCall = fn(&[u8], &[u8], &[u8], &[u8], &mut [u8]) -> u64;
 /// Bench, state before, state after, rules.
 type TriedCall = fn(&[u8], &[u8], &[u8], &mut [u8]) -> u64;
 
-/// The seven calls of one side.
+/// The eight calls of one side.
 pub struct Side {
     pub check: fn(&[u8], &mut [u8]) -> u64,
+    pub name: fn(&[u8], usize) -> u64,
     pub fresh: fn(&[u8], &mut [u8]) -> u64,
     pub line: LineCall,
     pub header: fn(&[u8], &mut [u8]) -> u64,
@@ -93,7 +113,8 @@ pub struct Side {
 /// The interpreter's side.
 pub const OURS: Side = Side {
     check: calls::bench_check,
-    fresh: calls::state_fresh,
+    name: calls::bench_entity_name,
+    fresh: calls::bench_fresh,
     line: calls::bench_line,
     header: calls::bench_header,
     row: calls::bench_row,
@@ -108,6 +129,7 @@ impl Side {
         let (bench, state, row) = (&mut memory.bench[..bench], &mut memory.state[..state], &mut memory.row[..row]);
         match &step.call {
             Call::Check => Some((self.check)(text, bench)),
+            Call::Name { number } => Some((self.name)(text, *number)),
             Call::Fresh => Some((self.fresh)(bench, state)),
             Call::Header => Some((self.header)(bench, row)),
             Call::Row { sender } => Some((self.row)(bench, state, sender, row)),
@@ -136,7 +158,7 @@ pub const NUMBERS: [u8; 20] = [0, 11, 12, 13, 14, 15, 16, 17, 18, 21, 22, 23, 24
 /// How often each number was answered.
 #[derive(Clone, Debug, Default)]
 pub struct Tally {
-    /// Of all calls but those for a sheet or a set of rules.
+    /// Of all calls but those for a name, a sheet or a set of rules.
     pub answers: BTreeMap<u8, u64>,
     pub calls: u64,
     /// Accepted lines that gave some fired action.
@@ -150,6 +172,8 @@ pub struct Tally {
     pub ranks: Counts,
     /// Of lines, and of calls for a set of rules.
     pub rests: Counts,
+    /// Of calls for an entity's name.
+    pub names: Counts,
 }
 
 impl Tally {
@@ -165,6 +189,7 @@ impl Tally {
         self.places.add(&other.places);
         self.ranks.add(&other.ranks);
         self.rests.add(&other.rests);
+        self.names.add(&other.names);
     }
 
     /// Counts one step and its answer, with the bench text and the memory before and after it.
@@ -173,6 +198,9 @@ impl Tally {
         if matches!(step.call, Call::Check) {
             self.places.take(text, answer);
             self.ranks.take(ranks::of_text(text, answer));
+        }
+        if let Call::Name { number } = step.call {
+            return self.names.take(names::of_call(text, number, answer));
         }
         if matches!(step.call, Call::Sheet { .. }) {
             return self.sheets.take(step, answer, after);

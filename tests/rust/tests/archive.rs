@@ -17,9 +17,11 @@ fn the_engine_is_not_the_interpreter() {
     let mut bench = vec![0; BENCH_SIZE];
     let before = texts_read();
     assert_eq!(archive::bench_check(b"rules end", &mut bench), 0);
+    assert_eq!(archive::bench_entity_name(b"rules end", 0), 0);
     assert_eq!(texts_read(), before);
     assert_eq!(calls::bench_check(b"rules end", &mut bench), 0);
-    assert_eq!(texts_read(), before + 1);
+    assert_eq!(calls::bench_entity_name(b"rules end", 0), 0);
+    assert_eq!(texts_read(), before + 2);
 }
 
 #[test]
@@ -39,6 +41,7 @@ fn cases_agree() {
     for number in 0..100 {
         assert!(compare::run(&generate::case(3, number)).is_ok(), "case {number}");
         assert!(compare::run(&generate::ranks::case(3, number)).is_ok(), "text {number} with ranks");
+        assert!(compare::run(&generate::names::case(3, number)).is_ok(), "case {number} with names");
         assert!(compare::run(&generate::rests::case(3, number)).is_ok(), "case {number} with rules at rest");
     }
 }

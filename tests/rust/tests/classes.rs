@@ -2,7 +2,7 @@
 //! classes are told from the right ones by these checks, and by the texts of the generator.
 
 use second::interpreter::accept;
-use second::interpreter::bytes::{byte_class, Class};
+use second::interpreter::bytes::{bench_byte_class, Class};
 use second::interpreter::text::{words, Token, TEXT_MOST};
 use second::places::coverage::{required, Coverage, Outcome};
 use second::places::Place;
@@ -298,10 +298,10 @@ fn counts_add_up() {
 
 #[test]
 fn classes_are_as_listed_counted_and_read() {
-    assert!(as_listed(byte_class));
-    assert!(as_counted(byte_class));
+    assert!(as_listed(bench_byte_class));
+    assert!(as_counted(bench_byte_class));
     for byte in 0..=255 {
-        assert!(fits(byte, byte_class(byte)), "byte {byte}, class {}", byte_class(byte));
+        assert!(fits(byte, bench_byte_class(byte)), "byte {byte}, class {}", bench_byte_class(byte));
     }
 }
 
@@ -310,7 +310,7 @@ fn classes_are_as_listed_counted_and_read() {
 fn each_byte_is_read_as_of_one_class_alone() {
     for byte in 0..=255 {
         let fitting: Vec<u64> = (0..8).filter(|&class| fits(byte, class)).collect();
-        assert_eq!(fitting, [byte_class(byte)], "byte {byte}");
+        assert_eq!(fitting, [bench_byte_class(byte)], "byte {byte}");
     }
 }
 
@@ -319,13 +319,13 @@ fn but(byte: u8, other: u8, class: u64) -> u64 {
     if byte == other {
         class
     } else {
-        byte_class(byte)
+        bench_byte_class(byte)
     }
 }
 
 /// The right class with two numbers exchanged.
 fn exchanged(byte: u8, first: u64, second: u64) -> u64 {
-    match byte_class(byte) {
+    match bench_byte_class(byte) {
         class if class == first => second,
         class if class == second => first,
         class => class,
@@ -351,16 +351,16 @@ const WRONG: [(&str, ClassOf, usize); 45] = [
     ("126 not allowed", |byte| but(byte, 126, NOT_ALLOWED), 700),
     ("127 for comments only", |byte| but(byte, 127, COMMENT), 30),
     ("255 for comments only", |byte| but(byte, 255, COMMENT), 15),
-    ("128 up for comments only", |byte| if byte > 127 { COMMENT } else { byte_class(byte) }, 80),
-    ("128 up letters", |byte| if byte > 127 { LETTER } else { byte_class(byte) }, 200),
-    ("128 up as 0 up", |byte| byte_class(byte & 127), 130),
+    ("128 up for comments only", |byte| if byte > 127 { COMMENT } else { bench_byte_class(byte) }, 80),
+    ("128 up letters", |byte| if byte > 127 { LETTER } else { bench_byte_class(byte) }, 200),
+    ("128 up as 0 up", |byte| bench_byte_class(byte & 127), 130),
     ("`#` for comments only", |byte| but(byte, b'#', COMMENT), 1_600),
     ("`#` a mark", |byte| but(byte, b'#', MARK), 1_400),
     ("a no letter", |byte| but(byte, b'a', COMMENT), 3_000),
     ("z no letter", |byte| but(byte, b'z', COMMENT), 1_400),
     ("A no letter", |byte| but(byte, b'A', COMMENT), 1_300),
     ("Z no letter", |byte| but(byte, b'Z', COMMENT), 1_400),
-    ("no capital a letter", |byte| if byte.is_ascii_uppercase() { COMMENT } else { byte_class(byte) }, 2_000),
+    ("no capital a letter", |byte| if byte.is_ascii_uppercase() { COMMENT } else { bench_byte_class(byte) }, 2_000),
     ("` a letter", |byte| but(byte, b'`', LETTER), 15),
     ("{ a letter", |byte| but(byte, b'{', LETTER), 600),
     ("@ a letter", |byte| but(byte, b'@', LETTER), 15),
@@ -378,7 +378,7 @@ const WRONG: [(&str, ClassOf, usize); 45] = [
     ("blank and `#` exchanged", |byte| exchanged(byte, BLANK, HASH), 2_000),
     ("`_` and `#` exchanged", |byte| exchanged(byte, UNDERSCORE, HASH), 2_000),
     ("comments only and not allowed exchanged", |byte| exchanged(byte, COMMENT, NOT_ALLOWED), 1_100),
-    ("numbers from 1", |byte| byte_class(byte) + 1, 3_000),
+    ("numbers from 1", |byte| bench_byte_class(byte) + 1, 3_000),
 ];
 
 #[test]
@@ -452,7 +452,7 @@ fn table(class: ClassOf) -> Table {
 /// wrong classes would be noticed: catches a generator whose texts lack bytes that tell them apart.
 #[test]
 fn generated_texts_are_read_by_the_classes() {
-    let right = table(byte_class);
+    let right = table(bench_byte_class);
     let wrong = WRONG.map(|(_, class, _)| table(class));
     let mut told = [0; WRONG.len()];
     let texts = (0..3_000).flat_map(|number| [generate::without_sheets(3, number).text, generate::places::case(3, number).text]);
@@ -480,7 +480,7 @@ fn placed_bytes_are_answered_as_of_one_class_alone() {
         }
     }
     for byte in 0..=255 {
-        let only = std::array::from_fn(|class| class as u64 == byte_class(byte));
+        let only = std::array::from_fn(|class| class as u64 == bench_byte_class(byte));
         assert_eq!(fitting[byte as usize], only, "byte {byte}");
     }
 }

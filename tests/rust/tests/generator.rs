@@ -1,7 +1,8 @@
 //! The generator itself: its valid benches are accepted, its cases draw every answer of the table, have bytes of every class at every kind
 //! of place, try ranks in every way, and tell machines that read clause filters in the wrong cycle, divide wholes by another rule or let
 //! other writes stand from the right one, a seed makes a case again. Its sheets are tried in tests/wrong_sheets.rs, what it does with
-//! senders in tests/wrong_senders.rs, its texts with ranks in tests/wrong_ranks.rs, its rules at rest in tests/wrong_rests.rs.
+//! senders in tests/wrong_senders.rs, its texts with ranks in tests/wrong_ranks.rs, its calls for names in tests/wrong_names.rs, its rules
+//! at rest in tests/wrong_rests.rs.
 
 use second::generate::bench::{bench, render, LARGE, LOOSE, SMALL};
 use second::generate::case::{Call, Case};
@@ -507,7 +508,7 @@ fn a_seed_makes_a_case_again() {
         assert_eq!(case, generate::case(3, number));
         assert_ne!(case, generate::case(4, number));
         assert_ne!(case, generate::case(3, number + 1));
-        for make in [generate::places::case, generate::spoils::case, generate::ranks::case, generate::rests::case] {
+        for make in [generate::places::case, generate::spoils::case, generate::ranks::case, generate::names::case, generate::rests::case] {
             let case = make(3, number);
             assert_eq!(case, make(3, number));
             assert_ne!(case, make(4, number));

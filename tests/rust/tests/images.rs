@@ -2,7 +2,7 @@
 
 mod common;
 use common::PEDAL;
-use second::calls::{bench_check, bench_header, bench_line, bench_row, bench_sheet, state_fresh};
+use second::calls::{bench_check, bench_fresh, bench_header, bench_line, bench_row, bench_sheet};
 use second::image::{fingerprint, state_bytes, BENCH_SIZE, ROW_SIZE, SHEET_LEAST, STATE_SIZE};
 
 const FILL: u8 = 0xa5;
@@ -18,7 +18,7 @@ fn fresh(text: &str) -> Memory {
     let filled = |size: usize| vec![FILL; size + 9];
     let mut memory = Memory { bench: filled(BENCH_SIZE), state: filled(STATE_SIZE), row: filled(ROW_SIZE) };
     assert_eq!(bench_check(text.as_bytes(), &mut memory.bench), 0);
-    assert_eq!(state_fresh(&memory.bench, &mut memory.state), 0);
+    assert_eq!(bench_fresh(&memory.bench, &mut memory.state), 0);
     memory
 }
 
@@ -190,8 +190,8 @@ fn short_memory() {
     let mut memory = pedal();
     let (bench, state, row) = (BENCH_SIZE - 1, STATE_SIZE - 1, ROW_SIZE - 1);
     assert_eq!(bench_check(&[b' '; 40_000], &mut memory.bench[..bench]), 31);
-    assert_eq!(state_fresh(&memory.bench[..bench], &mut memory.state), 31);
-    assert_eq!(state_fresh(&memory.bench, &mut memory.state[..state]), 31);
+    assert_eq!(bench_fresh(&memory.bench[..bench], &mut memory.state), 31);
+    assert_eq!(bench_fresh(&memory.bench, &mut memory.state[..state]), 31);
     assert_eq!(bench_header(&memory.bench[..bench], &mut memory.row), 31);
     assert_eq!(bench_header(&memory.bench, &mut memory.row[..row]), 31);
     assert_eq!(bench_row(&memory.bench[..bench], &memory.state, b"a", &mut memory.row), 31);
@@ -217,7 +217,7 @@ fn no_bench() {
     assert_eq!(memory.row(), 32);
     assert_eq!(bench_row(&memory.bench, &memory.state, b"1", &mut memory.row), 32);
     memory.bench[..4].copy_from_slice(&32_769u32.to_le_bytes());
-    assert_eq!(state_fresh(&memory.bench, &mut memory.state), 32);
+    assert_eq!(bench_fresh(&memory.bench, &mut memory.state), 32);
 }
 
 /// Writes these bytes at this place of a state with two senders. Gives the number that a row, a line and a sheet answer; a line sent again,

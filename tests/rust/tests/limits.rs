@@ -101,7 +101,7 @@ fn long_flat_sums() {
 fn line_feeds_in_lines() {
     let mut memory = (vec![0; BENCH_SIZE], vec![0; STATE_SIZE], vec![0; ROW_SIZE]);
     assert_eq!(calls::bench_check(b"rules end", &mut memory.0), 0);
-    assert_eq!(calls::state_fresh(&memory.0, &mut memory.1), 0);
+    assert_eq!(calls::bench_fresh(&memory.0, &mut memory.1), 0);
     let mut line = |names: &[u8], values: &[u8]| calls::bench_line(&memory.0, &mut memory.1, names, values, &mut memory.2);
     assert_eq!(line(b"by n\n", b"a 1"), 22);
     assert_eq!(line(b"by\nn", b"a 1"), 22);
@@ -159,7 +159,7 @@ fn longest_line_of_values() {
 fn greatest_number() {
     let mut memory = (vec![0; BENCH_SIZE], vec![0; STATE_SIZE], vec![0; ROW_SIZE]);
     calls::bench_check(b"rules end", &mut memory.0);
-    calls::state_fresh(&memory.0, &mut memory.1);
+    calls::bench_fresh(&memory.0, &mut memory.1);
     assert_eq!(calls::bench_line(&memory.0, &mut memory.1, b"by n", b"a 1", &mut memory.2), 3 << 8);
     assert_eq!(calls::bench_line(&memory.0, &mut memory.1, b"by n", b"b 1", &mut memory.2), 3 << 8);
     let number = sender_at(0, 0) + NUMBER_AT;

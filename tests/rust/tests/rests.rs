@@ -2,7 +2,7 @@
 
 mod common;
 use common::PEDAL;
-use second::calls::{bench_check, bench_line, rules_tried, state_fresh};
+use second::calls::{bench_check, bench_fresh, bench_line, rules_tried};
 use second::generate;
 use second::generate::case::Call;
 use second::image::{decode_bench, decode_state, BENCH_SIZE, ROW_SIZE, STATE_SIZE, TRIED_SIZE};
@@ -196,7 +196,7 @@ fn images() -> [Vec<u8>; 3] {
     let [mut bench, mut row] = [vec![0; BENCH_SIZE], vec![0; ROW_SIZE]];
     assert_eq!(bench_check(PEDAL.as_bytes(), &mut bench), 0);
     let mut first = vec![0; STATE_SIZE];
-    assert_eq!(state_fresh(&bench, &mut first), 0);
+    assert_eq!(bench_fresh(&bench, &mut first), 0);
     let mut second = first.clone();
     assert_eq!(bench_line(&bench, &mut second, b"by n p.down", b"a 1 true", &mut row) & 255, 0);
     [bench, first, second]

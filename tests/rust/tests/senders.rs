@@ -2,7 +2,7 @@
 
 mod common;
 use common::{prints, PEDAL};
-use second::calls::{bench_check, bench_header, bench_line, bench_row, bench_sheet, state_fresh};
+use second::calls::{bench_check, bench_fresh, bench_header, bench_line, bench_row, bench_sheet};
 use second::image::{state_bytes, BENCH_SIZE, ROW_SIZE, SHEET_LEAST, STATE_SIZE};
 use second::interpreter::text::{name_form, RESERVED};
 
@@ -16,7 +16,7 @@ struct Lent {
 fn fresh(text: &str) -> Lent {
     let mut lent = Lent { bench: vec![0; BENCH_SIZE], state: vec![0; STATE_SIZE], row: vec![0; ROW_SIZE] };
     assert_eq!(bench_check(text.as_bytes(), &mut lent.bench), 0);
-    assert_eq!(state_fresh(&lent.bench, &mut lent.state), 0);
+    assert_eq!(bench_fresh(&lent.bench, &mut lent.state), 0);
     lent
 }
 
@@ -170,7 +170,7 @@ fn a_sender_is_known_from_its_first_taken_line() {
         assert_eq!(lent.line("by n", format!("{sender} 1").as_bytes()), Ok(format!("{sender} 1")));
     }
     assert_eq!(lent.line("by n", b"i 1"), Err(42));
-    assert_eq!(state_fresh(&lent.bench, &mut lent.state), 0);
+    assert_eq!(bench_fresh(&lent.bench, &mut lent.state), 0);
     assert_eq!(lent.line("by n", b"i 1").as_deref(), Ok("i 1"));
     assert_eq!(lent.line("by n", b"a 2"), Err(24));
 }

@@ -2,7 +2,7 @@
 
 mod common;
 use common::PEDAL;
-use second::calls::{bench_check, bench_line, bench_sheet, state_fresh};
+use second::calls::{bench_check, bench_fresh, bench_line, bench_sheet};
 use second::image::{sender_at, sheet_size, store_at, BENCH_SIZE, NUMBER_AT, ROW_SIZE, STATE_SIZE};
 
 const FILL: u8 = 0xa5;
@@ -19,7 +19,7 @@ struct Lent {
 fn fresh(text: &str) -> Lent {
     let mut lent = Lent { bench: vec![FILL; BENCH_SIZE], state: vec![FILL; STATE_SIZE] };
     assert_eq!(bench_check(text.as_bytes(), &mut lent.bench), 0);
-    assert_eq!(state_fresh(&lent.bench, &mut lent.state), 0);
+    assert_eq!(bench_fresh(&lent.bench, &mut lent.state), 0);
     lent
 }
 

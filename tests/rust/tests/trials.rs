@@ -3,7 +3,7 @@
 
 mod common;
 use common::{keeping, prints, refusal, sum, PEDAL};
-use second::interpreter::entity_name;
+use second::interpreter::entity_part;
 
 #[test]
 fn pedal_bench() {
@@ -64,10 +64,13 @@ fn interfaces_and_long_names() {
 
 #[test]
 fn names_by_number() {
-    assert_eq!(entity_name(PEDAL.as_bytes(), 0), b"p");
-    assert_eq!(entity_name(PEDAL.as_bytes(), 2), b"k");
-    assert_eq!(entity_name(PEDAL.as_bytes(), 3), b"");
-    assert_eq!(entity_name(b"rules", 0), b"");
+    for (number, (word, name)) in [("entity p", "p"), ("entity s", "s"), ("entity k", "k")].into_iter().enumerate() {
+        let (offset, length) = entity_part(PEDAL.as_bytes(), number);
+        assert_eq!(Some(offset), PEDAL.find(word).map(|at| at + "entity ".len()));
+        assert_eq!(&PEDAL[offset..offset + length], name);
+    }
+    assert_eq!(entity_part(PEDAL.as_bytes(), 3), (0, 0));
+    assert_eq!(entity_part(b"rules", 0), (0, 0));
 }
 
 // The three mistakes to expect.

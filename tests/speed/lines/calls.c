@@ -75,7 +75,7 @@ static void line_calls(const char *folder, const char *name, int most)
     for (int round = -1; round < ROUNDS; round++) { /* the first one sums the rows and is not timed */
         size_t at = names + 1;
         int calls = 0;
-        state_fresh(bench, sizeof bench, state, sizeof state);
+        bench_fresh(bench, sizeof bench, state, sizeof state);
         double from = microseconds();
         while (at < size && calls < most) {
             uint8_t *end = memchr(readings + at, '\n', size - at);
@@ -113,7 +113,7 @@ static void check_calls(const char *folder, const char *name, const char *file, 
     }
     snprintf(label, sizeof label, "check-%s", name);
     report(label, times, 0);
-    state_fresh(bench, sizeof bench, state, sizeof state);
+    bench_fresh(bench, sizeof bench, state, sizeof state);
     for (int round = 0; round < ROUNDS; round++) {
         double from = microseconds();
         for (int i = 0; i < calls; i++)

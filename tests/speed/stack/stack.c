@@ -19,7 +19,7 @@ static uint64_t answer;
 
 static void *nothing(void *unused) { return unused; }
 static void *check(void *unused) { answer = bench_check(text, text_length, bench, sizeof bench); return unused; }
-static void *fresh(void *unused) { answer = state_fresh(bench, sizeof bench, state, sizeof state); return unused; }
+static void *fresh(void *unused) { answer = bench_fresh(bench, sizeof bench, state, sizeof state); return unused; }
 static void *line(void *unused)
 {
     answer = bench_line(bench, sizeof bench, state, sizeof state, (const uint8_t *)header, strlen(header), (const uint8_t *)record, strlen(record), row, sizeof row);
@@ -82,11 +82,11 @@ int main(int count, char **words)
     snprintf(readings, sizeof readings, "%s\n%s", header, record);
     printf("%s, %zu bytes of text\n", words[1], text_length);
     say("bench_check", check, base);
-    say("state_fresh", fresh, base);
+    say("bench_fresh", fresh, base);
     say("bench_line", line, base);
     say("bench_header", names, base);
     say("bench_row", shown, base);
-    state_fresh(bench, sizeof bench, state, sizeof state); /* from which the sheet's line is a new one */
+    bench_fresh(bench, sizeof bench, state, sizeof state); /* from which the sheet's line is a new one */
     say("bench_sheet", day, base);
     return 0;
 }

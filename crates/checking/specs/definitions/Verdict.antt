@@ -71,16 +71,20 @@ unfoldable pub accepted-file : List ℕ → Option File
 unfolding file-of verdict
 accepted-file text = file-of (verdict text)
 
+unfoldable pub nth-entity : Option File → ℕ → Option Entity
+nth-entity none n = none
+nth-entity (some f) n = getElem? (f .entities) n
+
+-- the entity of an accepted text with that number, "from 0, file order"
+unfoldable pub entity-of : List ℕ → ℕ → Option Entity
+unfolding nth-entity accepted-file
+entity-of text n = nth-entity (accepted-file text) n
+
 unfoldable pub name-if-found : Option Entity → List ℕ
 name-if-found none = []
 name-if-found (some e) = e .name .bytes
 
-unfoldable pub nth-name : Option File → ℕ → List ℕ
-unfolding name-if-found
-nth-name none n = []
-nth-name (some f) n = name-if-found (getElem? (f .entities) n)
-
 -- "An entity's name, found by its number (from 0, file order), is a part of the bench text, empty if there is none or the text is refused"
 unfoldable pub entity-name : List ℕ → ℕ → List ℕ
-unfolding nth-name accepted-file
-entity-name text n = nth-name (accepted-file text) n
+unfolding name-if-found entity-of
+entity-name text n = name-if-found (entity-of text n)

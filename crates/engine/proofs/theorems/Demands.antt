@@ -31,6 +31,7 @@ use Rattle.engine.specs.definitions.Calls.{
   Row-contract,
   Sheet-contract,
   Class-contract,
+  Entity-contract,
 }
 use Rattle.engine.specs.definitions.Runs.{Request, Run-start, Run, sight, ref-run, taken-lines}
 use Rattle.engine.specs.definitions.DemandOne.{
@@ -58,12 +59,14 @@ use Rattle.engine.specs.definitions.DemandTwo.{
   All-sent-before,
   All-sent-again,
   Reads-back,
+  Locates,
 }
 use Rattle.engine.specs.definitions.DemandThree.{Same-lines, Same-values, Side-by-side}
 use Rattle.engine.proofs.laws.NumberLaws.{check-numbered, fresh-numbered, line-numbered, header-numbered, row-numbered}
 use Rattle.engine.proofs.laws.CheckLaws.{check-admits}
 use Rattle.engine.proofs.laws.SheetLaws.{sheet-numbered, sheet-sheets}
 use Rattle.engine.proofs.laws.ClassLaws.{answer-classified}
+use Rattle.engine.proofs.laws.EntityLaws.{answer-locates}
 use Rattle.engine.proofs.laws.FollowsLaws.{fresh-freshens, line-follows, header-names, row-shows, row-reads-back}
 use Rattle.engine.proofs.laws.RunLaws.{run-stays, runs-apart, run-resent, run-sent-before}
 use Rattle.engine.proofs.laws.SentAgainLaws.{run-sent-again}
@@ -119,6 +122,8 @@ pub record Demand-two : Type 0 where
       → ((number-of r ≡ 0) ↔ Sheet-lent bench state readings cells) × (number-of r ≡ 0 → Sheets bench state readings cells sheet r new-sheet)
   -- the class of a byte (document 02, order 4), of all 256
   pub classes : (byte r : ℕ) → byte < 256 → Class-contract byte r → Classified byte r
+  -- "An entity's name, found by its number (from 0, file order), is a part of the bench text, empty if there is none or the text is refused"
+  pub entities : (text : List ℕ) (number r : ℕ) → Entity-contract text number r → Locates text number r
   -- "a resent line changes nothing and gives its first row again"
   pub resent : (text : List ℕ) (f : File) → verdict text ≡ Verdict.accepted f
       → (bench state : List ℕ) → Run-start text bench state
@@ -149,6 +154,7 @@ demand-two = record {
   shows = row-shows;
   sheets = sheet-sheets;
   classes = answer-classified;
+  entities = answer-locates;
   resent = run-resent;
   sent-before = run-sent-before;
   sent-again = run-sent-again;

@@ -1,7 +1,7 @@
--- The public calls as functions of the lent bytes: the answer, and every lent byte after the call. An answer has document 01's number in its
--- low 8 bits, 0 for acceptance, and above them the offset of a refusal of a text or the length of a written row or sheet. One call is lent no
--- memory: its answer is the class of a byte.
-use Prim.Native.Nat.{ℕ, _*_, _%_}
+-- The public calls as functions of the lent bytes: the answer, and every lent byte after the call. The answer of a call that is lent memory to
+-- write has document 01's number in its low 8 bits, 0 for acceptance, and above them the offset of a refusal of a text or the length of a written
+-- row or sheet. The two others refuse nothing: one answers with the class of a byte, one with where the name of an entity stands in a text.
+use Prim.Native.Nat.{ℕ, _+_, _*_, _%_}
 use mathlib.Core.Path.{_≡_}
 use mathlib.Core.List.{List, _++_}
 use mathlib.Core.Bool.{Bool, true, false, _||_}
@@ -10,7 +10,9 @@ use lib.Dec.{ltb}
 use lib.ListN.{length, drop}
 use Rattle.text.specs.definitions.Syntax.{File}
 use Rattle.text.specs.definitions.ByteClass.{byte-class}
+use Rattle.checking.specs.declared.names.Span.{Span}
 use Rattle.checking.specs.definitions.Verdict.{Verdict, verdict, verdict-answer}
+use Rattle.checking.specs.definitions.EntitySpan.{entity-span}
 use Rattle.cycles.specs.definitions.Row.{MOST-ROW-BYTES, row-header}
 use Rattle.senders.specs.definitions.Sender.{State, is-sender}
 use Rattle.senders.specs.definitions.Answer.{Answer, refused, accepted}
@@ -193,6 +195,10 @@ sheet-call bench state readings cells m = elim (ltb (length bench) BENCH || ltb 
   | false ↦ sheet-on-bench (fingerprint-of bench) (bench-of bench) state readings cells m
 ]
 
+-- entity name: a text lent, and a number; the length of the name stands above the low 8 bits, which are 0, and its offset above 8 more
+abbrev pub span-answer : Span → ℕ
+span-answer s = 256 * s .length + 65536 * s .at
+
 -- ---- the contracts: what a call answers, and the memory that it leaves, on all input
 
 abbrev pub Check-contract : (text bench new-bench : List ℕ) → ℕ → Type 0
@@ -218,3 +224,8 @@ Sheet-contract bench state readings cells sheet new-sheet r =
 -- "let a call give the class of a byte" (document 02, order 4): no memory is lent, nothing is refused, and the answer is the class itself
 abbrev pub Class-contract : (byte : ℕ) → ℕ → Type 0
 Class-contract byte r = r ≡ byte-class byte
+
+-- "An entity's name, found by its number (from 0, file order), is a part of the bench text, empty if there is none or the text is refused": no memory
+-- is lent to be written, nothing is refused, and the answer says where that part stands
+abbrev pub Entity-contract : (text : List ℕ) (number : ℕ) → ℕ → Type 0
+Entity-contract text number r = r ≡ span-answer (entity-span text number)

@@ -1,15 +1,17 @@
--- Demand 2: what accepted calls leave and give, what a line sent again gives, and how a row reads back.
-use Prim.Native.Nat.{ℕ, suc, _≤_}
+-- Demand 2: what accepted calls leave and give, what a line sent again gives, how a row reads back, and where a name stands.
+use Prim.Native.Nat.{ℕ, suc, _+_, _/_, _%_, _≤_}
 use mathlib.Core.Path.{_≡_}
+use mathlib.Core.Logic.{_↔_}
 use mathlib.Core.List.{List, [], _∷_, _++_, map, List·Memᴰ}
 use mathlib.Core.Bool.{true, cond}
 use mathlib.Core.Option.{Option, none, some}
-use lib.ListN.{length, getElem?}
+use lib.ListN.{length, getElem?, take, drop}
 use Rattle.values.specs.declared.Number.the-variants.{Is}
 use Rattle.values.specs.definitions.Bytes.{same-bytes}
 use Rattle.values.specs.definitions.Forms.{magnitude, event-field, read-back}
 use Rattle.text.specs.definitions.Syntax.{File}
-use Rattle.checking.specs.definitions.Verdict.{Verdict, verdict}
+use Rattle.checking.specs.definitions.Verdict.{Verdict, verdict, entity-name}
+use Rattle.checking.specs.definitions.EntitySpan.{No-entity}
 use Rattle.cycles.specs.definitions.Outcome.{running}
 use Rattle.cycles.specs.definitions.Spots.{Spot}
 use Rattle.cycles.specs.definitions.Fields.{fields}
@@ -188,3 +190,20 @@ pub record Reads-back (f : File) (x : Sender) (r : List ℕ) : Type 0 where
   pub number : (t : List ℕ) → getElem? (fields r) 1 ≡ some t → magnitude t ≡ Is (x .last)
   pub fired : (i : ℕ) (p : Spot) (t : List ℕ) → getElem? (action-cells f) i ≡ some p → getElem? (fields r) (suc (suc i)) ≡ some t
       → event-field (p .what .kind) t ≡ read-back (x .fired (p .entity) (p .member))
+
+-- ---- where a name stands
+
+-- the length and the offset in an answer
+abbrev pub name-length : ℕ → ℕ
+name-length answer = answer / 256 % 256
+
+abbrev pub name-offset : ℕ → ℕ
+name-offset answer = answer / 65536
+
+-- "An entity's name .. is a part of the bench text, empty if there is none or the text is refused": the part that the answer tells, or 0
+pub record Locates (text : List ℕ) (number answer : ℕ) : Type 0 where
+  -- the low 8 bits, where other calls have a refusal's number, are 0
+  pub low-bits : number-of answer ≡ 0
+  pub within : name-offset answer + name-length answer ≤ length text
+  pub is : take (name-length answer) (drop (name-offset answer) text) ≡ entity-name text number
+  pub empty : (answer ≡ 0) ↔ No-entity text number

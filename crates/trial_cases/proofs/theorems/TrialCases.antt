@@ -1,8 +1,8 @@
 -- The cases that document 01 marks P, as document 02 amends them, in one statement, from raw bytes through check, fresh, line, header and row; what
--- document 02's order 1 is for, as two laws about a clause. And order 5's senders and order 6's priorities, in statements of their own.
+-- document 02's order 1 is for, as two laws about a clause. And order 5's senders, order 6's priorities and entities' names, in statements of their own.
 use Prim.Native.Nat.{ℕ, _+_, _*_}
 use mathlib.Core.Path.{_≡_, refl}
-use mathlib.Core.List.{[], _∷_}
+use mathlib.Core.List.{[], _∷_, map}
 use mathlib.Core.Bool.{Bool, true, false, _&&_}
 use mathlib.Core.Option.{some}
 use lib.Ieee as Ieee
@@ -29,6 +29,7 @@ use Rattle.trial_cases.specs.definitions.Trials.{
   row-printed,
   refused-with,
   checked-as,
+  name-located,
 }
 use Rattle.trial_cases.proofs.laws.Joining.{clause-on-joining, clause-once}
 
@@ -145,3 +146,18 @@ pub record Priority-cases : Type 0 where
 pub priority-cases : Priority-cases
 unfolding one-lamp lines-printed row-printed checked-as ascii
 priority-cases = record { safety-first = refl; safety-middle = refl; safety-last = refl; above-nine = refl; before-counts = refl; grammar-first = refl }
+
+-- "An entity's name, found by its number (from 0, file order), is a part of the bench text, empty if there is none or the text is refused": lengths
+-- and offsets counted in the text
+pub record Entity-name-cases : Type 0 where
+  pub pedal-entities : map (name-located pedal) (0 ∷ 1 ∷ 2 ∷ 3 ∷ [])
+      ≡ (256 * 1 + 65536 * 113) ∷ (256 * 1 + 65536 * 130) ∷ (256 * 1 + 65536 * 147) ∷ 0 ∷ []
+  pub lamp-entities : map (name-located lamps) (0 ∷ 1 ∷ 2 ∷ []) ≡ (256 * 4 + 65536 * 90) ∷ (256 * 4 + 65536 * 121) ∷ 0 ∷ []
+  pub no-entities : name-located (ascii "rules end") 0 ≡ 0
+  -- a word short of a file, and an interface that is unknown
+  pub refused-text : name-located (ascii "interface P { } entity p : P { } rules") 0 ≡ 0
+  pub refused-file : name-located (ascii "entity p : P { } rules end") 0 ≡ 0
+
+pub entity-name-cases : Entity-name-cases
+unfolding pedal lamps name-located ascii
+entity-name-cases = record { pedal-entities = refl; lamp-entities = refl; no-entities = refl; refused-text = refl; refused-file = refl }

@@ -4,9 +4,21 @@ use Prim.Native.String.{String}
 use mathlib.Core.List.{List, [], _∷_, _++_, map}
 use lib.ListN.{take, replicate}
 use Rattle.text.specs.definitions.Bytes.{ascii}
+use Rattle.checking.specs.definitions.EntitySpan.{entity-span}
 use Rattle.senders.specs.definitions.StateImage.{STATE}
 use Rattle.engine.specs.definitions.BenchImage.{BENCH}
-use Rattle.engine.specs.definitions.Calls.{ROW, check-call, fresh-call, header-call, row-call, After-check, After-fresh, After-line, After-row}
+use Rattle.engine.specs.definitions.Calls.{
+  ROW,
+  check-call,
+  fresh-call,
+  header-call,
+  row-call,
+  After-check,
+  After-fresh,
+  After-line,
+  After-row,
+  span-answer,
+}
 use Rattle.engine.specs.definitions.Runs.{Request, replies}
 
 -- "Pedal bench (P)"
@@ -106,3 +118,8 @@ refused-with code = record { number = code; row = [] }
 unfoldable pub checked-as : List ℕ → ℕ
 unfolding check-call
 checked-as text = check-call text (replicate BENCH 0) .answer
+
+-- where the name of an entity stands, as its call answers
+unfoldable pub name-located : List ℕ → ℕ → ℕ
+unfolding entity-span
+name-located text number = span-answer (entity-span text number)

@@ -18,6 +18,10 @@ pub const EXACT: Lent = Lent { bench: BENCH_SIZE, state: STATE_SIZE, row: ROW_SI
 #[derive(Clone, Debug, PartialEq, Eq)]
 pub enum Call {
     Check,
+    /// Where the entity of this number has its name.
+    Name {
+        number: usize,
+    },
     Fresh,
     Header,
     Row {

@@ -1,6 +1,6 @@
 //! Seeded cases: valid benches and readings of several senders, damage in every way of document 01's table, limits, random bytes; in
-//! between sheets, and calls about senders that leave the state alone. Texts with bytes put in, texts with a fault at a rank, states with a
-//! part spoilt and runs whose lines move little are cases of their own.
+//! between sheets, and calls about senders that leave the state alone. Texts with bytes put in, texts with a fault at a rank, calls for
+//! entities' names, states with a part spoilt and runs whose lines move little are cases of their own.
 
 pub mod agains;
 pub mod bench;
@@ -10,6 +10,7 @@ pub mod damage;
 pub mod days;
 pub mod limits;
 pub mod lines;
+pub mod names;
 pub mod places;
 pub mod prng;
 pub mod probes;

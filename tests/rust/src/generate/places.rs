@@ -12,10 +12,15 @@ const PUT_IN: u64 = 0x6279_7465_0000;
 /// The check of a text with bytes put in, of this number.
 pub fn case(seed: u64, number: u64) -> Case {
     let mut prng = Prng::for_case(seed ^ PUT_IN, number);
-    let words = bench::bench(&mut prng, SMALL).words;
-    let mut text = bench::render(&mut prng, &words);
-    put_in(&mut prng, &mut text);
-    checked(text, prng.draw())
+    checked(text(&mut prng), prng.draw())
+}
+
+/// A text with bytes put in.
+pub fn text(prng: &mut Prng) -> Vec<u8> {
+    let words = bench::bench(prng, SMALL).words;
+    let mut text = bench::render(prng, &words);
+    put_in(prng, &mut text);
+    text
 }
 
 pub fn checked(text: Vec<u8>, fill: u64) -> Case {

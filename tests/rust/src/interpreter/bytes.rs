@@ -33,6 +33,6 @@ pub fn class(byte: u8) -> Class {
 }
 
 /// The answer of the call: the number of the class.
-pub fn byte_class(byte: u8) -> u64 {
+pub fn bench_byte_class(byte: u8) -> u64 {
     class(byte) as u64
 }

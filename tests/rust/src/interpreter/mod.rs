@@ -36,10 +36,9 @@ pub fn accept(text: &[u8]) -> Result<Bench<'_>, Refusal> {
     Ok(bench)
 }
 
-/// An entity's name by its number, a part of the text; empty if there is none or the text is refused.
-pub fn entity_name(text: &[u8], number: usize) -> &[u8] {
-    match accept(text) {
-        Ok(bench) => bench.entities.get(number).map_or(&[], |entity| entity.name.text),
-        Err(_) => &[],
-    }
+/// Where an entity's name stands in the text, offset and length: "An entity's name, found by its number (from 0, file order), is a part of
+/// the bench text, empty if there is none or the text is refused." The empty part is that at offset 0.
+pub fn entity_part(text: &[u8], number: usize) -> (usize, usize) {
+    let Ok(bench) = accept(text) else { return (0, 0) };
+    bench.entities.get(number).map_or((0, 0), |entity| (entity.name.place, entity.name.text.len()))
 }

@@ -1,57 +1,44 @@
--- `entity_name` meets its contract: the arrays have room for every text that is not too long.
+-- `entity_name` meets its contract: the span lies in the text, and its bytes are the name.
 use native.Mathlib.Omega.{arith}
-use Rattle.checking.proofs.laws.CheckLaws.{room-for-all}
+use Rattle.checking.proofs.theorems.EntitySpans.{span-spans}
+use Rattle.checking.proofs.laws.DirectoryLaws.{whole-there}
+use mathlib.Core.Path.{refl, _∙_}
 use borrow.Author.Needs.{needs}
 use Rattle.checking.proofs.names.entity_name.Statement.{statement}
 use Rattle.checking.proofs.names.entity_name.Tie as tie
 
-slice-aggregate-check : tie.Need-slice-aggregate-check
-slice-aggregate-check c = search needs
+entity-span-requires : tie.Need-entity-span-requires
+entity-span-requires c κs = search needs
 
-slice-aggregate-check-2 : tie.Need-slice-aggregate-check-2
-slice-aggregate-check-2 c = search needs
+add-end : tie.Need-add-end
+add-end c =
+    let args = c .before .before .before .args in
+    omega (arith, span-spans (args .text .now) (args .number) (c .before .entity-span .ensures) .within)
 
-slice-aggregate-check-3 : tie.Need-slice-aggregate-check-3
-slice-aggregate-check-3 c = search needs
+sub-result : tie.Need-sub-result
+sub-result c = omega arith
 
-slice-aggregate-check-4 : tie.Need-slice-aggregate-check-4
-slice-aggregate-check-4 c = search needs
+part-result-start : tie.Need-part-result-start
+part-result-start c = omega arith
 
-slice-aggregate-check-5 : tie.Need-slice-aggregate-check-5
-slice-aggregate-check-5 c = search needs
-
-check-requires : tie.Need-check-requires
-check-requires c κs = search needs
-
-slice-aggregate-name-checked : tie.Need-slice-aggregate-name-checked
-slice-aggregate-name-checked c = search needs
-
-slice-aggregate-name-checked-2 : tie.Need-slice-aggregate-name-checked-2
-slice-aggregate-name-checked-2 c = search needs
-
-slice-aggregate-name-checked-3 : tie.Need-slice-aggregate-name-checked-3
-slice-aggregate-name-checked-3 c = search needs
-
-name-checked-requires : tie.Need-name-checked-requires
-name-checked-requires c κs = search needs
+part-result-end : tie.Need-part-result-end
+part-result-end c =
+    let args = c .before .before .before .args in
+    omega (arith, span-spans (args .text .now) (args .number) (c .before .entity-span .ensures) .within)
 
 returns : tie.Need-returns
 returns c =
-    c .name-checked .ensures .told _ _ _ _ (c .before .before .before .before .before .before .before .before .before .check .ensures)
-    (room-for-all _ _ _ (omega arith) (omega arith) (omega arith) (omega arith) (omega arith))
+    let args = c .before .before .before .before .args in
+    let span = c .before .before .entity-span in
+    whole-there (args .text .now) {offset = span .result .at} {size = span .result .length} refl refl ∙ span-spans (args .text .now) (args .number) (span .ensures) .is
 
 pub entity-name-spec : {M : Type 1} → statement M
 entity-name-spec =
     tie.close
     (tie.spec
-    slice-aggregate-check
-    slice-aggregate-check-2
-    slice-aggregate-check-3
-    slice-aggregate-check-4
-    slice-aggregate-check-5
-    check-requires
-    slice-aggregate-name-checked
-    slice-aggregate-name-checked-2
-    slice-aggregate-name-checked-3
-    name-checked-requires
+    entity-span-requires
+    add-end
+    sub-result
+    part-result-start
+    part-result-end
     returns)

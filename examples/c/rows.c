@@ -1,9 +1,9 @@
 /* A short program to copy: it checks a bench file, then gives each line of a file of readings to the engine and prints the rows; with
  * cells, also the day sheet. Each line is sent twice, as by a controller that gets no answer in time: nothing is stored twice.
  *
- *     cc -I include example.c libengine.a -o example
- *     ./example bench.txt readings.txt
- *     ./example bench.txt readings.txt 's.pos k.keep'
+ *     cc -Iinclude rows.c libengine.a -o rows
+ *     ./rows bench.txt readings.txt
+ *     ./rows bench.txt readings.txt 's.pos k.keep'
  */
 #include "bench_engine.h"
 
@@ -87,7 +87,7 @@ static uint64_t send_line(struct bytes names, struct bytes line)
  * Any other number: the call was refused and changed no byte; for lines the number is all there is to say. */
 static void print_row(uint64_t answer)
 {
-    if (BENCH_NUMBER(answer) == 0) {
+    if (BENCH_NUMBER(answer) == BENCH_ACCEPTED) {
         fwrite(row, 1, BENCH_REST(answer), stdout);
         putchar('\n');
     } else {
@@ -111,7 +111,7 @@ static void print_sheet(struct bytes day, const char *cells)
         exit(2);
     }
     answer = bench_sheet(bench, sizeof bench, morning, sizeof morning, day.start, day.length, (const uint8_t *)cells, strlen(cells), sheet, size);
-    if (BENCH_NUMBER(answer) == 0)
+    if (BENCH_NUMBER(answer) == BENCH_ACCEPTED)
         fwrite(sheet, 1, BENCH_REST(answer), stdout);
     else
         printf("refused %u\n", BENCH_NUMBER(answer));
@@ -120,7 +120,7 @@ static void print_sheet(struct bytes day, const char *cells)
 
 int main(int count, char **arguments)
 {
-    struct bytes text, day, rest, line, names = {(uint8_t *)"", 0}, nothing = {(uint8_t *)"a 0", 3};
+    struct bytes text, day, rest, line, names = {(uint8_t *)"", 0}, nothing = {(uint8_t *)"", 0};
     unsigned long lines = 0;
     uint64_t answer;
     if (count != 3 && count != 4) {
@@ -133,20 +133,20 @@ int main(int count, char **arguments)
 
     /* Once per bench file. If it is refused (11 to 18, 44), the bits above the number are the offset of the fault in the text. */
     answer = bench_check(text.start, text.length, bench, sizeof bench);
-    if (BENCH_NUMBER(answer) != 0) {
+    if (BENCH_NUMBER(answer) != BENCH_ACCEPTED) {
         printf("refused %u %zu\n", BENCH_NUMBER(answer), BENCH_REST(answer));
         return 1;
     }
     /* Once per run, and after any edit of the bench file: a state belongs to its text. From now on leave bench and state alone between calls:
      * the engine refuses by 32 or 33 what is none. */
-    state_fresh(bench, sizeof bench, state, sizeof state);
+    bench_fresh(bench, sizeof bench, state, sizeof state);
     memcpy(morning, state, sizeof state);
 
     /* The first line names the columns, after `by n`; it is handed to every call, and each call may refuse it by 22. To learn of that before
-     * any values are there, number 0 is sent: it is always refused, by 24 after names of no columns, by 21 after others, by 22 if ill formed. */
+     * any values are there, values of length 0 are sent: they are always refused, by 22 if the names are ill formed, else by 21. */
     next_line(&rest, &names);
     answer = take_line(names, nothing);
-    if (BENCH_NUMBER(answer) == 22) {
+    if (BENCH_NUMBER(answer) == BENCH_NAMES_ILL_FORMED) {
         print_row(answer);
         return 1;
     }

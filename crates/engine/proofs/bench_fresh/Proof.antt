@@ -1,9 +1,9 @@
 use Rattle.engine.proofs.steps.EntryLaws.{fresh-no-bench, fresh-short, fresh-served}
 use borrow.Author.Needs.{needs}
-use Rattle.engine.proofs.state_fresh.Statement.{statement}
-use Rattle.engine.proofs.state_fresh.Tie as tie
-use Rattle.engine.proofs.state_fresh.Reads as reads
-use Rattle.engine.proofs.state_fresh.Lts as lts
+use Rattle.engine.proofs.bench_fresh.Statement.{statement}
+use Rattle.engine.proofs.bench_fresh.Tie as tie
+use Rattle.engine.proofs.bench_fresh.Reads as reads
+use Rattle.engine.proofs.bench_fresh.Lts as lts
 use Rattle.engine.proofs.bench.text_of.Reads as text-of-reads
 use Rattle.engine.proofs.serve.serve.Reads as serve-reads
 
@@ -47,8 +47,8 @@ returns-3 c =
     let serve₀ = c .before .before .before .serve in
     fresh-served _ _ (if1₀ .left) (if2₀ .left) _ _ _ _ _ (text-of₀ .ensures) (serve₀ .ensures)
 
-pub state-fresh-spec : {M : Type 1} → statement M
-state-fresh-spec =
+pub bench-fresh-spec : {M : Type 1} → statement M
+bench-fresh-spec =
     tie.close
     (tie.spec
     returns
