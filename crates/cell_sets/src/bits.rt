@@ -3,6 +3,7 @@ ghost use Rattle.std.specs.Prelude.{ℕ, ◌+◌, ◌/◌, ◌<◌, ◌≡◌, �
 ghost use Rattle.cell_sets.specs.definitions.Sets.{has_bit};
 ghost use Rattle.cell_sets.specs.inner_contracts.Meeting.{with_member};
 
+#[tactic(auto, unfolding(crate::specs::definitions::Sets::has_bit))]
 pub fn has_bit(n: u64, k: u8) -> bool
     requires { k < 64 }
     ensures { result ≡ has_bit n k }
@@ -18,6 +19,7 @@ pub fn with_bit(n: u64, k: u8) -> u64
 }
 
 // Puts i into the set whose bytes begin at base.
+#[tactic(auto, using(crate::proofs::laws::BitLaws::bit_shifted), unfolding(crate::specs::inner_contracts::Meeting::with_member))]
 pub fn add(sets: &mut [u8], base: usize, i: usize)
     requires { base + i / 8 < length sets.old }
     ensures { sets.new ≡ with_member base sets.old i }

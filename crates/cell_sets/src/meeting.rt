@@ -7,6 +7,7 @@ ghost use Rattle.cell_sets.specs.inner_contracts.Meeting.{byte_meets, Met};
 use crate::bits::with_bit;
 
 // Adds to the bits of `met` the rows whose byte number j has a bit in common with this byte.
+#[tactic(auto, using(crate::proofs::steps::AddingSteps::added_begin, crate::proofs::steps::AddingSteps::added_end, crate::proofs::steps::MeetingSteps::row_within))]
 fn add_meeting(
     rows: &[u8],
     base: usize,
@@ -33,6 +34,7 @@ fn add_meeting(
 }
 
 // Which of so many rows have a number in common with the set, as the bits of a number. Byte by byte of the set, since few of its bytes are not 0.
+#[tactic(auto, using(crate::proofs::steps::MeetingSteps::met_begin, crate::proofs::steps::MeetingSteps::met_skip, crate::proofs::steps::MeetingSteps::met_next, crate::proofs::steps::MeetingSteps::met_end))]
 pub fn rows_met(rows: &[u8], base: usize, size: usize, count: u8, set: &[u8]) -> u64
     requires { (count ≤ 64) × (base + size * count ≤ length rows.now) × (size ≤ length set.now) }
     ensures { Met rows.now base size count set.now result }

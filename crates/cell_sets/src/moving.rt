@@ -9,6 +9,7 @@ use values::{cell, differ, is_set, word_at};
 
 // Do the bytes of cell number i say that it has the value that it had? Most cells did not move, and no values are made of those: the tags are compared, and
 // the 8 bytes as one number.
+#[tactic(auto, using(crate::proofs::laws::MovingLaws::same_bytes_same, crate::proofs::laws::MovingLaws::no_tag_same))]
 fn same_bits(cells: &[u8], previous_cells: &[u8], i: usize) -> bool
     requires { (i * 9 + 9 ≤ length cells.now) × (i * 9 + 9 ≤ length previous_cells.now) }
     ensures { result ≡ true → cells_differ cells.now previous_cells.now i ≡ false }
@@ -26,6 +27,7 @@ fn same_bits(cells: &[u8], previous_cells: &[u8], i: usize) -> bool
 }
 
 // Where bits differ values decide: the two zeros are equal.
+#[tactic(auto, unfolding(crate::specs::inner_contracts::Moving::cells_differ))]
 fn values_differ(cells: &[u8], previous_cells: &[u8], i: usize) -> bool
     requires { (i * 9 + 9 ≤ length cells.now) × (i * 9 + 9 ≤ length previous_cells.now) }
     ensures { result ≡ cells_differ cells.now previous_cells.now i }
@@ -37,6 +39,7 @@ fn values_differ(cells: &[u8], previous_cells: &[u8], i: usize) -> bool
 }
 
 // Adds the cells of a range whose values differ.
+#[tactic(auto, using(crate::proofs::steps::AddingSteps::added_begin, crate::proofs::steps::AddingSteps::added_end, crate::proofs::steps::MovingSteps::cell_passes, crate::proofs::steps::MovingSteps::cell_fails))]
 fn add_differing(first: usize, end: usize, cells: &[u8], previous_cells: &[u8], moved: &mut [u8])
     requires { (first ≤ end) × (end * 9 ≤ length cells.now) × (end * 9 ≤ length previous_cells.now)
         × (end ≤ 8 * length moved.old) }
@@ -52,6 +55,7 @@ fn add_differing(first: usize, end: usize, cells: &[u8], previous_cells: &[u8], 
 }
 
 // Adds the cells of a range that are set: those that moved if their entity is present only now, or was only before.
+#[tactic(auto, using(crate::proofs::steps::AddingSteps::added_begin, crate::proofs::steps::AddingSteps::added_end, crate::proofs::steps::MovingSteps::cell_passes, crate::proofs::steps::MovingSteps::cell_fails, crate::proofs::steps::MovingSteps::set_here))]
 fn add_all_set(first: usize, end: usize, cells: &[u8], moved: &mut [u8])
     requires { (first ≤ end) × (end * 9 ≤ length cells.now) × (end ≤ 8 * length moved.old) }
     ensures { Added (cell_is_set cells.now) first end (is_in moved.old) (is_in moved.new) }
@@ -66,6 +70,7 @@ fn add_all_set(first: usize, end: usize, cells: &[u8], moved: &mut [u8])
 }
 
 // Adds the cells of an entity that moved, by its two flags.
+#[tactic(auto, using(crate::proofs::steps::MovingSteps::present_both, crate::proofs::steps::MovingSteps::present_now, crate::proofs::steps::MovingSteps::present_before, crate::proofs::steps::MovingSteps::present_never))]
 fn add_moved(
     flag: u8,
     previous_flag: u8,
@@ -95,6 +100,7 @@ fn add_moved(
 }
 
 // Makes of an empty set that of the cells of n entities, so many each, that read another value than before.
+#[tactic(auto, using(crate::proofs::steps::MovingSteps::entity_next, crate::proofs::steps::MovingSteps::entity_within, crate::proofs::steps::MovingSteps::moved_begin, crate::proofs::steps::MovingSteps::moved_next, crate::proofs::steps::MovingSteps::moved_end))]
 pub fn find_moved(
     n: usize,
     per: usize,

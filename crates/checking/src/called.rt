@@ -1,8 +1,9 @@
 // What a file declares, by the bytes of a name, which need not be a token's.
 ghost use Rattle.std.specs.Prelude.{◌≤◌, length};
 ghost use Rattle.std.proofs.Math.ListN.{get_elem?};
-ghost use Rattle.checking.specs.definitions.CountFaults.{MOST_INTERFACES, MOST_ENTITIES};
-ghost use Rattle.checking.specs.inner_contracts.Directory.{NO_INTERFACE, NO_ENTITY, NO_MEMBER, interface_number, entity_number, member_number};
+ghost use Rattle.checking.specs.definitions.CountFaults;
+ghost use Rattle.checking.specs.inner_contracts.Directory;
+ghost use Rattle.checking.specs.inner_contracts.Directory.{interface_number, entity_number, member_number};
 ghost use Rattle.checking.specs.inner_contracts.DirectoryReads.{NumberOf, FewMembers};
 ghost use Rattle.checking.specs.inner_contracts.Called.{FirstCalled};
 
@@ -14,6 +15,7 @@ use crate::table::{name, row};
 use values::same_bytes;
 
 // The first of the directory's items, so many rows from `base` on, that is called so; `most` if there is none.
+#[tactic(auto, using(crate::proofs::laws::CalledLaws::items_passed))]
 fn first_called(
     text: &[u8],
     offsets: &[u16],
@@ -49,8 +51,8 @@ pub fn interface_called(
     d: &[u16],
     called: &[u8],
 ) -> usize
-    ensures { NumberOf text.now offsets.now lengths.now d.now NO_INTERFACE
-        (λ f. length f.interfaces ≤ MOST_INTERFACES)
+    ensures { NumberOf text.now offsets.now lengths.now d.now Directory.NO_INTERFACE
+        (λ f. length f.interfaces ≤ CountFaults.MOST_INTERFACES)
         (λ f. interface_number f called.now) result }
 {
     first_called(
@@ -73,8 +75,8 @@ pub fn entity_called(
     d: &[u16],
     called: &[u8],
 ) -> usize
-    ensures { NumberOf text.now offsets.now lengths.now d.now NO_ENTITY
-        (λ f. length f.entities ≤ MOST_ENTITIES)
+    ensures { NumberOf text.now offsets.now lengths.now d.now Directory.NO_ENTITY
+        (λ f. length f.entities ≤ CountFaults.MOST_ENTITIES)
         (λ f. entity_number f called.now) result }
 {
     first_called(
@@ -98,7 +100,7 @@ pub fn member_called(
     face: usize,
     called: &[u8],
 ) -> usize
-    ensures { NumberOf text.now offsets.now lengths.now d.now NO_MEMBER (FewMembers face)
+    ensures { NumberOf text.now offsets.now lengths.now d.now Directory.NO_MEMBER (FewMembers face)
         (λ f. member_number (get_elem? f.interfaces face) called.now) result }
 {
     if row(d, INTERFACE_COUNT_ROW) <= face {

@@ -29,6 +29,7 @@ pub enum Checked {
 // ---- the faults of a file
 
 // The earliest faults of the rules: of the names in them, and of their kinds.
+#[tactic(auto, using(crate::proofs::steps::RulesLaws::ruled_all))]
 fn rules_faults(text: &[u8], classes: &[u8], offsets: &[u16], lengths: &[u8], d: &[u16]) -> Faulted
     ensures { RulesFound text.now classes.now offsets.now lengths.now d.now result }
 {
@@ -52,6 +53,7 @@ fn rules_faults(text: &[u8], classes: &[u8], offsets: &[u16], lengths: &[u8], d:
 }
 
 // The earliest faults of a file within the counts: of its names, and of its kinds.
+#[tactic(auto, using(crate::proofs::steps::RulesLaws::file_told))]
 fn file_faults(text: &[u8], classes: &[u8], offsets: &[u16], lengths: &[u8], d: &[u16]) -> Faulted
     ensures { FileFound text.now classes.now offsets.now lengths.now d.now result }
 {
@@ -69,6 +71,7 @@ fn file_faults(text: &[u8], classes: &[u8], offsets: &[u16], lengths: &[u8], d: 
 }
 
 // The first fault, or the second if there is no first, wherever they stand.
+#[tactic(auto, unfolding(crate::specs::inner_contracts::FoundFaults::found_as, crate::specs::inner_contracts::FileWalk::or_else))]
 fn otherwise(first: Found, second: Found) -> Found
     ensures { found_as result ≡ or_else (found_as first) (found_as second) }
 {
@@ -103,6 +106,7 @@ fn judged(
 // ---- the answer
 
 // The first n rows, or all if there are fewer.
+#[tactic(auto, using(crate::proofs::laws::CheckLaws::rows_all, crate::proofs::laws::CheckLaws::rows_first))]
 fn first_rows(classes: &[u8], n: usize) -> &[u8]
     ensures { result.now ≡ take n classes.now }
 {
@@ -123,6 +127,7 @@ fn refused(code: u8, p: usize) -> Checked
     Checked::Refused { code, at: p as u32 }
 }
 
+#[tactic(auto, unfolding(crate::specs::inner_contracts::CheckSteps::concluded))]
 fn concluded(n: usize, found: Found) -> Checked
     ensures { result ≡ concluded n found }
 {
@@ -133,6 +138,7 @@ fn concluded(n: usize, found: Found) -> Checked
 }
 
 // The answer by what `read` made of the text and the columns.
+#[tactic(auto, using(crate::proofs::laws::CheckLaws::settled_answers))]
 fn settled(
     syntax: Syntax,
     text: &[u8],

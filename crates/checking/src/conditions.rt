@@ -1,6 +1,6 @@
 // Names and kinds of conditions and calls.
 ghost use Rattle.text.specs.definitions.Readers.{many};
-ghost use Rattle.text.specs.definitions.Tokens.{COMMA};
+ghost use Rattle.text.specs.definitions.Tokens;
 ghost use Rattle.text.specs.definitions.Grammar.{target_reader, filter_reader, test_reader, clause_reader, atom_reader, conjunction_reader, condition_reader};
 ghost use Rattle.text.specs.definitions.Grammar.{call_reader, call_after};
 ghost use Rattle.checking.specs.inner_contracts.RuleParts.{NothingFound, Matched, After, Joined, PlaceWalk, FilterWalk, TestWalk, ConditionWalk};
@@ -54,6 +54,7 @@ fn matched(kind: u8, offset: u32, e: Kinded) -> Part
 }
 
 // With a name's fault before it.
+#[tactic(auto, using(crate::proofs::steps::CheckedParts::after))]
 fn after(first: Found, p: Part) -> Part
     ensures { After first p result }
 {
@@ -358,7 +359,7 @@ pub fn further_calls(
     at: usize,
 ) -> Part
     ensures { CallsWalk text.now classes.now offsets.now lengths.now d.now start
-        (many COMMA call_after) at result }
+        (many Tokens.COMMA call_after) at result }
 {
     let mut before = nothing(at);
     while class_at(classes, before.next) == COMMA {

@@ -3,8 +3,7 @@
 ghost use Rattle.std.specs.Prelude.{◌≡◌, ◌-◌, length};
 ghost use Rattle.checking.specs.definitions.Faults.{earliest};
 ghost use Rattle.checking.specs.inner_contracts.FoundFaults.{found_as};
-ghost use Rattle.checking.specs.definitions.CountFaults.{MOST_INTERFACES, MOST_MEMBERS, MOST_ENTITIES, MOST_RULES, MOST_VARIABLES};
-ghost use Rattle.checking.specs.definitions.CountFaults.{MOST_CLAUSES, MOST_CALLS};
+ghost use Rattle.checking.specs.definitions.CountFaults;
 ghost use Rattle.checking.specs.inner_contracts.CountScan.{past, declared_scan, ruled_scan};
 ghost use Rattle.checking.specs.inner_contracts.CountChecked.{CountChecked};
 
@@ -27,6 +26,7 @@ fn one_less(n: usize) -> usize
 }
 
 // A fault at token number i if no more items may come.
+#[tactic(auto, using(crate::proofs::steps::CountScanLaws::past_none, crate::proofs::steps::CountScanLaws::past_one), unfolding(crate::specs::inner_contracts::FoundFaults::found_as))]
 fn over(offsets: &[u16], left: usize, i: usize) -> Found
     ensures { found_as result ≡ earliest (past offsets.now left i) }
 {
@@ -40,9 +40,10 @@ fn over(offsets: &[u16], left: usize, i: usize) -> Found
 }
 
 // Interfaces, their members, and entities: of the tokens before number `end`.
+#[tactic(auto, using(crate::proofs::steps::CountScanLaws::declared_turns))]
 fn declaration_fault(classes: &[u8], offsets: &[u16], end: usize) -> Found
     ensures { found_as result
-        ≡ earliest (declared_scan classes.now offsets.now end 0 MOST_INTERFACES MOST_MEMBERS MOST_ENTITIES) }
+        ≡ earliest (declared_scan classes.now offsets.now end 0 CountFaults.MOST_INTERFACES CountFaults.MOST_MEMBERS CountFaults.MOST_ENTITIES) }
 {
     let mut interfaces: usize = MOST_INTERFACES;
     let mut members: usize = MOST_MEMBERS;
@@ -76,10 +77,11 @@ fn declaration_fault(classes: &[u8], offsets: &[u16], end: usize) -> Found
 }
 
 // Rules, and in each its variables, clauses and calls: of the tokens from number `from` on.
+#[tactic(auto, using(crate::proofs::steps::CountScanLaws::ruled_turns))]
 fn rule_fault(classes: &[u8], offsets: &[u16], from: usize) -> Found
     ensures { found_as result
-        ≡ earliest (ruled_scan classes.now offsets.now (length classes.now - from) from MOST_RULES MOST_VARIABLES
-        MOST_CLAUSES MOST_CALLS) }
+        ≡ earliest (ruled_scan classes.now offsets.now (length classes.now - from) from CountFaults.MOST_RULES CountFaults.MOST_VARIABLES
+        CountFaults.MOST_CLAUSES CountFaults.MOST_CALLS) }
 {
     let mut rules: usize = MOST_RULES;
     let mut variables: usize = MOST_VARIABLES;

@@ -24,6 +24,7 @@ fn put(d: &mut [u16], at: usize, n: u16)
 
 // Puts the numbers of the tokens of classes low to high, of those from number `from` up to `end`, into the rows from `base` on, at most
 // so many of them. Answers how many there are.
+#[tactic(auto, using(crate::proofs::steps::PlaceLaws::marking_ends))]
 fn mark(
     classes: &[u8],
     low: u8,
@@ -60,6 +61,7 @@ fn mark(
 }
 
 // Marks the members of so many interfaces, of the most that a file may have.
+#[tactic(auto, using(crate::proofs::steps::PlaceLaws::membering_starts, crate::proofs::steps::PlaceLaws::membering_ends, crate::proofs::steps::PlaceLaws::membering_breaks))]
 fn mark_members(classes: &[u8], interfaces: u16, d: &mut [u16])
     ensures { MembersMarked classes.now interfaces d.old d.new }
 {

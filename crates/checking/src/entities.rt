@@ -18,6 +18,7 @@ use text::classes;
 use text::walks::class_at;
 
 // Writes the interface of each entity into the directory, by its number; NO_INTERFACE if the file has none of that name.
+#[tactic(auto, using(crate::proofs::steps::LinkLaws::not_linked, crate::proofs::steps::LinkLaws::linking_none))]
 pub fn link_entities(text: &[u8], offsets: &[u16], lengths: &[u8], d: &mut [u16])
     ensures { EntitiesLinked text.now offsets.now lengths.now d.old d.new }
 {
@@ -59,6 +60,7 @@ struct Assigned {
 }
 
 // The class of a literal's kind, by the class of its last token.
+#[tactic(auto, using(crate::proofs::laws::AssignmentLaws::literal_classes))]
 fn literal_kind(class: u8) -> u8
     ensures { result ≡ literal_class class }
 {
@@ -72,6 +74,7 @@ fn literal_kind(class: u8) -> u8
 }
 
 // The last token of the assignment that begins at token number q.
+#[tactic(auto, using(crate::proofs::laws::AssignmentLaws::assignment_ends))]
 pub fn assignment_end(classes: &[u8], q: usize) -> usize
     ensures { AssignmentEnd classes.now q result }
 {
@@ -90,6 +93,7 @@ pub fn assignment_end(classes: &[u8], q: usize) -> usize
 }
 
 // Does an assignment from token number `from` up to number `to` set the name of token number i?
+#[tactic(auto, using(crate::proofs::laws::AssignmentLaws::looking_turns))]
 fn sets(
     text: &[u8],
     classes: &[u8],
@@ -115,6 +119,7 @@ fn sets(
 }
 
 // Is member number m of interface number `face` an attribute?
+#[tactic(auto, using(crate::proofs::laws::AssignmentLaws::no_attribute, crate::proofs::laws::AssignmentLaws::attribute_told))]
 fn is_attribute(classes: &[u8], d: &[u16], face: usize, m: usize) -> bool
     ensures { AttributeMember classes.now d.now face m result }
 {
@@ -125,6 +130,7 @@ fn is_attribute(classes: &[u8], d: &[u16], face: usize, m: usize) -> bool
 }
 
 // The fault of the name at token number q, member number m, if it is no attribute of interface number `face`.
+#[tactic(auto, using(crate::proofs::laws::AssignmentLaws::attribute_unasked, crate::proofs::laws::AssignmentLaws::attribute_asked), unfolding(crate::specs::inner_contracts::FoundFaults::found_as))]
 fn attribute_fault(
     classes: &[u8],
     offsets: &[u16],
@@ -143,6 +149,7 @@ fn attribute_fault(
 }
 
 // The fault at the `=` of an assignment to member number m, if its literal, which ends at token number `last`, has another kind.
+#[tactic(auto, using(crate::proofs::laws::AssignmentLaws::kind_unasked, crate::proofs::laws::AssignmentLaws::kind_asked), unfolding(crate::specs::inner_contracts::FoundFaults::found_as))]
 fn kind_fault(
     classes: &[u8],
     offsets: &[u16],
@@ -164,6 +171,7 @@ fn kind_fault(
 }
 
 // The assignments from token number `from` on, of an entity with interface number `face`.
+#[tactic(auto, using(crate::proofs::steps::BodyLaws::assigning_turns), unfolding(crate::specs::inner_contracts::FoundFaults::found_as))]
 fn assignment_faults(
     text: &[u8],
     classes: &[u8],
@@ -206,6 +214,7 @@ fn assignment_faults(
 }
 
 // The fault at the `}`, token number `to`, of an entity that leaves out an attribute of interface number `face`.
+#[tactic(auto, using(crate::proofs::steps::UnsetLaws::settled_turns), unfolding(crate::specs::inner_contracts::FoundFaults::found_as))]
 fn unset_fault(
     text: &[u8],
     classes: &[u8],
@@ -246,6 +255,7 @@ fn unset_fault(
 // ---- whole entities
 
 // The faults of entity number e.
+#[tactic(auto, using(crate::proofs::steps::EntityLaws::entity_beyond, crate::proofs::steps::EntityLaws::entity_told))]
 fn faults_of(
     text: &[u8],
     classes: &[u8],
@@ -277,6 +287,7 @@ fn faults_of(
 }
 
 // The earliest faults of the entities: of their names and of the names in them, and of their kinds.
+#[tactic(auto, using(crate::proofs::steps::EntityLaws::walked_all))]
 pub fn entity_faults(
     text: &[u8],
     classes: &[u8],

@@ -25,6 +25,7 @@ pub struct Kinded {
 }
 
 // One kind, or none, which fits anywhere.
+#[tactic(auto, using(crate::proofs::laws::KindCodes::none_fits, crate::proofs::laws::KindCodes::fits_none, crate::proofs::laws::KindCodes::fits_alike))]
 pub fn kinds_fit(j: u8, k: u8) -> bool
     ensures { KindsFit j k result }
 {
@@ -38,6 +39,7 @@ pub fn kinds_fit(j: u8, k: u8) -> bool
 }
 
 // A bool never fits an operator.
+#[tactic(auto, using(crate::proofs::laws::KindCodes::left_bool, crate::proofs::laws::KindCodes::right_bool, crate::proofs::laws::KindCodes::no_bool))]
 fn operands_fit(j: u8, k: u8) -> bool
     ensures { OperandsFit j k result }
 {
@@ -50,6 +52,7 @@ fn operands_fit(j: u8, k: u8) -> bool
     kinds_fit(j, k)
 }
 
+#[tactic(auto, using(crate::proofs::laws::KindCodes::bool_operated, crate::proofs::laws::KindCodes::other_operated, crate::proofs::laws::KindCodes::alike_operated))]
 fn operated_kind(j: u8, k: u8) -> u8
     ensures { OperatedKind j k result }
 {
@@ -215,6 +218,7 @@ fn leaf(
     literal(at, 0)
 }
 
+#[tactic(auto, unfolding(text::specs::definitions::Grammar::is_factor_operator))]
 fn is_factor_operator(class: u8) -> bool
     ensures { result ≡ is_factor_operator class }
 {
@@ -224,6 +228,7 @@ fn is_factor_operator(class: u8) -> bool
     class == DIVIDE
 }
 
+#[tactic(auto, unfolding(text::specs::definitions::Grammar::is_term_operator))]
 fn is_term_operator(class: u8) -> bool
     ensures { result ≡ is_term_operator class }
 {

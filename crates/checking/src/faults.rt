@@ -11,6 +11,7 @@ pub enum Found {
 }
 
 // What two parts have, one after the other.
+#[tactic(auto, unfolding(crate::specs::inner_contracts::FoundFaults::found_as, crate::specs::inner_contracts::FoundFaults::merged, crate::specs::definitions::Faults::earlier))]
 pub fn earlier(a: Found, b: Found) -> Found
     ensures { found_as result ≡ merged (found_as a) (found_as b) }
 {
@@ -24,6 +25,7 @@ pub fn earlier(a: Found, b: Found) -> Found
 }
 
 // A fault unless the test passes.
+#[tactic(auto, using(crate::proofs::laws::FaultLaws::earliest_passed, crate::proofs::laws::FaultLaws::earliest_failed), unfolding(crate::specs::inner_contracts::FoundFaults::found_as))]
 pub fn unless(ok: bool, code: u8, at: u32) -> Found
     ensures { found_as result ≡ earliest (fault_unless ok code at) }
 {

@@ -39,6 +39,7 @@ pub fn repeated(
 }
 
 // The earliest fault of the interfaces' names, and of the members' names in each of them.
+#[tactic(auto, using(crate::proofs::steps::InterfaceLaws::interfaces_begin, crate::proofs::steps::InterfaceLaws::interfaces_next, crate::proofs::steps::InterfaceLaws::interfaces_end))]
 pub fn interface_faults(text: &[u8], offsets: &[u16], lengths: &[u8], d: &[u16]) -> Found
     ensures { InterfacesFound text.now offsets.now lengths.now d.now result }
 {

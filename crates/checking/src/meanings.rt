@@ -1,7 +1,7 @@
 // What the names in a rule mean: an entity, or a variable of the rule, and a member of its interface.
 ghost use Rattle.std.specs.Prelude.{◌≡◌, ◌&&◌, eqb, get_or};
 ghost use Rattle.values.specs.definitions.Bytes.{same_bytes};
-ghost use Rattle.text.specs.definitions.Tokens.{COLON};
+ghost use Rattle.text.specs.definitions.Tokens;
 ghost use Rattle.checking.specs.inner_contracts.Directory.{name_in};
 ghost use Rattle.checking.specs.inner_contracts.RuleParts.{Declaration, RepeatedAt, Repeated, Meant, SortFits, CellOf, Declared};
 
@@ -40,7 +40,7 @@ pub fn offset(offsets: &[u16], i: usize) -> u32
 
 // Does a token before one of this class declare a variable named as token number i? That token is number n.
 pub fn declares(text: &[u8], offsets: &[u16], lengths: &[u8], class: u8, n: usize, i: usize) -> bool
-    ensures { result ≡ (eqb class COLON && same_bytes (name_in text.now offsets.now lengths.now i)
+    ensures { result ≡ (eqb class Tokens.COLON && same_bytes (name_in text.now offsets.now lengths.now i)
         (name_in text.now offsets.now lengths.now n)) }
 {
     if class != COLON {
@@ -50,6 +50,7 @@ pub fn declares(text: &[u8], offsets: &[u16], lengths: &[u8], class: u8, n: usiz
 }
 
 // The token that first declares, in the rule that begins at `start`, a variable named as token number i; the number of tokens if none does.
+#[tactic(auto, using(crate::proofs::steps::RuleNames::sought_turns))]
 pub fn declaration(
     text: &[u8],
     classes: &[u8],
@@ -76,6 +77,7 @@ pub fn declaration(
 }
 
 // A fault if token number n, before one of this class, declares a variable that the rule has declared before.
+#[tactic(auto, using(crate::proofs::steps::RuleNames::repeated_other, crate::proofs::steps::RuleNames::repeated_again))]
 fn repeated_at(
     text: &[u8],
     classes: &[u8],
@@ -95,6 +97,7 @@ fn repeated_at(
 }
 
 // The first variable that the rule which begins at `start` declares again.
+#[tactic(auto, using(crate::proofs::steps::RuleNames::repeating_none, crate::proofs::steps::RuleNames::repeating_on))]
 pub fn repeated(text: &[u8], classes: &[u8], offsets: &[u16], lengths: &[u8], start: usize) -> Found
     ensures { Repeated text.now classes.now offsets.now lengths.now start result }
 {
@@ -115,6 +118,7 @@ pub fn repeated(text: &[u8], classes: &[u8], offsets: &[u16], lengths: &[u8], st
 }
 
 // What token number i means in the rule that begins at `start`: an entity comes before a variable of its name.
+#[tactic(auto, using(crate::proofs::steps::MeaningLaws::entity_meant))]
 pub fn meaning_of(
     text: &[u8],
     classes: &[u8],
@@ -149,6 +153,7 @@ pub fn meaning_of(
 }
 
 // Is a member of this sort one that is wanted: an attribute, an event, an action or, by the class of names, any?
+#[tactic(auto, using(crate::proofs::steps::MeaningLaws::sorts_wanted))]
 fn sort_fits(want: u8, sort: u8) -> bool
     ensures { SortFits want sort result }
 {
@@ -165,6 +170,7 @@ fn sort_fits(want: u8, sort: u8) -> bool
 }
 
 // The member of interface number `face` that token number i names, where one of a sort is wanted.
+#[tactic(auto, using(crate::proofs::steps::MeaningLaws::a_cell))]
 pub fn cell_of(
     text: &[u8],
     classes: &[u8],

@@ -16,6 +16,7 @@ pub struct Span {
 }
 
 // Where the name of an entity stands, by the answer of the check.
+#[tactic(auto, using(crate::proofs::steps::EntitySpanLaws::spans_short))]
 fn span_checked(
     text: &[u8],
     offsets: &[u16],
@@ -63,6 +64,7 @@ pub fn entity_span(text: &[u8], number: usize) -> Span
 }
 
 // That part of the text.
+#[tactic(auto, using(crate::proofs::theorems::EntitySpans::span_spans, crate::proofs::laws::DirectoryLaws::whole_there))]
 pub fn entity_name(text: &[u8], number: usize) -> &[u8]
     ensures { result.now ≡ entity_name text.now number }
 {

@@ -11,6 +11,7 @@ use text::classes::RANK;
 use text::walks::{class_at, value_at};
 
 // A fault at token number i, the number of a priority, if it is above the greatest one.
+#[tactic(auto, unfolding(crate::specs::inner_contracts::PriorityScan::number_fault_at))]
 fn above(offsets: &[u16], values: &[u32], i: usize) -> Found
     ensures { found_as result ≡ earliest (number_fault_at offsets.now values.now i) }
 {
@@ -22,6 +23,7 @@ fn above(offsets: &[u16], values: &[u32], i: usize) -> Found
 }
 
 // The earliest priority above the greatest one, of a grammatical file.
+#[tactic(auto, using(crate::proofs::steps::PriorityScanLaws::priority_turns))]
 pub fn priority_fault(classes: &[u8], offsets: &[u16], values: &[u32]) -> Found
     ensures { PriorityChecked classes.now offsets.now values.now result }
 {

@@ -2,7 +2,8 @@
 ghost use Rattle.std.specs.Prelude.{◌≡◌, ◌+◌, ◌*◌, ◌≤◌, leb, length, set};
 ghost use Rattle.checking.specs.inner_contracts.Resolving.{VariableReference, Referred, OwnerOf, MemberOf, RowResolved, NamesResolved};
 ghost use Rattle.checking.specs.inner_contracts.Resolving.{DeclarationNumber, present, InterfaceAt, VariablesHeld, ScopesResolved};
-ghost use Rattle.checking.specs.inner_contracts.Resolution.{scope_row, ALL_SCOPE_ROWS, Resolves};
+ghost use Rattle.checking.specs.inner_contracts.Resolution;
+ghost use Rattle.checking.specs.inner_contracts.Resolution.{scope_row, Resolves};
 
 use crate::layout::{
     FIRST_VARIABLE_16, MOST_MEMBERS_16, MOST_RULES_8, NO_ENTITY, RULE_COUNT_ROW, RULE_ROWS,
@@ -32,6 +33,7 @@ pub struct Variables {
 }
 
 // The variable that token number i names in the rule that begins at `start`, by its reference; NO_REFERENCE if there is none, or for the 224th and later ones.
+#[tactic(auto, using(crate::proofs::steps::ReferenceLaws::referring_turns))]
 fn variable_reference(
     text: &[u8],
     classes: &[u8],
@@ -85,6 +87,7 @@ fn reference(
 }
 
 // The token that names what token number i is a member of, if the tokens around it say that it is one; else the count of tokens.
+#[tactic(auto, using(crate::proofs::steps::ReferenceLaws::owners))]
 pub fn owner_of(classes: &[u8], i: usize) -> usize
     ensures { OwnerOf classes.now i result }
 {
@@ -133,6 +136,7 @@ fn member_of(
 }
 
 // Row i of the column of references, in the rule that begins at `start`.
+#[tactic(auto, using(crate::proofs::steps::ReferenceLaws::row_alone, crate::proofs::steps::ReferenceLaws::row_with_member))]
 fn row_resolved(
     text: &[u8],
     classes: &[u8],
@@ -153,6 +157,7 @@ fn row_resolved(
 }
 
 // Fills the rows of all names from the first rule on; those before it are of no use.
+#[tactic(auto, using(crate::proofs::steps::ResolvedNames::naming_first))]
 pub fn resolve_names(
     text: &[u8],
     classes: &[u8],
@@ -183,6 +188,7 @@ pub fn resolve_names(
 }
 
 // The token that declares variable number v of the rule that begins at `start`; the count of tokens if none does.
+#[tactic(auto, using(crate::proofs::steps::ScopeLaws::counting_turns))]
 fn declaration_number(classes: &[u8], start: usize, v: u8) -> usize
     ensures { DeclarationNumber classes.now start v result }
 {
@@ -224,6 +230,7 @@ fn interface_at(
 }
 
 // How many of three declarations there are, of tokens that many.
+#[tactic(auto, unfolding(crate::specs::inner_contracts::Resolving::present))]
 fn present(a: usize, b: usize, c: usize, size: usize) -> u8
     ensures { result ≡ present (leb size a) (leb size b) (leb size c) }
 {
@@ -240,6 +247,7 @@ fn present(a: usize, b: usize, c: usize, size: usize) -> u8
 }
 
 // The variables of the rule that begins at `start`.
+#[tactic(auto, using(crate::proofs::steps::ScopeLaws::variables_held))]
 fn variables_of(
     text: &[u8],
     classes: &[u8],
@@ -283,6 +291,7 @@ fn put_variables(scopes: &mut [u8], k: u8, v: Variables)
 }
 
 // Fills the rows of all rules.
+#[tactic(auto, using(crate::proofs::steps::ScopeLaws::scoping_none))]
 pub fn resolve_scopes(
     text: &[u8],
     classes: &[u8],
@@ -291,7 +300,7 @@ pub fn resolve_scopes(
     d: &[u16],
     scopes: &mut [u8],
 )
-    requires { ALL_SCOPE_ROWS ≤ length scopes.old }
+    requires { Resolution.ALL_SCOPE_ROWS ≤ length scopes.old }
     ensures { ScopesResolved text.now classes.now offsets.now lengths.now d.now
         scopes.old scopes.new }
 {
@@ -310,6 +319,7 @@ pub fn resolve_scopes(
 }
 
 // Resolves the names of all rules, and what variables each rule has.
+#[tactic(auto, using(crate::proofs::steps::ResolutionLaws::resolves))]
 pub fn resolve(
     text: &[u8],
     classes: &[u8],
@@ -319,7 +329,7 @@ pub fn resolve(
     refs: &mut [u16],
     scopes: &mut [u8],
 )
-    requires { (length classes.now ≤ length refs.old) × (ALL_SCOPE_ROWS ≤ length scopes.old) }
+    requires { (length classes.now ≤ length refs.old) × (Resolution.ALL_SCOPE_ROWS ≤ length scopes.old) }
     ensures { Resolves text.now classes.now offsets.now lengths.now d.now refs.old
         scopes.old refs.new scopes.new }
 {

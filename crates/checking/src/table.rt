@@ -2,8 +2,9 @@
 ghost use Rattle.std.specs.Prelude.{◌≡◌, ◌<◌, ◌≤◌, length, get_or};
 ghost use Rattle.std.proofs.Math.ListN.{get_elem?};
 ghost use Rattle.values.specs.definitions.Bytes.{same_bytes};
-ghost use Rattle.checking.specs.definitions.CountFaults.{MOST_INTERFACES, MOST_ENTITIES};
-ghost use Rattle.checking.specs.inner_contracts.Directory.{name_in, sort_class, kind_class, NO_INTERFACE, NO_ENTITY, NO_MEMBER, interface_number};
+ghost use Rattle.checking.specs.definitions.CountFaults;
+ghost use Rattle.checking.specs.inner_contracts.Directory;
+ghost use Rattle.checking.specs.inner_contracts.Directory.{name_in, sort_class, kind_class, interface_number};
 ghost use Rattle.checking.specs.inner_contracts.Directory.{entity_number, member_number};
 ghost use Rattle.checking.specs.inner_contracts.ClassSearch.{FirstOf};
 ghost use Rattle.checking.specs.inner_contracts.DirectoryReads.{FirstNamed, NumberOf, MemberRow, MemberClass, FewMembers};
@@ -67,6 +68,7 @@ pub fn same_name(text: &[u8], offsets: &[u16], lengths: &[u8], i: usize, j: usiz
 }
 
 // The first of the directory's items, so many rows from `base` on, whose name is that of token number i; `most` if there is none.
+#[tactic(auto, using(crate::proofs::laws::DirectoryLaws::items_passed))]
 pub fn first_named(
     text: &[u8],
     offsets: &[u16],
@@ -96,8 +98,8 @@ pub fn first_named(
 
 // The interface that token number i names; NO_INTERFACE if there is none.
 pub fn interface_number(text: &[u8], offsets: &[u16], lengths: &[u8], d: &[u16], i: usize) -> usize
-    ensures { NumberOf text.now offsets.now lengths.now d.now NO_INTERFACE
-        (λ f. length f.interfaces ≤ MOST_INTERFACES)
+    ensures { NumberOf text.now offsets.now lengths.now d.now Directory.NO_INTERFACE
+        (λ f. length f.interfaces ≤ CountFaults.MOST_INTERFACES)
         (λ f. interface_number f (name_in text.now offsets.now lengths.now i)) result }
 {
     first_named(
@@ -114,8 +116,8 @@ pub fn interface_number(text: &[u8], offsets: &[u16], lengths: &[u8], d: &[u16],
 
 // The entity that token number i names; NO_ENTITY if there is none.
 pub fn entity_number(text: &[u8], offsets: &[u16], lengths: &[u8], d: &[u16], i: usize) -> usize
-    ensures { NumberOf text.now offsets.now lengths.now d.now NO_ENTITY
-        (λ f. length f.entities ≤ MOST_ENTITIES)
+    ensures { NumberOf text.now offsets.now lengths.now d.now Directory.NO_ENTITY
+        (λ f. length f.entities ≤ CountFaults.MOST_ENTITIES)
         (λ f. entity_number f (name_in text.now offsets.now lengths.now i)) result }
 {
     first_named(
@@ -139,7 +141,7 @@ pub fn member_number(
     face: usize,
     i: usize,
 ) -> usize
-    ensures { NumberOf text.now offsets.now lengths.now d.now NO_MEMBER (FewMembers face)
+    ensures { NumberOf text.now offsets.now lengths.now d.now Directory.NO_MEMBER (FewMembers face)
         (λ f. member_number (get_elem? f.interfaces face) (name_in text.now offsets.now lengths.now i)) result }
 {
     if row(d, INTERFACE_COUNT_ROW) <= face {
@@ -172,6 +174,7 @@ pub fn member_at(d: &[u16], face: usize, m: usize) -> usize
 }
 
 // The class that says the sort of member number m of interface number `face`.
+#[tactic(auto, using(crate::proofs::laws::DirectoryLaws::sort_stands))]
 pub fn member_sort(classes: &[u8], d: &[u16], face: usize, m: usize) -> u8
     ensures { MemberClass classes.now d.now face m (λ x. sort_class x.sort) result }
 {
@@ -179,6 +182,7 @@ pub fn member_sort(classes: &[u8], d: &[u16], face: usize, m: usize) -> u8
 }
 
 // The class that says the kind of member number m of interface number `face`.
+#[tactic(auto, using(crate::proofs::laws::DirectoryLaws::kind_stands))]
 pub fn member_kind(classes: &[u8], d: &[u16], face: usize, m: usize) -> u8
     ensures { MemberClass classes.now d.now face m (λ x. kind_class x.kind) result }
 {

@@ -1,11 +1,13 @@
 // The rules that are tried, each for every binding of its variables.
 ghost use Rattle.std.specs.Prelude.{◌+◌, ◌*◌, ◌≤◌, ◌≡◌, cond, length, get_or};
-ghost use Rattle.checking.specs.inner_contracts.Directory.{ENTITY_COUNT_ROW, rule_row};
-ghost use Rattle.checking.specs.definitions.CountFaults.{MOST_ENTITIES, MOST_INTERFACES};
-ghost use Rattle.cycles.specs.definitions.Planes.{MOST_CELL_BYTES};
+ghost use Rattle.checking.specs.inner_contracts.Directory;
+ghost use Rattle.checking.specs.inner_contracts.Directory.{rule_row};
+ghost use Rattle.checking.specs.definitions.CountFaults;
+ghost use Rattle.cycles.specs.definitions.Planes;
 ghost use Rattle.cycles.specs.inner_contracts.AllRules.{complete, candidate, Ranged, Ranges, BindingsPut, SetPut, RulesPut};
-ghost use Rattle.cycles.specs.inner_contracts.Guards.{ALL_GUARD_ROWS, GuardsFound, MarksSet};
-ghost use Rattle.cycles.specs.inner_contracts.Evaluation.{MOST_PENDING_BYTES};
+ghost use Rattle.cycles.specs.inner_contracts.Guards;
+ghost use Rattle.cycles.specs.inner_contracts.Guards.{GuardsFound, MarksSet};
+ghost use Rattle.cycles.specs.inner_contracts.Evaluation;
 
 use crate::calls::rule_at;
 use crate::evaluate::{Binding, is_present, with_entity};
@@ -48,6 +50,7 @@ struct Range {
     end: u8,
 }
 
+#[tactic(auto, using(crate::proofs::steps::BindingPuts::range_turns))]
 fn range_of(d: &[u16], flags: &[u8], n: u8, face: u8) -> Range
     ensures { Ranged d.now flags.now n face result.first result.end }
 {
@@ -69,8 +72,9 @@ fn range_of(d: &[u16], flags: &[u8], n: u8, face: u8) -> Range
 }
 
 // The ranges of all interfaces, in two rows each.
+#[tactic(auto, using(crate::proofs::steps::BindingPuts::range_put))]
 fn find_ranges(d: &[u16], flags: &[u8], n: u8, ranges: &mut [u8])
-    requires { 2 * MOST_INTERFACES ≤ length ranges.old }
+    requires { 2 * CountFaults.MOST_INTERFACES ≤ length ranges.old }
     ensures { Ranges d.now flags.now n ranges.new }
 {
     let mut face: u8 = 0;
@@ -93,6 +97,7 @@ fn mark_of(is: bool) -> u8
 }
 
 // Marks the candidates for an interface, from number `first` on, below `end`.
+#[tactic(auto, using(crate::proofs::steps::BindingPuts::marks_more))]
 fn mark_candidates(d: &[u16], flags: &[u8], face: u8, first: u8, end: u8, marks: &mut [u8])
     requires { end ≤ length marks.old }
     ensures { MarksSet d.now flags.now face first end marks.new }
@@ -123,8 +128,8 @@ fn bind(
     b: Binding,
     area: &mut [u8],
 )
-    requires in_bounds { MOST_PENDING_BYTES ≤ length area.old }
-    requires ranges { Ranges d.now flags.now (get_or d.now ENTITY_COUNT_ROW 0) ranges.now }
+    requires in_bounds { Evaluation.MOST_PENDING_BYTES ≤ length area.old }
+    requires ranges { Ranges d.now flags.now (get_or d.now Directory.ENTITY_COUNT_ROW 0) ranges.now }
     requires guards_found { GuardsFound classes.now refs.now (get_or d.now (rule_row k) 0 + 1) guards.now count }
     ensures { BindingsPut classes.now values.now d.now refs.now scopes.now flags.now
         cells.now previous_flags.now previous_cells.now k level b area.old area.new }
@@ -208,7 +213,7 @@ fn rule_guards(
     k: u8,
     guards: &mut [usize],
 ) -> usize
-    requires { ALL_GUARD_ROWS ≤ length guards.old }
+    requires { Guards.ALL_GUARD_ROWS ≤ length guards.old }
     ensures { GuardsFound classes.now refs.now (get_or d.now (rule_row k) 0 + 1) guards.new result }
 {
     if class_at(scopes, SCOPE_ROWS * (k as usize)) == 0 {
@@ -218,6 +223,7 @@ fn rule_guards(
 }
 
 // The rules of a set, by their numbers, one after another: what they write goes into the area.
+#[tactic(auto, using(crate::proofs::steps::RulePuts::rules_in_turn))]
 fn try_rules(
     classes: &[u8],
     values: &[u32],
@@ -231,7 +237,7 @@ fn try_rules(
     set: u64,
     area: &mut [u8],
 )
-    requires { MOST_PENDING_BYTES ≤ length area.old }
+    requires { Evaluation.MOST_PENDING_BYTES ≤ length area.old }
     ensures { SetPut classes.now values.now d.now refs.now scopes.now flags.now
         cells.now previous_flags.now previous_cells.now area.old area.new set }
 {
@@ -278,6 +284,7 @@ fn try_rules(
 
 // What all rules write goes into the area. A rule that reads no cell that moved would write nothing: it is passed over. Answers the set of the rules
 // that are tried.
+#[tactic(auto, using(crate::proofs::steps::RulePuts::none_tried))]
 pub fn all_rules(
     classes: &[u8],
     values: &[u32],
@@ -290,9 +297,9 @@ pub fn all_rules(
     previous_cells: &[u8],
     area: &mut [u8],
 ) -> u64
-    requires in_bounds { MOST_PENDING_BYTES ≤ length area.old }
-    requires in_bounds_2 { (MOST_ENTITIES ≤ length flags.now) × (MOST_ENTITIES ≤ length previous_flags.now) }
-    requires in_bounds_3 { (MOST_CELL_BYTES ≤ length cells.now) × (MOST_CELL_BYTES ≤ length previous_cells.now) }
+    requires in_bounds { Evaluation.MOST_PENDING_BYTES ≤ length area.old }
+    requires in_bounds_2 { (CountFaults.MOST_ENTITIES ≤ length flags.now) × (CountFaults.MOST_ENTITIES ≤ length previous_flags.now) }
+    requires in_bounds_3 { (Planes.MOST_CELL_BYTES ≤ length cells.now) × (Planes.MOST_CELL_BYTES ≤ length previous_cells.now) }
     ensures { RulesPut classes.now values.now d.now refs.now scopes.now flags.now
         cells.now previous_flags.now previous_cells.now area.old area.new result }
 {

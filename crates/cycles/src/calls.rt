@@ -1,10 +1,11 @@
 // The writes of a rule at one binding: of each of its calls, if its condition holds.
 ghost use Rattle.std.specs.Prelude.{◌≤◌, length};
-ghost use Rattle.text.specs.definitions.Tokens.{COMMA};
+ghost use Rattle.text.specs.definitions.Tokens;
 ghost use Rattle.text.specs.definitions.Readers.{many};
 ghost use Rattle.text.specs.definitions.Grammar.{call_reader, call_after};
-ghost use Rattle.cycles.specs.inner_contracts.Evaluation.{MOST_PENDING_BYTES, PriorityRead, CallWalk, CallsWalk, RulePuts};
-ghost use Rattle.checking.specs.definitions.PriorityFaults.{MOST_PRIORITY};
+ghost use Rattle.cycles.specs.inner_contracts.Evaluation;
+ghost use Rattle.cycles.specs.inner_contracts.Evaluation.{PriorityRead, CallWalk, CallsWalk, RulePuts};
+ghost use Rattle.checking.specs.definitions.PriorityFaults;
 
 use crate::conditions::{both, condition, filter, target_end};
 use crate::evaluate::{Binding, bound, is_present_at, member, owner, put};
@@ -26,8 +27,8 @@ fn call(
     at: usize,
     area: &mut [u8],
 ) -> usize
-    requires in_bounds { MOST_PENDING_BYTES ≤ length area.old }
-    requires priority_bound { priority ≤ MOST_PRIORITY }
+    requires in_bounds { Evaluation.MOST_PENDING_BYTES ≤ length area.old }
+    requires priority_bound { priority ≤ PriorityFaults.MOST_PRIORITY }
     ensures { CallWalk classes.now values.now refs.now b flags.now cells.now priority
         area.old call_reader at area.new result }
 {
@@ -77,10 +78,10 @@ fn further_calls(
     at: usize,
     area: &mut [u8],
 ) -> usize
-    requires in_bounds { MOST_PENDING_BYTES ≤ length area.old }
-    requires priority_bound { priority ≤ MOST_PRIORITY }
+    requires in_bounds { Evaluation.MOST_PENDING_BYTES ≤ length area.old }
+    requires priority_bound { priority ≤ PriorityFaults.MOST_PRIORITY }
     ensures { CallsWalk classes.now values.now refs.now b flags.now cells.now priority
-        area.old (many COMMA call_after) at area.new result }
+        area.old (many Tokens.COMMA call_after) at area.new result }
 {
     let mut i = at;
     while class_at(classes, i) == COMMA {
@@ -100,6 +101,7 @@ fn further_calls(
 }
 
 // The priority of the rule whose tokens after `when` begin at number `at`: 0 if it says none, and if it is above the greatest, as in no checked file.
+#[tactic(auto, using(crate::proofs::steps::CallWrites::priority_above))]
 fn priority_at(classes: &[u8], values: &[u32], at: usize) -> u8
     ensures { PriorityRead classes.now values.now at result }
 {
@@ -126,7 +128,7 @@ pub fn rule_at(
     at: usize,
     area: &mut [u8],
 )
-    requires { MOST_PENDING_BYTES ≤ length area.old }
+    requires { Evaluation.MOST_PENDING_BYTES ≤ length area.old }
     ensures { RulePuts classes.now values.now refs.now b flags.now cells.now
         previous_flags.now previous_cells.now at area.old area.new }
 {

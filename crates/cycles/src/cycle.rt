@@ -1,7 +1,8 @@
 // A cycle: a line's inputs are applied, the rules that read what moved are tried, and the next stores are put.
 ghost use Rattle.std.specs.Prelude.{◌≡◌, ◌++◌, cond, ◌+◌, ◌*◌, ◌≤◌, ◌<◌, length, drop};
-ghost use Rattle.checking.specs.definitions.CountFaults.{MOST_ENTITIES};
-ghost use Rattle.cycles.specs.definitions.Planes.{CELL_BYTES, ENTITY_CELLS, ENTITY_CELL_BYTES, MOST_CELL_BYTES, MOST_STORES_BYTES, table};
+ghost use Rattle.checking.specs.definitions.CountFaults;
+ghost use Rattle.cycles.specs.definitions.Planes;
+ghost use Rattle.cycles.specs.definitions.Planes.{table};
 ghost use Rattle.cycles.specs.inner_contracts.CycleMemory.{present_by, seen_flag, leaves_by, seen_value, next_value, ValueOf, any_sort, no_action};
 ghost use Rattle.cycles.specs.inner_contracts.CycleMemory.{MembersPut, SeenPut, Cycled};
 
@@ -37,6 +38,7 @@ fn present_byte(present: u8, flag: u8) -> u8
 }
 
 // Puts the flags of n entities after the line.
+#[tactic(auto, using(crate::proofs::laws::TableLaws::flag_fill), unfolding(crate::specs::definitions::Planes::table))]
 fn see_flags(n: usize, present: &[u8], flags: &[u8], seen: &mut [u8])
     requires { (n ≤ length present.now) × (n ≤ length flags.now) × (n ≤ length seen.old) }
     ensures { seen.new ≡ table (seen_flag present.now flags.now) 0 n ++ drop n seen.old }
@@ -59,6 +61,7 @@ fn leaves(before: u8, after: u8) -> bool
 }
 
 // Cell number i after the line: its reading, or what it was; unset if its entity leaves and it is no attribute.
+#[tactic(auto, using(crate::proofs::steps::SeenLaws::values_seen))]
 fn seen_value(
     classes: &[u8],
     d: &[u16],
@@ -68,8 +71,8 @@ fn seen_value(
     inputs: &[u8],
     i: usize,
 ) -> Value
-    requires i_bound { (i < ENTITY_CELLS * length present.now) × (i < ENTITY_CELLS * length seen.now) }
-    requires i_in_bounds { (i * CELL_BYTES + CELL_BYTES ≤ length cells.now) × (i * CELL_BYTES + CELL_BYTES ≤ length inputs.now) }
+    requires i_bound { (i < Planes.ENTITY_CELLS * length present.now) × (i < Planes.ENTITY_CELLS * length seen.now) }
+    requires i_in_bounds { (i * Planes.CELL_BYTES + Planes.CELL_BYTES ≤ length cells.now) × (i * Planes.CELL_BYTES + Planes.CELL_BYTES ≤ length inputs.now) }
     ensures { ValueOf classes.now d.now
         (seen_value present.now seen.now cells.now inputs.now) i result }
 {
@@ -99,10 +102,10 @@ fn see_cells(
     out: &mut [u8],
 )
     requires n_in_bounds { (n ≤ length present.now) × (n ≤ length seen.now) }
-    requires n_in_bounds_2 { (ENTITY_CELL_BYTES * n ≤ length cells.now) × (ENTITY_CELL_BYTES * n ≤ length inputs.now)
-        × (ENTITY_CELL_BYTES * n ≤ length out.old) }
+    requires n_in_bounds_2 { (Planes.ENTITY_CELL_BYTES * n ≤ length cells.now) × (Planes.ENTITY_CELL_BYTES * n ≤ length inputs.now)
+        × (Planes.ENTITY_CELL_BYTES * n ≤ length out.old) }
     ensures { MembersPut classes.now d.now any_sort
-        (seen_value present.now seen.now cells.now inputs.now) (ENTITY_CELLS * n)
+        (seen_value present.now seen.now cells.now inputs.now) (Planes.ENTITY_CELLS * n)
         out.old out.new }
 {
     let end = ENTITY_CELLS * n;
@@ -123,7 +126,7 @@ fn see_cells(
 
 // Puts what the rules saw in cell number i, unless the member whose first token has that number is an action: that stands as it was written.
 fn put_seen(classes: &[u8], token: usize, cells: &[u8], i: usize, area: &mut [u8])
-    requires { (i * CELL_BYTES + CELL_BYTES ≤ length cells.now) × (i * CELL_BYTES + CELL_BYTES ≤ length area.old) }
+    requires { (i * Planes.CELL_BYTES + Planes.CELL_BYTES ≤ length cells.now) × (i * Planes.CELL_BYTES + Planes.CELL_BYTES ≤ length area.old) }
     ensures { SeenPut classes.now token cells.now i area.old area.new }
 {
     if is_sort(classes, token, ACTION) {
@@ -134,8 +137,8 @@ fn put_seen(classes: &[u8], token: usize, cells: &[u8], i: usize, area: &mut [u8
 
 // Makes of the area, which has the writes, the cells of n entities after the cycle. An action's stands as it was written, and a cell of no member is unset.
 fn put_next(classes: &[u8], d: &[u16], n: usize, cells: &[u8], area: &mut [u8])
-    requires { (ENTITY_CELL_BYTES * n ≤ length cells.now) × (ENTITY_CELL_BYTES * n ≤ length area.old) }
-    ensures { MembersPut classes.now d.now no_action (next_value cells.now area.old) (ENTITY_CELLS * n)
+    requires { (Planes.ENTITY_CELL_BYTES * n ≤ length cells.now) × (Planes.ENTITY_CELL_BYTES * n ≤ length area.old) }
+    ensures { MembersPut classes.now d.now no_action (next_value cells.now area.old) (Planes.ENTITY_CELLS * n)
         area.old area.new }
 {
     let end = ENTITY_CELLS * n;
@@ -153,6 +156,7 @@ fn put_next(classes: &[u8], d: &[u16], n: usize, cells: &[u8], area: &mut [u8])
 }
 
 // The cycle of a line. The area of writes begins as unset cells to which nothing was written: bytes of 0.
+#[tactic(auto, using(crate::proofs::steps::CycleMemoryLaws::cycle_impossible))]
 pub fn cycle(
     classes: &[u8],
     values: &[u32],
@@ -163,8 +167,8 @@ pub fn cycle(
     input_cells: &[u8],
     stores: &mut [u8],
 )
-    requires in_bounds { (MOST_ENTITIES ≤ length input_flags.now) × (MOST_CELL_BYTES ≤ length input_cells.now) }
-    requires in_bounds_2 { MOST_STORES_BYTES ≤ length stores.old }
+    requires in_bounds { (CountFaults.MOST_ENTITIES ≤ length input_flags.now) × (Planes.MOST_CELL_BYTES ≤ length input_cells.now) }
+    requires in_bounds_2 { Planes.MOST_STORES_BYTES ≤ length stores.old }
     ensures { Cycled classes.now values.now d.now refs.now scopes.now
         input_flags.now input_cells.now stores.old stores.new }
 {

@@ -1,9 +1,10 @@
 // References and cells: what the names of a rule mean under a binding, and what a store in memory holds there.
 ghost use Rattle.std.specs.Prelude.{◌≡◌, ◌&&◌, ◌≤◌, ◌/◌, ◌%◌, ltb, eqb, length, get_or};
-ghost use Rattle.checking.specs.inner_contracts.Directory.{NO_MEMBER};
-ghost use Rattle.cycles.specs.inner_contracts.Evaluation.{bound, CellRead, MOST_PENDING_BYTES, Put};
+ghost use Rattle.checking.specs.inner_contracts.Directory;
+ghost use Rattle.cycles.specs.inner_contracts.Evaluation;
+ghost use Rattle.cycles.specs.inner_contracts.Evaluation.{bound, CellRead, Put};
 ghost use Rattle.cycles.specs.inner_contracts.AllRules.{EntityAdded};
-ghost use Rattle.checking.specs.definitions.PriorityFaults.{MOST_PRIORITY};
+ghost use Rattle.checking.specs.definitions.PriorityFaults;
 
 use crate::layout::{CELL_BYTES, ENTITY_CELLS, MOST_CELL_BYTES, MOST_CELLS};
 use checking::layout::{FIRST_VARIABLE_8, NO_MEMBER_8};
@@ -35,6 +36,7 @@ pub fn member(refs: &[u16], i: usize) -> u8
 }
 
 // The entity that a reference means.
+#[tactic(auto, unfolding(crate::specs::inner_contracts::Evaluation::bound))]
 pub fn bound(b: Binding, r: u8) -> u8
     ensures { result ≡ bound b r }
 {
@@ -51,6 +53,7 @@ pub fn bound(b: Binding, r: u8) -> u8
 }
 
 // The binding with entity e for variable number `level`, the next one.
+#[tactic(auto, using(crate::proofs::steps::BindingPuts::added_first, crate::proofs::steps::BindingPuts::added_second, crate::proofs::steps::BindingPuts::added_third))]
 pub fn with_entity(b: Binding, level: u8, e: u8) -> Binding
     ensures { EntityAdded b level e result }
 {
@@ -75,7 +78,7 @@ pub fn is_present(flags: &[u8], e: u8) -> bool
 
 // Is entity e present, of which member m is asked? A name that means no member has the number NO_MEMBER.
 pub fn is_present_at(flags: &[u8], e: u8, m: u8) -> bool
-    ensures { result ≡ (ltb m NO_MEMBER && eqb (get_or flags.now e 0) 1) }
+    ensures { result ≡ (ltb m Directory.NO_MEMBER && eqb (get_or flags.now e 0) 1) }
 {
     if NO_MEMBER_8 <= m {
         return false;
@@ -84,6 +87,7 @@ pub fn is_present_at(flags: &[u8], e: u8, m: u8) -> bool
 }
 
 // Member m of entity e, unset where the entity is absent or has no such member.
+#[tactic(auto, using(crate::proofs::steps::EvaluationLaws::cells_read))]
 pub fn read_cell(flags: &[u8], cells: &[u8], e: u8, m: u8) -> Value
     ensures { CellRead flags.now cells.now e m result }
 {
@@ -98,9 +102,10 @@ pub fn read_cell(flags: &[u8], cells: &[u8], e: u8, m: u8) -> Value
 }
 
 // The write of a value to member m of entity e, by a rule of this priority, if it is to be made and there is such a member.
+#[tactic(auto, using(crate::proofs::steps::EvaluationLaws::writes_put))]
 pub fn put(area: &mut [u8], made: bool, priority: u8, e: u8, m: u8, v: Value)
-    requires in_bounds { MOST_PENDING_BYTES ≤ length area.old }
-    requires priority_bound { priority ≤ MOST_PRIORITY }
+    requires in_bounds { Evaluation.MOST_PENDING_BYTES ≤ length area.old }
+    requires priority_bound { priority ≤ PriorityFaults.MOST_PRIORITY }
     ensures { Put area.old made priority e m v area.new }
 {
     if !made {

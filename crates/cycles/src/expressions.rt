@@ -34,6 +34,7 @@ fn real_literal(n: u32) -> Value
     values::settle(n as f64)
 }
 
+#[tactic(auto, unfolding(text::specs::definitions::Grammar::operator_of))]
 fn operator_of(class: u8) -> Operator
     ensures { result ≡ operator_of class }
 {
@@ -49,6 +50,7 @@ fn operator_of(class: u8) -> Operator
     Operator::Divide
 }
 
+#[tactic(auto, unfolding(text::specs::definitions::Grammar::is_factor_operator))]
 fn is_factor_operator(class: u8) -> bool
     ensures { result ≡ is_factor_operator class }
 {
@@ -58,6 +60,7 @@ fn is_factor_operator(class: u8) -> bool
     class == DIVIDE
 }
 
+#[tactic(auto, unfolding(text::specs::definitions::Grammar::is_term_operator))]
 fn is_term_operator(class: u8) -> bool
     ensures { result ≡ is_term_operator class }
 {

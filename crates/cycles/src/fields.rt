@@ -4,6 +4,7 @@ ghost use Rattle.cycles.specs.definitions.Fields.{fields, has_byte};
 ghost use Rattle.cycles.specs.inner_contracts.FieldReads.{FieldStart, FieldEnd, first_size};
 
 // Where the field that ends at `end` starts; fields stand between bytes `mark`.
+#[tactic(auto, using(crate::proofs::laws::FieldLaws::runs_none, crate::proofs::laws::FieldLaws::starts_first))]
 pub fn field_start(line: &[u8], end: usize, mark: u8) -> usize
     requires { end ≤ length line.now }
     ensures { FieldStart mark line.now end result }
@@ -20,6 +21,7 @@ pub fn field_start(line: &[u8], end: usize, mark: u8) -> usize
 }
 
 // Where the first field ends: at the first byte `mark`, or at the line's end.
+#[tactic(auto, using(crate::proofs::laws::FieldLaws::runs_to_none, crate::proofs::laws::FieldLaws::ends_before_mark))]
 pub fn field_end(line: &[u8], mark: u8) -> usize
     ensures { FieldEnd mark line.now result }
 {
@@ -33,6 +35,7 @@ pub fn field_end(line: &[u8], mark: u8) -> usize
     i
 }
 
+#[tactic(auto, using(crate::proofs::laws::FieldLaws::has_none, crate::proofs::laws::FieldLaws::has_here, crate::proofs::laws::FieldLaws::has_later))]
 pub fn has_byte(line: &[u8], b: u8) -> bool
     ensures { result ≡ has_byte b line.now }
 {
@@ -47,6 +50,7 @@ pub fn has_byte(line: &[u8], b: u8) -> bool
 }
 
 // The length of the first of a line's fields, none of which is empty and `count` of which follow it; 0 for any other line.
+#[tactic(auto, using(crate::proofs::laws::FieldLaws::none_passed, crate::proofs::laws::FieldLaws::next_passed))]
 pub fn first_size(line: &[u8], count: usize) -> usize
     ensures { (result ≡ first_size count (fields line.now)) × (result ≤ length line.now) }
 {

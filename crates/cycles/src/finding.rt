@@ -1,9 +1,10 @@
 // Finds the guards of a rule by a walk over its tokens.
 ghost use Rattle.std.specs.Prelude.{◌+◌, ◌<◌, ◌≤◌, ◌≡◌, length};
-ghost use Rattle.text.specs.definitions.Syntax.{OPENERS};
+ghost use Rattle.text.specs.definitions.Syntax;
 ghost use Rattle.text.specs.definitions.Grammar.{clause_reader, atom_reader, conjunction_reader};
-ghost use Rattle.checking.specs.definitions.CountFaults.{MOST_VARIABLES};
-ghost use Rattle.cycles.specs.inner_contracts.Guards.{CELL_CHANGES, ALL_GUARD_ROWS, Covered, GuardsFound};
+ghost use Rattle.checking.specs.definitions.CountFaults;
+ghost use Rattle.cycles.specs.inner_contracts.Guards;
+ghost use Rattle.cycles.specs.inner_contracts.Guards.{Covered, GuardsFound};
 ghost use Rattle.cycles.specs.inner_contracts.Finding.{GuardPut, PartPut, FilterGuardsWalk, TestGuardsWalk, ConditionGuardsWalk, CallGuarded};
 
 use crate::conditions::target_end;
@@ -30,7 +31,7 @@ const AFTER_VARIABLES: u8 = FIRST_VARIABLE_8 + MOST_VARIABLES_8;
 // ---- levels
 
 fn greater(a: u8, b: u8) -> u8
-    ensures { (a ≤ result) × (b ≤ result) × (a ≤ MOST_VARIABLES → b ≤ MOST_VARIABLES → result ≤ MOST_VARIABLES) }
+    ensures { (a ≤ result) × (b ≤ result) × (a ≤ CountFaults.MOST_VARIABLES → b ≤ CountFaults.MOST_VARIABLES → result ≤ CountFaults.MOST_VARIABLES) }
 {
     if a < b {
         return b;
@@ -40,7 +41,7 @@ fn greater(a: u8, b: u8) -> u8
 
 // One more than the variable that token number i refers to, 0 if to none.
 fn level_at(refs: &[u16], i: usize) -> u8
-    ensures { Covered refs.now result i (i + 1) × (result ≤ MOST_VARIABLES) }
+    ensures { Covered refs.now result i (i + 1) × (result ≤ CountFaults.MOST_VARIABLES) }
 {
     let r = owner(refs, i);
     if r < FIRST_VARIABLE_8 {
@@ -54,7 +55,7 @@ fn level_at(refs: &[u16], i: usize) -> u8
 
 // One more than the last variable that tokens number `from` up to `to` refer to.
 fn level_of(refs: &[u16], from: usize, to: usize) -> u8
-    ensures { Covered refs.now result from to × (result ≤ MOST_VARIABLES) }
+    ensures { Covered refs.now result from to × (result ≤ CountFaults.MOST_VARIABLES) }
 {
     let mut level: u8 = 0;
     let mut i = from;
@@ -67,7 +68,7 @@ fn level_of(refs: &[u16], from: usize, to: usize) -> u8
 
 // The level of a guard's expression, by that of its tokens: 0 if it has none.
 fn inner_of(kind: u8, level: u8) -> u8
-    ensures { (result ≤ level) × (kind < CELL_CHANGES → result ≡ level) }
+    ensures { (result ≤ level) × (kind < Guards.CELL_CHANGES → result ≡ level) }
 {
     if kind < CELL_CHANGES_8 {
         return level;
@@ -87,7 +88,7 @@ fn put_guard(
     m: usize,
     at: usize,
 ) -> usize
-    requires { ALL_GUARD_ROWS ≤ length guards.old }
+    requires { Guards.ALL_GUARD_ROWS ≤ length guards.old }
     ensures { GuardPut level inner kind n m at
         (record { before = guards.old; count = count; after = guards.new; total = result }) }
 {
@@ -103,6 +104,7 @@ fn put_guard(
 }
 
 // A guard about tokens number n and m, and those from number `at` up to `next`.
+#[tactic(auto, using(crate::proofs::steps::GuardPuts::covered_more))]
 fn put_part(
     refs: &[u16],
     kind: u8,
@@ -113,7 +115,7 @@ fn put_part(
     guards: &mut [usize],
     count: usize,
 ) -> usize
-    requires { ALL_GUARD_ROWS ≤ length guards.old }
+    requires { Guards.ALL_GUARD_ROWS ≤ length guards.old }
     ensures { PartPut refs.now kind n m at next
         (record { before = guards.old; count = count; after = guards.new; total = result }) }
 {
@@ -143,7 +145,7 @@ fn put_in_pass(
     count: usize,
     dear: bool,
 ) -> usize
-    requires { ALL_GUARD_ROWS ≤ length guards.old }
+    requires { Guards.ALL_GUARD_ROWS ≤ length guards.old }
     ensures { PartPut refs.now kind n m at next
         (record { before = guards.old; count = count; after = guards.new; total = result }) }
 {
@@ -165,7 +167,7 @@ fn filter_guard(
     count: usize,
     dear: bool,
 ) -> Found
-    requires { ALL_GUARD_ROWS ≤ length guards.old }
+    requires { Guards.ALL_GUARD_ROWS ≤ length guards.old }
     ensures { FilterGuardsWalk classes.now refs.now n at
         (record { before = guards.old; count = count; after = guards.new; total = result.count }) result.next }
 {
@@ -203,7 +205,7 @@ fn test_guards(
     count: usize,
     dear: bool,
 ) -> Found
-    requires { ALL_GUARD_ROWS ≤ length guards.old }
+    requires { Guards.ALL_GUARD_ROWS ≤ length guards.old }
     ensures { TestGuardsWalk classes.now refs.now n m at
         (record { before = guards.old; count = count; after = guards.new; total = result.count }) result.next }
 {
@@ -250,8 +252,8 @@ fn clause_guards(
     count: usize,
     dear: bool,
 ) -> Found
-    requires { ALL_GUARD_ROWS ≤ length guards.old }
-    ensures { ConditionGuardsWalk classes.now refs.now (clause_reader OPENERS) at
+    requires { Guards.ALL_GUARD_ROWS ≤ length guards.old }
+    ensures { ConditionGuardsWalk classes.now refs.now (clause_reader Syntax.OPENERS) at
         (record { before = guards.old; count = count; after = guards.new; total = result.count }) result.next }
 {
     let size = classes.len();
@@ -286,8 +288,8 @@ fn atom_guards(
     count: usize,
     dear: bool,
 ) -> Found
-    requires { ALL_GUARD_ROWS ≤ length guards.old }
-    ensures { ConditionGuardsWalk classes.now refs.now (atom_reader OPENERS) at
+    requires { Guards.ALL_GUARD_ROWS ≤ length guards.old }
+    ensures { ConditionGuardsWalk classes.now refs.now (atom_reader Syntax.OPENERS) at
         (record { before = guards.old; count = count; after = guards.new; total = result.count }) result.next }
 {
     if class_at(classes, at) != ROUND_OPEN {
@@ -309,8 +311,8 @@ fn conjuncts(
     count: usize,
     dear: bool,
 ) -> Found
-    requires { ALL_GUARD_ROWS ≤ length guards.old }
-    ensures { ConditionGuardsWalk classes.now refs.now (conjunction_reader OPENERS) at
+    requires { Guards.ALL_GUARD_ROWS ≤ length guards.old }
+    ensures { ConditionGuardsWalk classes.now refs.now (conjunction_reader Syntax.OPENERS) at
         (record { before = guards.old; count = count; after = guards.new; total = result.count }) result.next }
 {
     let first = atom_guards(classes, refs, at, guards, count, dear);
@@ -331,7 +333,7 @@ fn conjuncts(
 
 // The `with` of the call at number `at`, if no other call follows.
 fn call_guard(classes: &[u8], refs: &[u16], at: usize, guards: &mut [usize], count: usize) -> usize
-    requires { ALL_GUARD_ROWS ≤ length guards.old }
+    requires { Guards.ALL_GUARD_ROWS ≤ length guards.old }
     ensures { CallGuarded classes.now refs.now at
         (record { before = guards.old; count = count; after = guards.new; total = result }) }
 {
@@ -354,7 +356,7 @@ fn call_guard(classes: &[u8], refs: &[u16], at: usize, guards: &mut [usize], cou
 
 // Finds the guards of the rule whose tokens after `when` begin at number `at`, and answers how many there are.
 pub fn find_guards(classes: &[u8], refs: &[u16], at: usize, guards: &mut [usize]) -> usize
-    requires { ALL_GUARD_ROWS ≤ length guards.old }
+    requires { Guards.ALL_GUARD_ROWS ≤ length guards.old }
     ensures { GuardsFound classes.now refs.now at guards.new result }
 {
     let start = priority_end(classes, at);

@@ -2,7 +2,7 @@
 ghost use Rattle.std.specs.Prelude.{◌≡◌, ◌∷◌, ◌+◌, ◌*◌, ◌≤◌, length};
 ghost use Rattle.values.specs.definitions.Bytes.{low_first};
 ghost use Rattle.text.specs.definitions.Syntax.{whole_number, real_number, literal_value};
-ghost use Rattle.cycles.specs.definitions.Planes.{CELL_BYTES, MOST_STORES_BYTES};
+ghost use Rattle.cycles.specs.definitions.Planes;
 ghost use Rattle.values.specs.inner_contracts.Puts.{Put};
 ghost use Rattle.cycles.specs.inner_contracts.FreshMemory.{NumberAt, LiteralAt, AssignedValue, FreshCell, FreshCellsPut, flags_of, unset_cells};
 ghost use Rattle.cycles.specs.inner_contracts.FreshMemory.{FreshPut};
@@ -16,6 +16,7 @@ use values::Value;
 
 // ---- literals
 
+#[tactic(auto, unfolding(text::specs::definitions::Syntax::literal_value))]
 fn whole_value(negative: bool, n: u32) -> Value
     ensures { result ≡ literal_value (whole_number negative n) }
 {
@@ -26,6 +27,7 @@ fn whole_value(negative: bool, n: u32) -> Value
     values::fit(z)
 }
 
+#[tactic(auto, unfolding(text::specs::definitions::Syntax::literal_value))]
 fn real_value(negative: bool, n: u32) -> Value
     ensures { result ≡ literal_value (real_number negative n) }
 {
@@ -36,6 +38,7 @@ fn real_value(negative: bool, n: u32) -> Value
     values::settle(x)
 }
 
+#[tactic(auto, using(crate::proofs::steps::LiteralValues::number_whole, crate::proofs::steps::LiteralValues::number_real))]
 fn number_value(classes: &[u8], values: &[u32], negative: bool, i: usize) -> Value
     ensures { NumberAt classes.now values.now negative i result }
 {
@@ -47,6 +50,7 @@ fn number_value(classes: &[u8], values: &[u32], negative: bool, i: usize) -> Val
 }
 
 // The value of the literal whose first token has number i.
+#[tactic(auto, using(crate::proofs::steps::LiteralValues::literals_found))]
 fn literal_value(classes: &[u8], values: &[u32], i: usize) -> Value
     ensures { LiteralAt classes.now values.now i result }
 {
@@ -69,6 +73,7 @@ fn literal_value(classes: &[u8], values: &[u32], i: usize) -> Value
 // ---- initial values
 
 // What the assignments from token number `from` on set the name of token number i to.
+#[tactic(auto, using(crate::proofs::steps::FreshValues::assigning_turns))]
 fn assigned_value(
     text: &[u8],
     classes: &[u8],
@@ -94,6 +99,7 @@ fn assigned_value(
 }
 
 // The value of cell number i.
+#[tactic(auto, using(crate::proofs::steps::FreshValues::values_found))]
 fn fresh_value(
     text: &[u8],
     classes: &[u8],
@@ -128,8 +134,8 @@ fn put_flags(state: &mut [u8], at: usize, n: usize, flag: u8) -> usize
 }
 
 fn put_tagged(state: &mut [u8], at: usize, tag: u8, word: u64) -> usize
-    requires { at + CELL_BYTES ≤ length state.old }
-    ensures { (result ≡ at + CELL_BYTES) × Put (tag ∷ low_first 8 word) state.old at state.new result }
+    requires { at + Planes.CELL_BYTES ≤ length state.old }
+    ensures { (result ≡ at + Planes.CELL_BYTES) × Put (tag ∷ low_first 8 word) state.old at state.new result }
 {
     let next = at + 1;
     state[at] = tag;
@@ -138,8 +144,8 @@ fn put_tagged(state: &mut [u8], at: usize, tag: u8, word: u64) -> usize
 }
 
 fn put_unset(state: &mut [u8], at: usize, count: usize) -> usize
-    requires { at + CELL_BYTES * count ≤ length state.old }
-    ensures { (result ≡ at + CELL_BYTES * count) × Put (unset_cells count) state.old at state.new result }
+    requires { at + Planes.CELL_BYTES * count ≤ length state.old }
+    ensures { (result ≡ at + Planes.CELL_BYTES * count) × Put (unset_cells count) state.old at state.new result }
 {
     let mut end = at;
     let mut i = 0;
@@ -161,7 +167,7 @@ fn put_fresh_cells(
     state: &mut [u8],
     at: usize,
 ) -> usize
-    requires { at + CELL_BYTES * count ≤ length state.old }
+    requires { at + Planes.CELL_BYTES * count ≤ length state.old }
     ensures { FreshCellsPut text.now classes.now offsets.now lengths.now values.now d.now
         count state.old at state.new result }
 {
@@ -177,6 +183,7 @@ fn put_fresh_cells(
 }
 
 // The fresh stores.
+#[tactic(auto, using(crate::proofs::steps::FreshPlanes::fresh_impossible))]
 pub fn put_fresh_stores(
     text: &[u8],
     classes: &[u8],
@@ -186,7 +193,7 @@ pub fn put_fresh_stores(
     d: &[u16],
     stores: &mut [u8],
 )
-    requires { MOST_STORES_BYTES ≤ length stores.old }
+    requires { Planes.MOST_STORES_BYTES ≤ length stores.old }
     ensures { FreshPut text.now classes.now offsets.now lengths.now values.now d.now
         stores.old stores.new }
 {

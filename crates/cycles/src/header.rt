@@ -3,7 +3,8 @@ ghost use Rattle.std.specs.Prelude.{◌≡◌, ◌≤◌, length};
 ghost use Rattle.checking.specs.definitions.Scope.{entity_named};
 ghost use Rattle.cycles.specs.definitions.Fields.{split};
 ghost use Rattle.cycles.specs.definitions.Header.{column_of_entity, column};
-ghost use Rattle.cycles.specs.inner_contracts.HeaderReads.{ColumnRead, backwards, is_number_among, ColumnsRead, HeaderRead, MOST_COLUMNS};
+ghost use Rattle.cycles.specs.inner_contracts.HeaderReads;
+ghost use Rattle.cycles.specs.inner_contracts.HeaderReads.{ColumnRead, backwards, is_number_among, ColumnsRead, HeaderRead};
 
 use crate::fields::field_start;
 use crate::layout::{
@@ -79,6 +80,7 @@ fn column_called(
 }
 
 // Is the column among the first `count` that were read?
+#[tactic(auto, using(crate::proofs::laws::ColumnLaws::among_here, crate::proofs::laws::ColumnLaws::among_before, crate::proofs::laws::ColumnLaws::among_none))]
 fn is_read(columns: &[u16], count: usize, column: u16) -> bool
     requires { count ≤ length columns.now }
     ensures { result ≡ is_number_among column (backwards count columns.now) }
@@ -95,6 +97,7 @@ fn is_read(columns: &[u16], count: usize, column: u16) -> bool
 }
 
 // Reads the columns after `n`, the last one first, and answers their number; NO_HEADER for none.
+#[tactic(auto, using(crate::proofs::steps::HeaderLaws::columns_next))]
 fn read_columns(
     text: &[u8],
     classes: &[u8],
@@ -104,7 +107,7 @@ fn read_columns(
     names: &[u8],
     columns: &mut [u16],
 ) -> usize
-    requires { MOST_COLUMNS ≤ length columns.old }
+    requires { HeaderReads.MOST_COLUMNS ≤ length columns.old }
     ensures { ColumnsRead text.now classes.now offsets.now lengths.now d.now names.now
         columns.new result }
 {
@@ -142,7 +145,7 @@ pub fn read_header(
     names: &[u8],
     columns: &mut [u16],
 ) -> usize
-    requires { MOST_COLUMNS ≤ length columns.old }
+    requires { HeaderReads.MOST_COLUMNS ≤ length columns.old }
     ensures { HeaderRead text.now classes.now offsets.now lengths.now d.now names.now
         columns.new result }
 {

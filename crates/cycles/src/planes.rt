@@ -1,9 +1,9 @@
 // Planes: flags and cells in memory, of the stores and of what is kept of a line.
 ghost use Rattle.std.specs.Prelude.{◌≡◌, ◌+◌, ◌*◌, ◌≤◌, length, get_or, take};
 ghost use Rattle.values.specs.definitions.Bytes.{word_at, low_first, overwritten};
-ghost use Rattle.checking.specs.definitions.CountFaults.{MOST_ENTITIES};
-ghost use Rattle.checking.specs.inner_contracts.Directory.{ENTITY_COUNT_ROW};
-ghost use Rattle.cycles.specs.definitions.Planes.{ENTITY_BYTES, ENTITY_CELL_BYTES, MOST_CELL_BYTES, MOST_STORES_BYTES, NUMBER_BYTES};
+ghost use Rattle.checking.specs.definitions.CountFaults;
+ghost use Rattle.checking.specs.inner_contracts.Directory;
+ghost use Rattle.cycles.specs.definitions.Planes;
 ghost use Rattle.cycles.specs.definitions.Planes.{is_unset_cell, is_blank_cell, is_set_cell, is_value_cell, store_fits, kept_fits, flags_below};
 ghost use Rattle.cycles.specs.inner_contracts.CellTokens.{CellToken, SortTest};
 ghost use Rattle.values.specs.inner_contracts.Puts.{Put};
@@ -30,6 +30,7 @@ pub enum Plane {
 }
 
 // The first token of the member whose cell has number i; NO_TOKEN where the bench has no such member.
+#[tactic(auto, using(crate::proofs::laws::CellTokenLaws::token_no_interface))]
 pub fn cell_token(d: &[u16], i: usize) -> usize
     ensures { CellToken d.now i result }
 {
@@ -49,6 +50,7 @@ pub fn cell_token(d: &[u16], i: usize) -> usize
 }
 
 // Whether the member whose first token has number `at` has the sort that the class says.
+#[tactic(auto, using(crate::proofs::laws::CellTokenLaws::no_token_no_sort, crate::proofs::laws::CellTokenLaws::sort_by_class))]
 pub fn is_sort(classes: &[u8], at: usize, class: u8) -> bool
     ensures { SortTest classes.now at class result }
 {
@@ -60,6 +62,7 @@ pub fn is_sort(classes: &[u8], at: usize, class: u8) -> bool
 
 // ---- tests of a tag and a payload
 
+#[tactic(auto, unfolding(crate::specs::definitions::Planes::is_unset_cell))]
 fn is_unset_cell(t: u8, w: u64) -> bool
     ensures { result ≡ is_unset_cell t w }
 {
@@ -69,6 +72,7 @@ fn is_unset_cell(t: u8, w: u64) -> bool
     false
 }
 
+#[tactic(auto, unfolding(crate::specs::definitions::Planes::is_blank_cell))]
 fn is_blank_cell(t: u8, w: u64) -> bool
     ensures { result ≡ is_blank_cell t w }
 {
@@ -79,6 +83,7 @@ fn is_blank_cell(t: u8, w: u64) -> bool
 }
 
 // A set value's, of the kind that the class says.
+#[tactic(auto, unfolding(crate::specs::definitions::Planes::is_set_cell, checking::specs::inner_contracts::Directory::kind_class))]
 fn is_set_cell(kind: u8, t: u8, w: u64) -> bool
     ensures { KindTest is_set_cell kind t w result }
 {
@@ -100,6 +105,7 @@ fn is_set_cell(kind: u8, t: u8, w: u64) -> bool
     false
 }
 
+#[tactic(auto, using(crate::proofs::laws::PlaneTestLaws::value_unset, crate::proofs::laws::PlaneTestLaws::value_set))]
 fn is_value_cell(kind: u8, t: u8, w: u64) -> bool
     ensures { KindTest is_value_cell kind t w result }
 {
@@ -110,6 +116,7 @@ fn is_value_cell(kind: u8, t: u8, w: u64) -> bool
 }
 
 // What a store's cell may hold, by the first token of its member: an attribute's may be unset, or must be set.
+#[tactic(auto, using(crate::proofs::laws::PlaneTestLaws::store_tests))]
 fn store_fits(must_be_set: bool, classes: &[u8], at: usize, t: u8, w: u64) -> bool
     ensures { CellTest (store_fits must_be_set) classes.now at t w result }
 {
@@ -128,6 +135,7 @@ fn store_fits(must_be_set: bool, classes: &[u8], at: usize, t: u8, w: u64) -> bo
 }
 
 // The same of a cell that is kept of a line: readings at events, fired actions at actions.
+#[tactic(auto, using(crate::proofs::laws::PlaneTestLaws::kept_tests))]
 fn kept_fits(classes: &[u8], at: usize, t: u8, w: u64) -> bool
     ensures { CellTest kept_fits classes.now at t w result }
 {
@@ -149,6 +157,7 @@ fn kept_fits(classes: &[u8], at: usize, t: u8, w: u64) -> bool
 }
 
 // The same of a plane's cell, by whether the plane has its entity present.
+#[tactic(auto, unfolding(crate::specs::inner_contracts::PlaneMemory::fit_of))]
 fn fits(plane: Plane, present: bool, classes: &[u8], at: usize, t: u8, w: u64) -> bool
     ensures { CellTest (fit_of plane present) classes.now at t w result }
 {
@@ -161,6 +170,7 @@ fn fits(plane: Plane, present: bool, classes: &[u8], at: usize, t: u8, w: u64) -
 
 // ---- tests of the parts
 
+#[tactic(auto, using(crate::proofs::laws::TableLaws::each_fails, crate::proofs::laws::TableLaws::each_goes_on, crate::proofs::laws::TableLaws::each_ends))]
 fn flags_below(flags: &[u8], n: usize, bound: u8) -> bool
     requires { n ≤ length flags.now }
     ensures { result ≡ flags_below bound n flags.now }
@@ -175,9 +185,10 @@ fn flags_below(flags: &[u8], n: usize, bound: u8) -> bool
     true
 }
 
+#[tactic(auto, using(crate::proofs::laws::PlaneTestLaws::cells_tests))]
 fn cells_fit(plane: Plane, classes: &[u8], d: &[u16], flags: &[u8], cells: &[u8]) -> bool
-    requires d_in_bounds { get_or d.now ENTITY_COUNT_ROW 0 ≤ length flags.now }
-    requires d_in_bounds_2 { ENTITY_CELL_BYTES * get_or d.now ENTITY_COUNT_ROW 0 ≤ length cells.now }
+    requires d_in_bounds { get_or d.now Directory.ENTITY_COUNT_ROW 0 ≤ length flags.now }
+    requires d_in_bounds_2 { Planes.ENTITY_CELL_BYTES * get_or d.now Directory.ENTITY_COUNT_ROW 0 ≤ length cells.now }
     ensures { CellsTest plane classes.now d.now flags.now cells.now result }
 {
     let end = ENTITY_CELLS * checking::row(d, ENTITY_COUNT_ROW);
@@ -195,6 +206,7 @@ fn cells_fit(plane: Plane, classes: &[u8], d: &[u16], flags: &[u8], cells: &[u8]
     true
 }
 
+#[tactic(auto, unfolding(crate::specs::inner_contracts::PlaneMemory::bound_of))]
 fn flag_bound(plane: Plane) -> u8
     ensures { result ≡ bound_of plane }
 {
@@ -206,8 +218,9 @@ fn flag_bound(plane: Plane) -> u8
 }
 
 // Whether memory begins with such a plane of the bench.
+#[tactic(auto, using(crate::proofs::laws::PlaneTestLaws::length_behind, crate::proofs::laws::PlaneTestLaws::plane_flags_fail, crate::proofs::laws::PlaneTestLaws::plane_cells_say))]
 pub fn plane_fits(plane: Plane, classes: &[u8], d: &[u16], memory: &[u8]) -> bool
-    requires { ENTITY_BYTES * get_or d.now ENTITY_COUNT_ROW 0 ≤ length memory.now }
+    requires { Planes.ENTITY_BYTES * get_or d.now Directory.ENTITY_COUNT_ROW 0 ≤ length memory.now }
     ensures { PlaneTest plane classes.now d.now memory.now result }
 {
     let n = checking::row(d, ENTITY_COUNT_ROW);
@@ -218,8 +231,9 @@ pub fn plane_fits(plane: Plane, classes: &[u8], d: &[u16], memory: &[u8]) -> boo
 }
 
 // Whether memory begins with stores of the bench.
+#[tactic(auto, using(crate::proofs::laws::PlaneTestLaws::stores_tests))]
 pub fn are_stores(classes: &[u8], d: &[u16], memory: &[u8]) -> bool
-    requires { MOST_STORES_BYTES ≤ length memory.now }
+    requires { Planes.MOST_STORES_BYTES ≤ length memory.now }
     ensures { StoresTest classes.now d.now memory.now result }
 {
     let n = checking::row(d, ENTITY_COUNT_ROW);
@@ -237,8 +251,8 @@ pub fn are_stores(classes: &[u8], d: &[u16], memory: &[u8]) -> bool
 
 // The number at the front of memory.
 pub fn number(memory: &[u8]) -> u32
-    requires { NUMBER_BYTES ≤ length memory.now }
-    ensures { result ≡ word_at NUMBER_BYTES memory.now 0 }
+    requires { Planes.NUMBER_BYTES ≤ length memory.now }
+    ensures { result ≡ word_at Planes.NUMBER_BYTES memory.now 0 }
 {
     let w3 = values::slices::wide(memory[3]);
     let w2 = values::slices::wide(memory[2]) + 256 * w3;
@@ -247,8 +261,8 @@ pub fn number(memory: &[u8]) -> u32
 }
 
 pub fn put_number(memory: &mut [u8], n: u32)
-    requires { NUMBER_BYTES ≤ length memory.old }
-    ensures { memory.new ≡ overwritten memory.old 0 (low_first NUMBER_BYTES n) }
+    requires { Planes.NUMBER_BYTES ≤ length memory.old }
+    ensures { memory.new ≡ overwritten memory.old 0 (low_first Planes.NUMBER_BYTES n) }
 {
     let n1 = n / 256;
     let n2 = n1 / 256;
@@ -270,9 +284,9 @@ fn put_front(memory: &mut [u8], at: usize, area: &[u8], count: usize) -> usize
 
 // Puts a plane of n entities, gathered from areas of its flags and its cells, and answers the offset after it.
 pub fn put_plane(memory: &mut [u8], at: usize, flags: &[u8], cells: &[u8], n: usize) -> usize
-    requires n_in_bounds { (n ≤ length flags.now) × (ENTITY_CELL_BYTES * n ≤ length cells.now) }
-    requires n_in_bounds_2 { at + ENTITY_BYTES * n ≤ length memory.old }
-    ensures { (result ≡ at + ENTITY_BYTES * n)
+    requires n_in_bounds { (n ≤ length flags.now) × (Planes.ENTITY_CELL_BYTES * n ≤ length cells.now) }
+    requires n_in_bounds_2 { at + Planes.ENTITY_BYTES * n ≤ length memory.old }
+    ensures { (result ≡ at + Planes.ENTITY_BYTES * n)
         × Put (gathered n flags.now cells.now) memory.old at memory.new result }
 {
     let next = put_front(memory, at, flags, n);
@@ -280,6 +294,7 @@ pub fn put_plane(memory: &mut [u8], at: usize, flags: &[u8], cells: &[u8], n: us
 }
 
 // Puts two stores of the same presence.
+#[tactic(auto, using(crate::proofs::laws::GatheredLaws::none_gathered, crate::proofs::laws::GatheredLaws::both_gathered))]
 pub fn put_stores(
     d: &[u16],
     flags: &[u8],
@@ -287,10 +302,10 @@ pub fn put_stores(
     previous_cells: &[u8],
     memory: &mut [u8],
 )
-    requires in_bounds { (MOST_ENTITIES ≤ length flags.now) × (MOST_CELL_BYTES ≤ length now_cells.now)
-        × (MOST_CELL_BYTES ≤ length previous_cells.now) }
-    requires in_bounds_2 { MOST_STORES_BYTES ≤ length memory.old }
-    ensures { StoresGathered (get_or d.now ENTITY_COUNT_ROW 0) flags.now
+    requires in_bounds { (CountFaults.MOST_ENTITIES ≤ length flags.now) × (Planes.MOST_CELL_BYTES ≤ length now_cells.now)
+        × (Planes.MOST_CELL_BYTES ≤ length previous_cells.now) }
+    requires in_bounds_2 { Planes.MOST_STORES_BYTES ≤ length memory.old }
+    ensures { StoresGathered (get_or d.now Directory.ENTITY_COUNT_ROW 0) flags.now
         now_cells.now previous_cells.now memory.old memory.new }
 {
     let n = checking::row(d, ENTITY_COUNT_ROW);

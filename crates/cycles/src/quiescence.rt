@@ -1,7 +1,7 @@
 // Which rules are tried: those that read a cell that moved.
 ghost use Rattle.std.specs.Prelude.{◌≤◌, length};
-ghost use Rattle.checking.specs.definitions.CountFaults.{MOST_ENTITIES};
-ghost use Rattle.cycles.specs.definitions.Planes.{MOST_CELL_BYTES};
+ghost use Rattle.checking.specs.definitions.CountFaults;
+ghost use Rattle.cycles.specs.definitions.Planes;
 ghost use Rattle.cycles.specs.inner_contracts.AllRules.{RulesTried};
 
 use crate::layout::{ENTITY_CELLS, READ_SET_BYTES, READ_SETS_AT, SCOPES_BYTES};
@@ -10,6 +10,7 @@ use checking::layout::{ENTITY_COUNT_ROW, MOST_ENTITIES, MOST_RULES, RULE_COUNT_R
 use checking::row;
 
 // The set of the rules that are tried, by their numbers. No bench has more rules or entities, and its sets have room.
+#[tactic(auto, using(crate::proofs::steps::TriedLaws::tried_sets))]
 pub fn tried_rules(
     scopes: &[u8],
     d: &[u16],
@@ -18,8 +19,8 @@ pub fn tried_rules(
     previous_flags: &[u8],
     previous_cells: &[u8],
 ) -> u64
-    requires in_bounds { (MOST_ENTITIES ≤ length flags.now) × (MOST_ENTITIES ≤ length previous_flags.now) }
-    requires in_bounds_2 { (MOST_CELL_BYTES ≤ length cells.now) × (MOST_CELL_BYTES ≤ length previous_cells.now) }
+    requires in_bounds { (CountFaults.MOST_ENTITIES ≤ length flags.now) × (CountFaults.MOST_ENTITIES ≤ length previous_flags.now) }
+    requires in_bounds_2 { (Planes.MOST_CELL_BYTES ≤ length cells.now) × (Planes.MOST_CELL_BYTES ≤ length previous_cells.now) }
     ensures { RulesTried d.now scopes.now flags.now cells.now previous_flags.now
         previous_cells.now result }
 {

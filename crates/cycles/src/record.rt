@@ -4,10 +4,11 @@ ghost use Rattle.std.proofs.Math.Option.{none};
 ghost use Rattle.values.specs.declared.Kind.{Kind};
 ghost use Rattle.values.specs.definitions.Bytes.{overwritten};
 ghost use Rattle.checking.specs.inner_contracts.Directory.{kind_class};
-ghost use Rattle.checking.specs.definitions.CountFaults.{MOST_ENTITIES};
+ghost use Rattle.checking.specs.definitions.CountFaults;
 ghost use Rattle.cycles.specs.definitions.Record.{as_truth};
-ghost use Rattle.cycles.specs.definitions.Planes.{CELL_BYTES, MOST_CELL_BYTES, table, presence_flag, input_bytes};
-ghost use Rattle.cycles.specs.inner_contracts.HeaderReads.{NO_COLUMN};
+ghost use Rattle.cycles.specs.definitions.Planes;
+ghost use Rattle.cycles.specs.definitions.Planes.{table, presence_flag, input_bytes};
+ghost use Rattle.cycles.specs.inner_contracts.HeaderReads;
 ghost use Rattle.cycles.specs.inner_contracts.LineReads.{SentRead, is_well_formed, said, InputPut, ValuesRead};
 
 use crate::fields::{field_end, field_start, first_size, has_byte};
@@ -29,6 +30,7 @@ pub enum Sent {
 }
 
 // The sender and the number of a record with so many values.
+#[tactic(auto, using(crate::proofs::laws::RecordLaws::no_number))]
 pub fn read_sent(values: &[u8], count: usize) -> Sent
     ensures { SentRead count values.now result }
 {
@@ -70,6 +72,7 @@ fn well_formed(field: Field) -> bool
 }
 
 // The flag of what a field says of presence.
+#[tactic(auto, unfolding(crate::specs::definitions::Record::as_truth))]
 fn presence_byte(field: Field) -> u8
     ensures { presence_flag (as_truth (said field)) ≡ result ∷ [] }
 {
@@ -87,8 +90,8 @@ fn presence_byte(field: Field) -> u8
 
 // Puts no reading into cell number i.
 fn put_blank(cells: &mut [u8], i: usize)
-    requires { i * CELL_BYTES + CELL_BYTES ≤ length cells.old }
-    ensures { cells.new ≡ overwritten cells.old (i * CELL_BYTES) (input_bytes none) }
+    requires { i * Planes.CELL_BYTES + Planes.CELL_BYTES ≤ length cells.old }
+    ensures { cells.new ≡ overwritten cells.old (i * Planes.CELL_BYTES) (input_bytes none) }
 {
     let at = i * CELL_BYTES;
     let next = at + 1;
@@ -98,8 +101,8 @@ fn put_blank(cells: &mut [u8], i: usize)
 
 // Puts what a field says into cell number i.
 fn put_said(cells: &mut [u8], i: usize, field: Field)
-    requires { i * CELL_BYTES + CELL_BYTES ≤ length cells.old }
-    ensures { cells.new ≡ overwritten cells.old (i * CELL_BYTES) (input_bytes (said field)) }
+    requires { i * Planes.CELL_BYTES + Planes.CELL_BYTES ≤ length cells.old }
+    ensures { cells.new ≡ overwritten cells.old (i * Planes.CELL_BYTES) (input_bytes (said field)) }
 {
     match field {
         Field::Blank => put_blank(cells, i),
@@ -109,6 +112,7 @@ fn put_said(cells: &mut [u8], i: usize, field: Field)
 }
 
 // The kind that a class says.
+#[tactic(auto, using(crate::proofs::laws::RecordLaws::whole_class, crate::proofs::laws::RecordLaws::bool_class, crate::proofs::laws::RecordLaws::real_class))]
 fn kind_of(class: u8) -> Kind
     ensures { (k : Kind) → class ≡ kind_class k → result ≡ k }
 {
@@ -122,6 +126,7 @@ fn kind_of(class: u8) -> Kind
 }
 
 // Puts a field, read in column number `column`, in its place; false if it is ill formed there.
+#[tactic(auto, using(crate::proofs::steps::InputLaws::presence_is_put, crate::proofs::steps::InputLaws::event_is_put))]
 fn put_input(
     classes: &[u8],
     d: &[u16],
@@ -130,8 +135,8 @@ fn put_input(
     flags: &mut [u8],
     cells: &mut [u8],
 ) -> bool
-    requires column_bound { column < NO_COLUMN }
-    requires in_bounds { (MOST_ENTITIES ≤ length flags.old) × (MOST_CELL_BYTES ≤ length cells.old) }
+    requires column_bound { column < HeaderReads.NO_COLUMN }
+    requires in_bounds { (CountFaults.MOST_ENTITIES ≤ length flags.old) × (Planes.MOST_CELL_BYTES ≤ length cells.old) }
     ensures { InputPut classes.now d.now column field.now flags.old cells.old flags.new
         cells.new result }
 {
@@ -151,6 +156,7 @@ fn put_input(
 // ---- all of them
 
 // Puts the values of a record, from the last on, where memory has no input; false if one is ill formed.
+#[tactic(auto, using(crate::proofs::steps::ValuesLaws::values_too_few))]
 pub fn read_values(
     classes: &[u8],
     d: &[u16],
@@ -160,8 +166,8 @@ pub fn read_values(
     flags: &mut [u8],
     cells: &mut [u8],
 ) -> bool
-    requires count_in_bounds { (count ≤ length columns.now) × ((k : ℕ) → k < count → get_or columns.now k 0 < NO_COLUMN) }
-    requires in_bounds { (MOST_ENTITIES ≤ length flags.old) × (MOST_CELL_BYTES ≤ length cells.old) }
+    requires count_in_bounds { (count ≤ length columns.now) × ((k : ℕ) → k < count → get_or columns.now k 0 < HeaderReads.NO_COLUMN) }
+    requires in_bounds { (CountFaults.MOST_ENTITIES ≤ length flags.old) × (Planes.MOST_CELL_BYTES ≤ length cells.old) }
     ensures { ValuesRead classes.now d.now values.now columns.now count flags.old cells.old
         flags.new cells.new result }
 {
@@ -183,6 +189,7 @@ pub fn read_values(
 }
 
 // Puts no reading into the first n flags.
+#[tactic(auto, using(crate::proofs::laws::TableLaws::flag_fill))]
 pub fn clear_flags(flags: &mut [u8], n: usize)
     requires { n ≤ length flags.old }
     ensures { flags.new ≡ table (λ e. 0 ∷ []) 0 n ++ drop n flags.old }
@@ -196,8 +203,8 @@ pub fn clear_flags(flags: &mut [u8], n: usize)
 
 // Puts no reading into the first n cells.
 pub fn clear_cells(cells: &mut [u8], n: usize)
-    requires { n * CELL_BYTES ≤ length cells.old }
-    ensures { cells.new ≡ table (λ i. input_bytes none) 0 n ++ drop (n * CELL_BYTES) cells.old }
+    requires { n * Planes.CELL_BYTES ≤ length cells.old }
+    ensures { cells.new ≡ table (λ i. input_bytes none) 0 n ++ drop (n * Planes.CELL_BYTES) cells.old }
 {
     let mut i = 0;
     while i < n {

@@ -1,8 +1,8 @@
 // The fields of fired actions in a row, and the header of rows.
 ghost use Rattle.std.specs.Prelude.{◌+◌, ◌*◌, ◌≤◌, length};
-ghost use Rattle.cycles.specs.definitions.Row.{MOST_ROW_BYTES};
+ghost use Rattle.cycles.specs.definitions.Row;
 ghost use Rattle.cycles.specs.inner_contracts.RowMemory.{FIELD_BYTES, FIELDS_BYTES, FiredPut, FieldsPut, NamePut, HeaderPut};
-ghost use Rattle.cycles.specs.definitions.Planes.{CELL_BYTES, MOST_CELL_BYTES};
+ghost use Rattle.cycles.specs.definitions.Planes;
 
 use crate::layout::ENTITY_CELLS;
 use crate::planes::{NO_TOKEN, cell_token, is_sort};
@@ -10,6 +10,7 @@ use checking::layout::{ENTITY_COUNT_ROW, ENTITY_ROWS, MOST_ENTITIES};
 use text::classes::ACTION;
 
 // Puts a space and the value of cell number i, if the member whose first token has that number is an action, and answers the offset after them.
+#[tactic(auto, using(crate::proofs::laws::RowPuts::fired_none))]
 fn put_fired(
     classes: &[u8],
     token: usize,
@@ -18,7 +19,7 @@ fn put_fired(
     row: &mut [u8],
     at: usize,
 ) -> usize
-    requires i_in_bounds { i * CELL_BYTES + CELL_BYTES ≤ length cells.now }
+    requires i_in_bounds { i * Planes.CELL_BYTES + Planes.CELL_BYTES ≤ length cells.now }
     requires at_in_bounds { at + FIELD_BYTES ≤ length row.old }
     ensures { FiredPut classes.now token cells.now i row.old at row.new result }
 {
@@ -30,8 +31,9 @@ fn put_fired(
 }
 
 // Puts the fields of all action cells, and answers the offset after them.
+#[tactic(auto, using(crate::proofs::laws::RowPuts::fields_impossible))]
 pub fn put_fields(classes: &[u8], d: &[u16], cells: &[u8], row: &mut [u8], at: usize) -> usize
-    requires in_bounds { MOST_CELL_BYTES ≤ length cells.now }
+    requires in_bounds { Planes.MOST_CELL_BYTES ≤ length cells.now }
     requires at_in_bounds { at + FIELDS_BYTES ≤ length row.old }
     ensures { FieldsPut classes.now d.now cells.now row.old at row.new result }
 {
@@ -56,6 +58,7 @@ pub fn put_fields(classes: &[u8], d: &[u16], cells: &[u8], row: &mut [u8], at: u
 }
 
 // Puts a space and the name of cell number i, if the cell is an action's, and answers the offset after them.
+#[tactic(auto, using(crate::proofs::laws::RowPuts::name_below))]
 fn put_name(
     text: &[u8],
     classes: &[u8],
@@ -91,6 +94,7 @@ fn put_name(
 }
 
 // The header: writes it to the front and answers its length.
+#[tactic(auto, using(crate::proofs::laws::RowPuts::header_impossible))]
 pub fn put_row_header(
     text: &[u8],
     classes: &[u8],
@@ -99,7 +103,7 @@ pub fn put_row_header(
     d: &[u16],
     row: &mut [u8],
 ) -> usize
-    requires { MOST_ROW_BYTES ≤ length row.old }
+    requires { Row.MOST_ROW_BYTES ≤ length row.old }
     ensures { HeaderPut text.now classes.now offsets.now lengths.now d.now
         row.old row.new result }
 {

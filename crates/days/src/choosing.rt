@@ -3,10 +3,11 @@
 ghost use Rattle.std.specs.Prelude.{ℕ, ◌≤◌, ◌<◌, length, get_or};
 ghost use Rattle.checking.specs.definitions.Scope.{entity_named};
 ghost use Rattle.cycles.specs.definitions.Fields.{split};
-ghost use Rattle.senders.specs.definitions.StateImage.{STATE};
-ghost use Rattle.sheets.specs.definitions.Layout.{MOST_CHOSEN};
+ghost use Rattle.senders.specs.definitions.StateImage;
+ghost use Rattle.sheets.specs.definitions.Layout;
 ghost use Rattle.days.specs.definitions.Chosen.{spot_of_entity, spot_named};
-ghost use Rattle.days.specs.inner_contracts.Choosing.{NO_SPOT, SpotRead, ChosenRead, RealRead, SpotValue, RealsRead, CellsRead};
+ghost use Rattle.days.specs.inner_contracts.Choosing;
+ghost use Rattle.days.specs.inner_contracts.Choosing.{SpotRead, ChosenRead, RealRead, SpotValue, RealsRead, CellsRead};
 
 use checking::layout::{
     ENTITY_COUNT_ROW, ENTITY_INTERFACE_ROWS, MOST_ENTITIES, NO_ENTITY, NO_MEMBER,
@@ -84,7 +85,7 @@ pub fn choose(
     cells: &[u8],
     spots: &mut [u16],
 ) -> usize
-    requires { MOST_CHOSEN ≤ length spots.old }
+    requires { Layout.MOST_CHOSEN ≤ length spots.old }
     ensures { ChosenRead text.now offsets.now lengths.now d.now cells.now spots.new result }
 {
     let mut end = cells.len();
@@ -106,6 +107,7 @@ pub fn choose(
 }
 
 // Is the cell of that number one of a real member?
+#[tactic(auto, using(crate::proofs::laws::ChosenReads::real_by_class))]
 fn is_real_spot(classes: &[u8], d: &[u16], spot: usize) -> bool
     ensures { RealRead classes.now d.now spot result }
 {
@@ -115,7 +117,7 @@ fn is_real_spot(classes: &[u8], d: &[u16], spot: usize) -> bool
 
 // Which of the chosen cells are real, in the order of the text.
 pub fn real_cells(classes: &[u8], d: &[u16], spots: &[u16], count: usize) -> [bool; MOST_CHOSEN]
-    requires { (count ≤ MOST_CHOSEN) × (count ≤ length spots.now) }
+    requires { (count ≤ Layout.MOST_CHOSEN) × (count ≤ length spots.now) }
     ensures { RealsRead classes.now d.now spots.now count result }
 {
     let mut reals = [false; MOST_CHOSEN];
@@ -129,8 +131,9 @@ pub fn real_cells(classes: &[u8], d: &[u16], spots: &[u16], count: usize) -> [bo
 }
 
 // What the cell of that number reads.
+#[tactic(auto, using(crate::proofs::laws::ChosenReads::spot_valued))]
 fn read_spot(flags: &[u8], cells: &[u8], spot: usize) -> Value
-    requires { spot < NO_SPOT }
+    requires { spot < Choosing.NO_SPOT }
     ensures { SpotValue flags.now cells.now spot result }
 {
     let e = (spot / ENTITY_CELLS) as u8;
@@ -140,8 +143,8 @@ fn read_spot(flags: &[u8], cells: &[u8], spot: usize) -> Value
 
 // What the chosen cells read now, in the order of the text.
 pub fn read_chosen(d: &[u16], state: &[u8], spots: &[u16], count: usize) -> [Value; MOST_CHOSEN]
-    requires in_bounds { STATE ≤ length state.now }
-    requires count_bound { (count ≤ MOST_CHOSEN) × (count ≤ length spots.now) × ((k : ℕ) → k < count → get_or spots.now k 0 < NO_SPOT) }
+    requires in_bounds { StateImage.STATE ≤ length state.now }
+    requires count_bound { (count ≤ Layout.MOST_CHOSEN) × (count ≤ length spots.now) × ((k : ℕ) → k < count → get_or spots.now k 0 < Choosing.NO_SPOT) }
     ensures { CellsRead d.now state.now spots.now count result }
 {
     let mut vs = [Value::Unset; MOST_CHOSEN];

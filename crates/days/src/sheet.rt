@@ -1,12 +1,12 @@
 // The day sheet of a text of readings, run on from a state that stays.
 ghost use Rattle.std.specs.Prelude.{◌≡◌, ℕ, ◌+◌, ◌*◌, ◌≤◌, ◌<◌, ltb, length, get_or, take, drop};
-ghost use Rattle.sheets.specs.definitions.Layout.{MOST_CHOSEN};
-ghost use Rattle.sheets.specs.definitions.Sizes.{MOST_LINE_BYTES, MOST_CLOSING_BYTES};
+ghost use Rattle.sheets.specs.definitions.Layout;
+ghost use Rattle.sheets.specs.definitions.Sizes;
 ghost use Rattle.cycles.specs.definitions.Readings.{lines};
-ghost use Rattle.senders.specs.definitions.StateImage.{STATE};
-ghost use Rattle.cycles.specs.inner_contracts.HeaderReads.{NO_COLUMN};
+ghost use Rattle.senders.specs.definitions.StateImage;
+ghost use Rattle.cycles.specs.inner_contracts.HeaderReads;
 ghost use Rattle.days.specs.definitions.DaySheet.{line_feeds, sheet_size};
-ghost use Rattle.days.specs.inner_contracts.Choosing.{NO_SPOT};
+ghost use Rattle.days.specs.inner_contracts.Choosing;
 ghost use Rattle.days.specs.inner_contracts.SheetMemory.{LineEnd, Stepped, DayPut, SheetPut};
 
 use crate::choosing::{choose, read_chosen, real_cells};
@@ -29,6 +29,7 @@ pub enum Sheeted {
     Length(usize),
 }
 
+#[tactic(auto, using(crate::proofs::steps::LineSteps::feeds_counted))]
 fn line_feeds(readings: &[u8]) -> usize
     ensures { (result ≡ line_feeds readings.now) × (result ≤ length readings.now) }
 {
@@ -45,6 +46,7 @@ fn line_feeds(readings: &[u8]) -> usize
 }
 
 // Is memory of so many bytes shorter than the stated size? A product that could overflow is not formed.
+#[tactic(auto, using(crate::proofs::steps::LineSteps::size_short, crate::proofs::steps::LineSteps::size_told))]
 pub fn is_short(readings: &[u8], size: usize) -> bool
     ensures { result ≡ ltb size (sheet_size readings.now) }
 {
@@ -55,6 +57,7 @@ pub fn is_short(readings: &[u8], size: usize) -> bool
 }
 
 // Where the line that starts at `at` ends: at its line feed, or at the text's end.
+#[tactic(auto, using(crate::proofs::steps::LineSteps::line_ended))]
 fn line_end(readings: &[u8], at: usize) -> usize
     requires { at ≤ length readings.now }
     ensures { LineEnd readings.now at result }
@@ -81,8 +84,8 @@ fn step(
     values: &[u8],
     state: &mut [u8],
 ) -> u32
-    requires width_in_bounds { (width ≤ length columns.now) × ((k : ℕ) → k < width → get_or columns.now k 0 < NO_COLUMN) }
-    requires in_bounds { STATE ≤ length state.old }
+    requires width_in_bounds { (width ≤ length columns.now) × ((k : ℕ) → k < width → get_or columns.now k 0 < HeaderReads.NO_COLUMN) }
+    requires in_bounds { StateImage.STATE ≤ length state.old }
     ensures { Stepped classes.now literals.now d.now refs.now scopes.now columns.now width
         values.now state.old state.new result }
 {
@@ -112,10 +115,10 @@ fn put_day(
     state: &mut [u8],
     sheet: &mut [u8],
 ) -> usize
-    requires width_in_bounds { (width ≤ length columns.now) × ((k : ℕ) → k < width → get_or columns.now k 0 < NO_COLUMN) }
-    requires count_bound { (count ≤ MOST_CHOSEN) × (count ≤ length spots.now) × ((k : ℕ) → k < count → get_or spots.now k 0 < NO_SPOT) }
-    requires in_bounds { STATE ≤ length state.old }
-    requires readings_in_bounds { MOST_CHOSEN * MOST_CLOSING_BYTES + MOST_LINE_BYTES * length (lines (drop from readings.now)) ≤ length sheet.old }
+    requires width_in_bounds { (width ≤ length columns.now) × ((k : ℕ) → k < width → get_or columns.now k 0 < HeaderReads.NO_COLUMN) }
+    requires count_bound { (count ≤ Layout.MOST_CHOSEN) × (count ≤ length spots.now) × ((k : ℕ) → k < count → get_or spots.now k 0 < Choosing.NO_SPOT) }
+    requires in_bounds { StateImage.STATE ≤ length state.old }
+    requires readings_in_bounds { Layout.MOST_CHOSEN * Sizes.MOST_CLOSING_BYTES + Sizes.MOST_LINE_BYTES * length (lines (drop from readings.now)) ≤ length sheet.old }
     ensures { DayPut classes.now literals.now d.now refs.now scopes.now columns.now width
         spots.now count readings.now from state.old sheet.old sheet.new result }
 {
@@ -149,9 +152,10 @@ fn put_day(
 }
 
 // The run works on a copy: the state that is lent stays.
+#[tactic(auto, using(crate::proofs::steps::SheetSteps::copy_made))]
 fn copy_state(state: &[u8], copy: &mut [u8])
-    requires { (STATE ≤ length state.now) × (length copy.old ≡ STATE) }
-    ensures { copy.new ≡ take STATE state.now }
+    requires { (StateImage.STATE ≤ length state.now) × (length copy.old ≡ StateImage.STATE) }
+    ensures { copy.new ≡ take StateImage.STATE state.now }
 {
     put_bytes(copy, 0, &state[0..STATE]);
 }
@@ -171,7 +175,7 @@ pub fn put_sheet(
     cells: &[u8],
     sheet: &mut [u8],
 ) -> Sheeted
-    requires in_bounds { STATE ≤ length state.now }
+    requires in_bounds { StateImage.STATE ≤ length state.now }
     requires readings_in_bounds { sheet_size readings.now ≤ length sheet.old }
     ensures { SheetPut text.now classes.now offsets.now lengths.now literals.now d.now
         refs.now scopes.now state.now readings.now cells.now sheet.old

@@ -28,8 +28,8 @@ const BENCH: usize = NUMBER_BYTES + MOST_BYTES;
 const ROW: usize = MOST_ROW_BYTES;
 
 // Checks a bench file and writes its image: 31, 11 to 18 or 44 with the offset of the fault, or 0.
-#[unsafe(no_mangle)]
-pub extern "C" fn bench_check(text: &[u8], bench: &mut [u8]) -> u64
+#[tactic(auto, using(crate::proofs::steps::EntryLaws::check_short))]
+pub fn bench_check(text: &[u8], bench: &mut [u8]) -> u64
     ensures { CheckContract text.now bench.old bench.new result }
 {
     if bench.len() < BENCH {
@@ -49,8 +49,8 @@ pub extern "C" fn bench_check(text: &[u8], bench: &mut [u8]) -> u64
 }
 
 // Writes the fresh state of a checked bench: 31, 32, or 0.
-#[unsafe(no_mangle)]
-pub extern "C" fn bench_fresh(bench: &[u8], state: &mut [u8]) -> u64
+#[tactic(auto, using(crate::proofs::steps::EntryLaws::fresh_no_bench, crate::proofs::steps::EntryLaws::fresh_short))]
+pub fn bench_fresh(bench: &[u8], state: &mut [u8]) -> u64
     ensures { FreshContract bench.now state.old state.new result }
 {
     if bench.len() < BENCH {
@@ -74,8 +74,8 @@ pub extern "C" fn bench_fresh(bench: &[u8], state: &mut [u8]) -> u64
 
 // Takes one line, a header and a record: moves the state on and writes the row of the line's sender. A line that is sent again leaves the state and
 // gives its row again. 31, 32, 33, 22, 21, 43, 42, 23, 24, 25, or 0 with the row's length.
-#[unsafe(no_mangle)]
-pub extern "C" fn bench_line(
+#[tactic(auto, using(crate::proofs::steps::EntryLaws::line_no_bench, crate::proofs::steps::EntryLaws::line_no_state, crate::proofs::steps::EntryLaws::line_short))]
+pub fn bench_line(
     bench: &[u8],
     state: &mut [u8],
     names: &[u8],
@@ -107,8 +107,8 @@ pub extern "C" fn bench_line(
 }
 
 // Writes the row of names: 31, 32, or 0 with its length.
-#[unsafe(no_mangle)]
-pub extern "C" fn bench_header(bench: &[u8], row: &mut [u8]) -> u64
+#[tactic(auto, using(crate::proofs::steps::EntryLaws::header_no_bench, crate::proofs::steps::EntryLaws::header_short))]
+pub fn bench_header(bench: &[u8], row: &mut [u8]) -> u64
     ensures { HeaderContract bench.now row.old row.new result }
 {
     if bench.len() < BENCH {
@@ -131,8 +131,8 @@ pub extern "C" fn bench_header(bench: &[u8], row: &mut [u8]) -> u64
 }
 
 // Writes the row that the state keeps for a sender: 31, 32, 33, 43, or 0 with its length.
-#[unsafe(no_mangle)]
-pub extern "C" fn bench_row(bench: &[u8], state: &[u8], sender: &[u8], row: &mut [u8]) -> u64
+#[tactic(auto, using(crate::proofs::steps::EntryLaws::row_no_bench, crate::proofs::steps::EntryLaws::row_no_state, crate::proofs::steps::EntryLaws::row_short))]
+pub fn bench_row(bench: &[u8], state: &[u8], sender: &[u8], row: &mut [u8]) -> u64
     ensures { RowContract bench.now state.now sender.now row.old row.new result }
 {
     if bench.len() < BENCH {
@@ -158,8 +158,8 @@ pub extern "C" fn bench_row(bench: &[u8], state: &[u8], sender: &[u8], row: &mut
 }
 
 // Writes the day sheet of a text of readings, run on from a state that stays: 31, 32, 33, 41, 22, or 0 with its length.
-#[unsafe(no_mangle)]
-pub extern "C" fn bench_sheet(
+#[tactic(auto, using(crate::proofs::steps::EntryLaws::sheet_no_bench, crate::proofs::steps::EntryLaws::sheet_no_state, crate::proofs::steps::EntryLaws::sheet_short))]
+pub fn bench_sheet(
     bench: &[u8],
     state: &[u8],
     readings: &[u8],
@@ -190,8 +190,7 @@ pub extern "C" fn bench_sheet(
 }
 
 // The class of a byte, 0 to 7, as the lexer has it: letter, digit, `_`, mark, blank, `#`, for comments only, not allowed.
-#[unsafe(no_mangle)]
-pub extern "C" fn bench_byte_class(byte: u8) -> u64
+pub fn bench_byte_class(byte: u8) -> u64
     ensures { ClassContract byte result }
 {
     class_of_byte(byte) as u64
@@ -199,8 +198,7 @@ pub extern "C" fn bench_byte_class(byte: u8) -> u64
 
 // Where the name of an entity stands in a bench text: 256 times its length and 65536 times its offset; 0 if the text has no entity with that number,
 // from 0 in file order, or is refused.
-#[unsafe(no_mangle)]
-pub extern "C" fn bench_entity_name(text: &[u8], number: usize) -> u64
+pub fn bench_entity_name(text: &[u8], number: usize) -> u64
     ensures { EntityContract text.now number result }
 {
     let span = entity_span(text, number);

@@ -1,8 +1,8 @@
 // A line on a checked bench whose rules' names are resolved.
 ghost use Rattle.std.specs.Prelude.{ℕ, ◌≤◌, ◌<◌, length, get_or};
-ghost use Rattle.cycles.specs.inner_contracts.HeaderReads.{NO_COLUMN};
-ghost use Rattle.senders.specs.definitions.StateImage.{STATE};
-ghost use Rattle.engine.specs.definitions.Calls.{ROW};
+ghost use Rattle.cycles.specs.inner_contracts.HeaderReads;
+ghost use Rattle.senders.specs.definitions.StateImage;
+ghost use Rattle.engine.specs.definitions.Calls;
 ghost use Rattle.engine.specs.inner_contracts.LineMemory.{RecordTaken, LineTaken};
 
 use cycles::header::read_header;
@@ -30,9 +30,9 @@ pub fn take_record(
     state: &mut [u8],
     row: &mut [u8],
 ) -> Taken
-    requires count_in_bounds { (count ≤ length columns.now) × ((k : ℕ) → k < count → get_or columns.now k 0 < NO_COLUMN) }
-    requires in_bounds { STATE ≤ length state.old }
-    requires in_bounds_2 { ROW ≤ length row.old }
+    requires count_in_bounds { (count ≤ length columns.now) × ((k : ℕ) → k < count → get_or columns.now k 0 < HeaderReads.NO_COLUMN) }
+    requires in_bounds { StateImage.STATE ≤ length state.old }
+    requires in_bounds_2 { Calls.ROW ≤ length row.old }
     ensures { RecordTaken classes.now literals.now d.now refs.now scopes.now columns.now count
         values.now state.old row.old state.new row.new result }
 {
@@ -61,8 +61,8 @@ pub fn take_line(
     state: &mut [u8],
     row: &mut [u8],
 ) -> Taken
-    requires in_bounds { STATE ≤ length state.old }
-    requires in_bounds_2 { ROW ≤ length row.old }
+    requires in_bounds { StateImage.STATE ≤ length state.old }
+    requires in_bounds_2 { Calls.ROW ≤ length row.old }
     ensures { LineTaken text.now classes.now offsets.now lengths.now literals.now d.now
         refs.now scopes.now names.now values.now state.old row.old state.new
         row.new result }

@@ -1,12 +1,13 @@
 // A call on a bench's text: one piece of code with room for the text's columns serves them all.
 ghost use Rattle.std.specs.Prelude.{◌≡◌, true, ◌*◌, ◌≤◌, length};
 ghost use Rattle.text.specs.inner_contracts.TokenTable.{columns_of};
-ghost use Rattle.checking.specs.definitions.Verdict.{MOST_BYTES};
+ghost use Rattle.checking.specs.definitions.Verdict;
 ghost use Rattle.checking.specs.inner_contracts.CheckedBench.{has_room};
-ghost use Rattle.cycles.specs.inner_contracts.ReadSets.{SCOPES_BYTES};
+ghost use Rattle.cycles.specs.inner_contracts.ReadSets;
 ghost use Rattle.engine.specs.inner_contracts.LineMemory.{taken_answer, ShortRow};
-ghost use Rattle.engine.specs.inner_contracts.Serving.{SHORT_TEXT, Served, served, Room, OnBench, refusal, sheeted_answer};
-ghost use Rattle.engine.specs.definitions.Calls.{ROW};
+ghost use Rattle.engine.specs.inner_contracts.Serving;
+ghost use Rattle.engine.specs.inner_contracts.Serving.{Served, served, Room, OnBench, refusal, sheeted_answer};
+ghost use Rattle.engine.specs.definitions.Calls;
 
 use crate::bench::put_bench;
 use crate::line::{Taken, take_line};
@@ -42,7 +43,7 @@ pub enum Call {
 
 // The answer of a call that is accepted and writes a row of that length.
 fn row_answer(length: usize) -> u64
-    ensures { length ≤ ROW → result ≡ 256 * length }
+    ensures { length ≤ Calls.ROW → result ≡ 256 * length }
 {
     // only where no bench stands in the columns
     if MOST_ROW_BYTES < length {
@@ -51,6 +52,7 @@ fn row_answer(length: usize) -> u64
     256 * (length as u64)
 }
 
+#[tactic(auto, unfolding(crate::specs::inner_contracts::LineMemory::taken_answer))]
 fn answer(taken: Taken) -> u64
     requires { ShortRow taken }
     ensures { result ≡ taken_answer taken }
@@ -62,6 +64,7 @@ fn answer(taken: Taken) -> u64
 }
 
 // A sheet's length has the 56 bits above the number.
+#[tactic(auto, unfolding(crate::specs::inner_contracts::Serving::sheeted_answer))]
 fn sheet_answer(sheeted: Sheeted) -> u64
     ensures { result ≡ sheeted_answer sheeted }
 {
@@ -72,6 +75,7 @@ fn sheet_answer(sheeted: Sheeted) -> u64
 }
 
 // The answer of a call whose text is refused: the check says why.
+#[tactic(auto, unfolding(crate::specs::inner_contracts::Serving::refusal))]
 fn refusal(call: Call, code: u8, at: u32) -> u64
     ensures { result ≡ refusal call code at }
 {
@@ -102,8 +106,8 @@ fn on_bench(
     values: &[u8],
     out: &mut [u8],
 ) -> u64
-    requires text_len_bound { length text.now ≤ MOST_BYTES }
-    requires classes_in_bounds { (length classes.now ≤ length refs.old) × (SCOPES_BYTES ≤ length scopes.old) }
+    requires text_len_bound { length text.now ≤ Verdict.MOST_BYTES }
+    requires classes_in_bounds { (length classes.now ≤ length refs.old) × (ReadSets.SCOPES_BYTES ≤ length scopes.old) }
     requires room { Room call state.old shown.now names.now out.old }
     ensures { OnBench call text.now classes.now offsets.now lengths.now literals.now d.now
         state.old shown.now names.now values.now out.old state.new out.new result }
@@ -171,7 +175,7 @@ fn on_text(
     out: &mut [u8],
 ) -> u64
     requires d_value { has_room text.now (columns_of classes.old offsets.old lengths.old literals.old) d.old ≡ true }
-    requires classes_in_bounds { (length classes.old ≤ length refs.old) × (SCOPES_BYTES ≤ length scopes.old) }
+    requires classes_in_bounds { (length classes.old ≤ length refs.old) × (ReadSets.SCOPES_BYTES ≤ length scopes.old) }
     requires room { Room call state.old shown.now names.now out.old }
     ensures { record { answer = result; state = state.new; out = out.new }
         ≡ served call text.now state.old shown.now names.now values.now out.old }
@@ -209,7 +213,7 @@ fn on_short_text(
     values: &[u8],
     out: &mut [u8],
 ) -> u64
-    requires text_len_bound { length text.now ≤ SHORT_TEXT }
+    requires text_len_bound { length text.now ≤ Serving.SHORT_TEXT }
     requires room { Room call state.old shown.now names.now out.old }
     ensures { record { answer = result; state = state.new; out = out.new }
         ≡ served call text.now state.old shown.now names.now values.now out.old }

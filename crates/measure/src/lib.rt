@@ -18,6 +18,7 @@ fn packed(code: u64, above: usize) -> u64
     code + 256 * above as u64
 }
 
+#[tactic(auto, unfolding(crate::specs::inner_contracts::Measured::syntax_number))]
 fn number(syntax: Syntax) -> u64
     requires { syntax_number syntax < 256 * 32769 }
     ensures { result ≡ syntax_number syntax }
@@ -32,6 +33,7 @@ fn number(syntax: Syntax) -> u64
 }
 
 // The answer of `read` in one number: document 01's code in the low 8 bits, above them the offset, or the number of a file's tokens.
+#[tactic(auto, using(crate::proofs::steps::MeasuredLaws::answer_fits, crate::proofs::steps::MeasuredLaws::measured))]
 #[unsafe(no_mangle)]
 pub extern "C" fn measure_text(
     text: &[u8],

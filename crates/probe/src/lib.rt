@@ -5,9 +5,10 @@
 ghost use Rattle.std.specs.Prelude.{◌≡◌, true, ◌≤◌, length};
 ghost use Rattle.text.specs.inner_contracts.TokenTable.{columns_of};
 ghost use Rattle.checking.specs.inner_contracts.CheckedBench.{has_room};
-ghost use Rattle.cycles.specs.inner_contracts.ReadSets.{SCOPES_BYTES};
-ghost use Rattle.senders.specs.definitions.StateImage.{STATE};
-ghost use Rattle.probe.specs.definitions.Tried.{SET_BYTES, TriedContract};
+ghost use Rattle.cycles.specs.inner_contracts.ReadSets;
+ghost use Rattle.senders.specs.definitions.StateImage;
+ghost use Rattle.probe.specs.definitions.Tried;
+ghost use Rattle.probe.specs.definitions.Tried.{TriedContract};
 ghost use Rattle.probe.specs.inner_contracts.TriedMemory.{TriedBetween, tried_in_text, PutTried};
 
 use checking::check::{Checked, check};
@@ -30,7 +31,7 @@ const SET_BYTES: usize = 8;
 
 // The set of the rules that are tried: each image keeps what the rules saw as its previous store, behind the present one.
 fn tried_between(d: &[u16], scopes: &[u8], before: &[u8], after: &[u8]) -> u64
-    requires { (STATE ≤ length before.now) × (STATE ≤ length after.now) }
+    requires { (StateImage.STATE ≤ length before.now) × (StateImage.STATE ≤ length after.now) }
     ensures { TriedBetween d.now scopes.now before.now after.now result }
 {
     let n = row(d, ENTITY_COUNT_ROW);
@@ -63,8 +64,8 @@ fn put_tried(
     after: &[u8],
     tried: &mut [u8],
 ) -> u64
-    requires classes_in_bounds { (length classes.now ≤ length refs.old) × (SCOPES_BYTES ≤ length scopes.old) }
-    requires in_bounds { (STATE ≤ length before.now) × (STATE ≤ length after.now) × (SET_BYTES ≤ length tried.old) }
+    requires classes_in_bounds { (length classes.now ≤ length refs.old) × (ReadSets.SCOPES_BYTES ≤ length scopes.old) }
+    requires in_bounds { (StateImage.STATE ≤ length before.now) × (StateImage.STATE ≤ length after.now) × (Tried.SET_BYTES ≤ length tried.old) }
     ensures { PutTried text.now classes.now offsets.now lengths.now d.now before.now
         after.now tried.old tried.new result }
 {
@@ -96,8 +97,8 @@ fn on_text(
     tried: &mut [u8],
 ) -> u64
     requires d_value { has_room text.now (columns_of classes.old offsets.old lengths.old literals.old) d.old ≡ true }
-    requires classes_in_bounds { (length classes.old ≤ length refs.old) × (SCOPES_BYTES ≤ length scopes.old) }
-    requires in_bounds { (STATE ≤ length before.now) × (STATE ≤ length after.now) × (SET_BYTES ≤ length tried.old) }
+    requires classes_in_bounds { (length classes.old ≤ length refs.old) × (ReadSets.SCOPES_BYTES ≤ length scopes.old) }
+    requires in_bounds { (StateImage.STATE ≤ length before.now) × (StateImage.STATE ≤ length after.now) × (Tried.SET_BYTES ≤ length tried.old) }
     ensures { record { answer = result; tried = tried.new }
         ≡ tried_in_text text.now before.now after.now tried.old }
 {
@@ -122,7 +123,7 @@ fn on_text(
 
 // The set for a text of any length.
 fn on_any_text(text: &[u8], before: &[u8], after: &[u8], tried: &mut [u8]) -> u64
-    requires { (STATE ≤ length before.now) × (STATE ≤ length after.now) × (SET_BYTES ≤ length tried.old) }
+    requires { (StateImage.STATE ≤ length before.now) × (StateImage.STATE ≤ length after.now) × (Tried.SET_BYTES ≤ length tried.old) }
     ensures { record { answer = result; tried = tried.new }
         ≡ tried_in_text text.now before.now after.now tried.old }
 {
@@ -150,6 +151,7 @@ fn on_any_text(text: &[u8], before: &[u8], after: &[u8], tried: &mut [u8]) -> u6
 
 // Writes the set of the rules, a bit for each by its number, that are tried where the rules see now what the state `after` keeps as its previous
 // store, and saw before what the state `before` keeps so: 31, 32, 33, or 0.
+#[tactic(auto, using(crate::proofs::steps::TriedSteps::short_bench, crate::proofs::steps::TriedSteps::short_before, crate::proofs::steps::TriedSteps::short_after, crate::proofs::steps::TriedSteps::short_set))]
 #[unsafe(no_mangle)]
 pub extern "C" fn rules_tried(bench: &[u8], before: &[u8], after: &[u8], tried: &mut [u8]) -> u64
     ensures { TriedContract bench.now before.now after.now tried.old tried.new result }

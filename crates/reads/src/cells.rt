@@ -1,8 +1,8 @@
 // The set of the cells that one rule reads: cells put into it.
 ghost use Rattle.std.specs.Prelude.{◌<◌, ◌≤◌, ◌&&◌, eqb, length};
-ghost use Rattle.checking.specs.definitions.CountFaults.{MOST_ENTITIES, MOST_RULES};
-ghost use Rattle.cycles.specs.definitions.Planes.{ENTITY_CELLS};
-ghost use Rattle.cycles.specs.inner_contracts.ReadSets.{SCOPES_BYTES};
+ghost use Rattle.checking.specs.definitions.CountFaults;
+ghost use Rattle.cycles.specs.definitions.Planes;
+ghost use Rattle.cycles.specs.inner_contracts.ReadSets;
 ghost use Rattle.reads.specs.inner_contracts.ReadSteps.{CellsAdded, has_face, can_refer};
 
 use cell_sets::add;
@@ -15,8 +15,9 @@ use cycles::layout::{ENTITY_CELLS, READ_SET_BYTES, READ_SETS_AT};
 use text::walks::class_at;
 
 // Puts member number m of entity number e into the set of rule number k.
+#[tactic(auto, using(crate::proofs::steps::SetSteps::cell_added))]
 fn add_cell(scopes: &mut [u8], k: usize, e: usize, m: usize)
-    requires { (k < MOST_RULES) × (e < MOST_ENTITIES) × (m < ENTITY_CELLS) × (SCOPES_BYTES ≤ length scopes.old) }
+    requires { (k < CountFaults.MOST_RULES) × (e < CountFaults.MOST_ENTITIES) × (m < Planes.ENTITY_CELLS) × (ReadSets.SCOPES_BYTES ≤ length scopes.old) }
     ensures { CellsAdded k (λ a b. eqb e a && eqb m b) scopes.old scopes.new }
 {
     add(
@@ -28,7 +29,7 @@ fn add_cell(scopes: &mut [u8], k: usize, e: usize, m: usize)
 
 // Puts member number m of each entity of interface number `face` into the set of rule number k.
 fn add_cells_of(d: &[u16], scopes: &mut [u8], k: usize, face: usize, m: usize)
-    requires { (k < MOST_RULES) × (m < ENTITY_CELLS) × (SCOPES_BYTES ≤ length scopes.old) }
+    requires { (k < CountFaults.MOST_RULES) × (m < Planes.ENTITY_CELLS) × (ReadSets.SCOPES_BYTES ≤ length scopes.old) }
     ensures { CellsAdded k (λ a b. has_face d.now face a && eqb m b) scopes.old scopes.new }
 {
     let count = row(d, ENTITY_COUNT_ROW);
@@ -47,8 +48,9 @@ fn add_cells_of(d: &[u16], scopes: &mut [u8], k: usize, face: usize, m: usize)
 }
 
 // Puts member number m of what reference r can mean into the set of rule number k.
+#[tactic(auto, using(crate::proofs::steps::SetSteps::no_member_added))]
 pub fn add_reads(d: &[u16], scopes: &mut [u8], k: usize, r: usize, m: usize)
-    requires { (k < MOST_RULES) × (SCOPES_BYTES ≤ length scopes.old) }
+    requires { (k < CountFaults.MOST_RULES) × (ReadSets.SCOPES_BYTES ≤ length scopes.old) }
     ensures { CellsAdded k (λ e b. can_refer d.now scopes.old k r e && eqb m b) scopes.old scopes.new }
 {
     if NO_MEMBER <= m {

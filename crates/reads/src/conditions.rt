@@ -1,7 +1,7 @@
 // The cells that the conditions of rules read, by a scan of their tokens.
 ghost use Rattle.std.specs.Prelude.{◌<◌, ◌≤◌, ◌≡◌, length};
-ghost use Rattle.checking.specs.definitions.CountFaults.{MOST_RULES};
-ghost use Rattle.cycles.specs.inner_contracts.ReadSets.{SCOPES_BYTES};
+ghost use Rattle.checking.specs.definitions.CountFaults;
+ghost use Rattle.cycles.specs.inner_contracts.ReadSets;
 ghost use Rattle.reads.specs.inner_contracts.ReadSteps.{is_before_member, MentionAdded, RuleRead, Cleared, ReadsFound};
 
 use crate::cells::add_reads;
@@ -13,6 +13,7 @@ use text::classes::{ACTION, DOT, EVENT, WITH};
 use text::walks::class_at;
 
 // Does a member's name come after a token of this class in a condition?
+#[tactic(auto, unfolding(crate::specs::inner_contracts::ReadSteps::is_before_member))]
 fn is_before_member(class: u8) -> bool
     ensures { result ≡ is_before_member class }
 {
@@ -26,8 +27,9 @@ fn is_before_member(class: u8) -> bool
 }
 
 // Puts the cells that token number i, a member's name, mentions into the set of rule number k.
+#[tactic(auto, using(crate::proofs::steps::SetSteps::mention_added))]
 fn add_mention(classes: &[u8], d: &[u16], refs: &[u16], scopes: &mut [u8], k: usize, i: usize)
-    requires { (k < MOST_RULES) × (SCOPES_BYTES ≤ length scopes.old) }
+    requires { (k < CountFaults.MOST_RULES) × (ReadSets.SCOPES_BYTES ≤ length scopes.old) }
     ensures { MentionAdded classes.now d.now refs.now k i scopes.old scopes.new }
 {
     let owner = owner_of(classes, i);
@@ -39,7 +41,7 @@ fn add_mention(classes: &[u8], d: &[u16], refs: &[u16], scopes: &mut [u8], k: us
 // Puts the cells that the condition of rule number k reads into its set. The condition ends before the first call, whose first token is the first
 // `action` of the rule.
 fn find_in_rule(classes: &[u8], d: &[u16], refs: &[u16], scopes: &mut [u8], k: usize)
-    requires { (k < MOST_RULES) × (SCOPES_BYTES ≤ length scopes.old) }
+    requires { (k < CountFaults.MOST_RULES) × (ReadSets.SCOPES_BYTES ≤ length scopes.old) }
     ensures { RuleRead classes.now d.now refs.now k scopes.old scopes.new }
 {
     let mut i = row(d, RULE_ROWS + k) + 1;
@@ -57,8 +59,9 @@ fn find_in_rule(classes: &[u8], d: &[u16], refs: &[u16], scopes: &mut [u8], k: u
 }
 
 // Empties the sets of all rules: lent memory may hold anything.
+#[tactic(auto, using(crate::proofs::steps::RuleSteps::clearing_starts, crate::proofs::steps::RuleSteps::clearing_turns, crate::proofs::steps::RuleSteps::clearing_ends))]
 fn clear_sets(scopes: &mut [u8])
-    requires { SCOPES_BYTES ≤ length scopes.old }
+    requires { ReadSets.SCOPES_BYTES ≤ length scopes.old }
     ensures { Cleared scopes.old scopes.new }
 {
     let mut i = READ_SETS_AT;
@@ -69,8 +72,9 @@ fn clear_sets(scopes: &mut [u8])
 }
 
 // Fills the sets of all rules.
+#[tactic(auto, using(crate::proofs::steps::RuleSteps::finding_starts))]
 pub fn find_reads(classes: &[u8], d: &[u16], refs: &[u16], scopes: &mut [u8])
-    requires { SCOPES_BYTES ≤ length scopes.old }
+    requires { ReadSets.SCOPES_BYTES ≤ length scopes.old }
     ensures { ReadsFound classes.now d.now refs.now scopes.old scopes.new }
 {
     clear_sets(scopes);

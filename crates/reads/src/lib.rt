@@ -5,7 +5,7 @@ pub mod cells; // the set of one rule
 pub mod conditions; // what conditions read
 
 ghost use Rattle.std.specs.Prelude.{◌≤◌, length};
-ghost use Rattle.cycles.specs.inner_contracts.ReadSets.{SCOPES_BYTES};
+ghost use Rattle.cycles.specs.inner_contracts.ReadSets;
 ghost use Rattle.reads.specs.inner_contracts.RulesResolved.{RulesResolved};
 
 use conditions::find_reads;
@@ -20,7 +20,7 @@ pub fn resolve(
     refs: &mut [u16],
     scopes: &mut [u8],
 )
-    requires { (length classes.now ≤ length refs.old) × (SCOPES_BYTES ≤ length scopes.old) }
+    requires { (length classes.now ≤ length refs.old) × (ReadSets.SCOPES_BYTES ≤ length scopes.old) }
     ensures { RulesResolved text.now classes.now offsets.now lengths.now d.now refs.old
         scopes.old refs.new scopes.new }
 {

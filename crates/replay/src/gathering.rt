@@ -10,6 +10,7 @@ pub struct Gathered {
 }
 
 // Keeps the bytes up to a line feed or the chunk's end, as many as there is room for: a line that fills the room is too long, whatever follows.
+#[tactic(auto, using(crate::proofs::steps::GatheringLaws::gathering_kept, crate::proofs::steps::GatheringLaws::gathering_full))]
 pub fn gather(chunk: &[u8], from: usize, line: &mut [u8], kept: usize) -> Gathered
     requires { (from ≤ length chunk.now) × (kept ≤ length line.old) }
     ensures { Gathers chunk.now from line.old kept line.new result }

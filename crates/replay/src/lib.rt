@@ -8,10 +8,11 @@ pub mod rows; // what a line prints
 ghost use Rattle.std.specs.Prelude.{◌≡◌, true, ◌+◌, ◌≤◌, ◌<◌, length};
 ghost use Rattle.text.specs.inner_contracts.TokenTable.{columns_of};
 ghost use Rattle.checking.specs.inner_contracts.CheckedBench.{has_room};
-ghost use Rattle.cycles.specs.inner_contracts.ReadSets.{SCOPES_BYTES};
-ghost use Rattle.senders.specs.definitions.StateImage.{STATE};
+ghost use Rattle.cycles.specs.inner_contracts.ReadSets;
+ghost use Rattle.senders.specs.definitions.StateImage;
 ghost use Rattle.replay.specs.inner_contracts.Awaiting.{bench_memory};
-ghost use Rattle.replay.specs.inner_contracts.Feeding.{ROOM, Lent, Fed, Finished, Starts, is_over, is_closed};
+ghost use Rattle.replay.specs.inner_contracts.Feeding;
+ghost use Rattle.replay.specs.inner_contracts.Feeding.{Lent, Fed, Finished, Starts, is_over, is_closed};
 
 use checking::check::{Checked, check};
 use cycles::layout::MOST_ROW_BYTES;
@@ -63,8 +64,8 @@ pub fn start(
     out: &mut [u8],
 ) -> Begun
     requires d_value { has_room text.now (columns_of classes.old offsets.old lengths.old literals.old) d.old ≡ true }
-    requires classes_in_bounds { (length classes.old ≤ length refs.old) × (SCOPES_BYTES ≤ length scopes.old) }
-    requires in_bounds { (STATE ≤ length state.old) × (ROOM ≤ length out.old) }
+    requires classes_in_bounds { (length classes.old ≤ length refs.old) × (ReadSets.SCOPES_BYTES ≤ length scopes.old) }
+    requires in_bounds { (StateImage.STATE ≤ length state.old) × (Feeding.ROOM ≤ length out.old) }
     ensures { Starts text.now classes.new offsets.new lengths.new literals.new d.new
         refs.new scopes.new state.new out.new result }
 {
@@ -185,6 +186,7 @@ pub fn feed(
 }
 
 // Is nothing more awaited? Whatever text is left then, it prints nothing.
+#[tactic(auto, unfolding(crate::specs::inner_contracts::Feeding::is_closed))]
 pub fn is_closed(stage: Stage) -> bool
     ensures { result ≡ is_closed stage }
 {
@@ -196,6 +198,7 @@ pub fn is_closed(stage: Stage) -> bool
 }
 
 // At the text's end: is there no line any more? A line of names is there, if only an empty one.
+#[tactic(auto, unfolding(crate::specs::inner_contracts::Feeding::is_over))]
 fn is_over(stage: Stage, kept: usize) -> bool
     ensures { result ≡ is_over stage kept }
 {
@@ -225,7 +228,7 @@ pub fn finish(
 ) -> usize
     requires lent { Lent (bench_memory text.now classes.now offsets.now lengths.now literals.now d.now refs.now scopes.now) stage
         line.now kept columns.old state.old }
-    requires in_bounds { ROOM ≤ length out.old }
+    requires in_bounds { Feeding.ROOM ≤ length out.old }
     ensures { Finished (bench_memory text.now classes.now offsets.now lengths.now literals.now
         d.now refs.now scopes.now) stage line.now kept columns.old state.old
         out.new result }

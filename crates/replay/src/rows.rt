@@ -1,12 +1,13 @@
 // What a line prints: it is appended to a buffer that has room for a row. The whole bench is lent to each function, since contracts speak of
 // what all of it stands for.
 ghost use Rattle.std.specs.Prelude.{◌+◌, ◌≤◌, [], ◌∷◌, ◌++◌, length};
-ghost use Rattle.cycles.specs.inner_contracts.HeaderReads.{MOST_COLUMNS};
-ghost use Rattle.senders.specs.definitions.StateImage.{STATE};
+ghost use Rattle.cycles.specs.inner_contracts.HeaderReads;
+ghost use Rattle.senders.specs.definitions.StateImage;
 ghost use Rattle.values.specs.inner_contracts.Puts.{Put};
 ghost use Rattle.replay.specs.definitions.Replay.{refusal, bench_refusal};
 ghost use Rattle.replay.specs.inner_contracts.Awaiting.{bench_memory, Stood};
-ghost use Rattle.replay.specs.inner_contracts.Feeding.{ROOM, LinePut};
+ghost use Rattle.replay.specs.inner_contracts.Feeding;
+ghost use Rattle.replay.specs.inner_contracts.Feeding.{LinePut};
 ghost use Rattle.replay.specs.declared.Stage.TheVariants.{Names, Values};
 
 use crate::Stage;
@@ -23,8 +24,9 @@ pub struct Step {
 }
 
 // `refused` and a number.
+#[tactic(auto, using(values::proofs::laws::FormLaws::decimal_most))]
 fn put_refusal(out: &mut [u8], used: usize, code: u8) -> usize
-    requires { used + ROOM ≤ length out.old }
+    requires { used + Feeding.ROOM ≤ length out.old }
     ensures { Put (refusal code) out.old used out.new result }
 {
     let word = values::put_bytes(out, used, b"refused ");
@@ -32,8 +34,9 @@ fn put_refusal(out: &mut [u8], used: usize, code: u8) -> usize
 }
 
 // The refusal of a bench, at the buffer's front.
+#[tactic(auto, using(values::proofs::laws::FormLaws::decimal_most, crate::proofs::steps::LineLaws::refusal_most))]
 pub fn put_bench_refusal(out: &mut [u8], code: u8, at: u32) -> usize
-    requires { ROOM ≤ length out.old }
+    requires { Feeding.ROOM ≤ length out.old }
     ensures { Put (bench_refusal code at ++ 10 ∷ []) out.old 0 out.new result }
 {
     let word = put_refusal(out, 0, code);
@@ -43,6 +46,7 @@ pub fn put_bench_refusal(out: &mut [u8], code: u8, at: u32) -> usize
 }
 
 // The line of names: the row of names, or its refusal.
+#[tactic(auto, using(crate::proofs::steps::LineLaws::refusal_most))]
 fn put_names(
     text: &[u8],
     classes: &[u8],
@@ -58,7 +62,7 @@ fn put_names(
     out: &mut [u8],
     used: usize,
 ) -> Step
-    requires in_bounds { (MOST_COLUMNS ≤ length columns.old) × (used + ROOM ≤ length out.old) }
+    requires in_bounds { (HeaderReads.MOST_COLUMNS ≤ length columns.old) × (used + Feeding.ROOM ≤ length out.old) }
     requires stood { Stood (bench_memory text.now classes.now offsets.now lengths.now literals.now d.now refs.now scopes.now) Names
         columns.old state.now }
     ensures { LinePut (bench_memory text.now classes.now offsets.now lengths.now literals.now
@@ -84,6 +88,7 @@ fn put_names(
 }
 
 // A line of values: its row, or its refusal.
+#[tactic(auto, using(crate::proofs::steps::LineLaws::refusal_most))]
 fn put_values(
     text: &[u8],
     classes: &[u8],
@@ -100,7 +105,7 @@ fn put_values(
     out: &mut [u8],
     used: usize,
 ) -> Step
-    requires in_bounds { (MOST_COLUMNS ≤ length columns.now) × (STATE ≤ length state.old) × (used + ROOM ≤ length out.old) }
+    requires in_bounds { (HeaderReads.MOST_COLUMNS ≤ length columns.now) × (StateImage.STATE ≤ length state.old) × (used + Feeding.ROOM ≤ length out.old) }
     requires stood { Stood (bench_memory text.now classes.now offsets.now lengths.now literals.now d.now refs.now scopes.now) (Values count)
         columns.now state.old }
     ensures { LinePut (bench_memory text.now classes.now offsets.now lengths.now literals.now
@@ -156,7 +161,7 @@ pub fn put_line(
     out: &mut [u8],
     used: usize,
 ) -> Step
-    requires in_bounds { (MOST_COLUMNS ≤ length columns.old) × (STATE ≤ length state.old) × (used + ROOM ≤ length out.old) }
+    requires in_bounds { (HeaderReads.MOST_COLUMNS ≤ length columns.old) × (StateImage.STATE ≤ length state.old) × (used + Feeding.ROOM ≤ length out.old) }
     requires stood { Stood (bench_memory text.now classes.now offsets.now lengths.now literals.now d.now refs.now scopes.now) stage
         columns.old state.old }
     ensures { LinePut (bench_memory text.now classes.now offsets.now lengths.now literals.now

@@ -1,6 +1,7 @@
 // The fingerprint of a bench text.
 ghost use Rattle.std.specs.Prelude.{◌≡◌, ◌%◌, ◌≤◌, ◌<◌, length, drop};
-ghost use Rattle.senders.specs.definitions.Fingerprint.{PRIME, next_fingerprint, fingerprint_from, fingerprint};
+ghost use Rattle.senders.specs.definitions.Fingerprint;
+ghost use Rattle.senders.specs.definitions.Fingerprint.{next_fingerprint, fingerprint_from, fingerprint};
 ghost use Rattle.senders.specs.inner_contracts.PrintSums.{SUMS_BELOW};
 
 use crate::layout::{BASE, BASE_CUBED, BASE_SQUARED, HALF, HALF_LEAVES, PRIME, THREE_ONES};
@@ -10,7 +11,7 @@ use values::slices::wide;
 // it leaves.
 fn next_three(print: u64, first: u8, second: u8, third: u8) -> u64
     requires { print < SUMS_BELOW }
-    ensures { (result < SUMS_BELOW) × (result % PRIME ≡ next_fingerprint (next_fingerprint (next_fingerprint (print % PRIME) first) second) third) }
+    ensures { (result < SUMS_BELOW) × (result % Fingerprint.PRIME ≡ next_fingerprint (next_fingerprint (next_fingerprint (print % Fingerprint.PRIME) first) second) third) }
 {
     let bytes = wide(first) * BASE_SQUARED + wide(second) * BASE + wide(third) + THREE_ONES;
     let sum = print * BASE_CUBED + bytes;
@@ -18,8 +19,9 @@ fn next_three(print: u64, first: u8, second: u8, third: u8) -> u64
 }
 
 // The bytes from `at` on, one by one.
+#[tactic(auto, using(crate::proofs::steps::PrintSteps::print_step, crate::proofs::steps::PrintSteps::print_ends))]
 fn print_rest(text: &[u8], at: usize, so_far: u64) -> u32
-    requires { (at ≤ length text.now) × (so_far < PRIME) }
+    requires { (at ≤ length text.now) × (so_far < Fingerprint.PRIME) }
     ensures { result ≡ fingerprint_from so_far (drop at text.now) }
 {
     let mut print = so_far;
@@ -31,6 +33,7 @@ fn print_rest(text: &[u8], at: usize, so_far: u64) -> u32
     print as u32
 }
 
+#[tactic(auto, using(crate::proofs::steps::PrintSteps::print_begins, crate::proofs::steps::PrintSteps::three_steps))]
 pub fn fingerprint(text: &[u8]) -> u32
     ensures { result ≡ fingerprint text.now }
 {

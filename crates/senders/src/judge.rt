@@ -1,7 +1,8 @@
 // What a state says to a line that is read: tests of memory.
 ghost use Rattle.std.specs.Prelude.{◌≡◌, ◌*◌, ◌+◌, ◌≤◌, ◌<◌, length, get_or};
-ghost use Rattle.checking.specs.inner_contracts.Directory.{ENTITY_COUNT_ROW};
-ghost use Rattle.cycles.specs.definitions.Planes.{CELL_BYTES, ENTITY_BYTES, ENTITY_CELLS, ENTITY_CELL_BYTES, each};
+ghost use Rattle.checking.specs.inner_contracts.Directory;
+ghost use Rattle.cycles.specs.definitions.Planes;
+ghost use Rattle.cycles.specs.definitions.Planes.{each};
 ghost use Rattle.senders.specs.definitions.Line.{in_turn};
 ghost use Rattle.senders.specs.inner_contracts.Judging.{takes_cell, SameReading, SameRead};
 
@@ -22,8 +23,9 @@ pub enum Judgement {
 }
 
 // Does cell number i have no reading, or is its entity present after the line?
+#[tactic(auto, unfolding(crate::specs::inner_contracts::Judging::takes_cell))]
 fn takes_cell(present: &[u8], flags: &[u8], cells: &[u8], i: usize) -> bool
-    requires { (i < ENTITY_CELLS * length present.now) × (i < ENTITY_CELLS * length flags.now) × (i * CELL_BYTES < length cells.now) }
+    requires { (i < Planes.ENTITY_CELLS * length present.now) × (i < Planes.ENTITY_CELLS * length flags.now) × (i * Planes.CELL_BYTES < length cells.now) }
     ensures { result ≡ takes_cell present.now flags.now cells.now i }
 {
     let at = i * CELL_BYTES;
@@ -35,9 +37,10 @@ fn takes_cell(present: &[u8], flags: &[u8], cells: &[u8], i: usize) -> bool
 }
 
 // Do all the cells of n entities?
+#[tactic(auto, using(crate::proofs::steps::JudgeSteps::call_fails, crate::proofs::steps::JudgeSteps::call_passes, cycles::proofs::laws::TableLaws::each_ends))]
 pub fn takes_cells(n: usize, present: &[u8], flags: &[u8], cells: &[u8]) -> bool
-    requires { (n ≤ length present.now) × (n ≤ length flags.now) × (ENTITY_CELL_BYTES * n ≤ length cells.now) }
-    ensures { result ≡ each (takes_cell present.now flags.now cells.now) 0 (ENTITY_CELLS * n) }
+    requires { (n ≤ length present.now) × (n ≤ length flags.now) × (Planes.ENTITY_CELL_BYTES * n ≤ length cells.now) }
+    ensures { result ≡ each (takes_cell present.now flags.now cells.now) 0 (Planes.ENTITY_CELLS * n) }
 {
     let count = ENTITY_CELLS * n;
     let mut i = 0;
@@ -50,6 +53,7 @@ pub fn takes_cells(n: usize, present: &[u8], flags: &[u8], cells: &[u8]) -> bool
     true
 }
 
+#[tactic(auto, unfolding(crate::specs::definitions::Line::in_turn))]
 pub fn in_turn(last: u32, number: u64) -> bool
     ensures { result ≡ in_turn last number }
 {
@@ -67,8 +71,9 @@ pub fn in_turn(last: u32, number: u64) -> bool
 }
 
 // Is the reading of cell number i the one that is kept? An action has none.
+#[tactic(auto, using(crate::proofs::steps::JudgeSteps::action_same, crate::proofs::steps::JudgeSteps::bytes_same))]
 fn same_reading(classes: &[u8], d: &[u16], kept: &[u8], cells: &[u8], i: usize) -> bool
-    requires { (i * CELL_BYTES + CELL_BYTES ≤ length kept.now) × (i * CELL_BYTES + CELL_BYTES ≤ length cells.now) }
+    requires { (i * Planes.CELL_BYTES + Planes.CELL_BYTES ≤ length kept.now) × (i * Planes.CELL_BYTES + Planes.CELL_BYTES ≤ length cells.now) }
     ensures { SameReading classes.now d.now kept.now cells.now i result }
 {
     if is_sort(classes, cell_token(d, i), ACTION) {
@@ -80,9 +85,10 @@ fn same_reading(classes: &[u8], d: &[u16], kept: &[u8], cells: &[u8], i: usize) 
 }
 
 // Are a line's readings those that a sender's plane keeps?
+#[tactic(auto, using(crate::proofs::steps::JudgeSteps::flags_differ, crate::proofs::steps::JudgeSteps::readings_begin, crate::proofs::steps::JudgeSteps::readings_go_on))]
 pub fn same_readings(classes: &[u8], d: &[u16], plane: &[u8], flags: &[u8], cells: &[u8]) -> bool
-    requires d_in_bounds { ENTITY_BYTES * get_or d.now ENTITY_COUNT_ROW 0 ≤ length plane.now }
-    requires d_in_bounds_2 { (get_or d.now ENTITY_COUNT_ROW 0 ≤ length flags.now) × (ENTITY_CELL_BYTES * get_or d.now ENTITY_COUNT_ROW 0 ≤ length cells.now) }
+    requires d_in_bounds { Planes.ENTITY_BYTES * get_or d.now Directory.ENTITY_COUNT_ROW 0 ≤ length plane.now }
+    requires d_in_bounds_2 { (get_or d.now Directory.ENTITY_COUNT_ROW 0 ≤ length flags.now) × (Planes.ENTITY_CELL_BYTES * get_or d.now Directory.ENTITY_COUNT_ROW 0 ≤ length cells.now) }
     ensures { SameRead classes.now d.now plane.now flags.now cells.now result }
 {
     let n = checking::row(d, ENTITY_COUNT_ROW);

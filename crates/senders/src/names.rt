@@ -5,6 +5,7 @@ ghost use Rattle.senders.specs.definitions.Sender.{is_sender};
 
 use crate::layout::MOST_NAME_BYTES;
 
+#[tactic(auto, unfolding(text::specs::definitions::Bytes::is_letter))]
 fn is_letter(b: u8) -> bool
     ensures { result ≡ is_letter b }
 {
@@ -17,6 +18,7 @@ fn is_letter(b: u8) -> bool
     false
 }
 
+#[tactic(auto, unfolding(text::specs::definitions::Bytes::is_name_byte))]
 fn is_name_byte(b: u8) -> bool
     ensures { result ≡ is_name_byte b }
 {
@@ -33,6 +35,7 @@ fn is_name_byte(b: u8) -> bool
 }
 
 // A letter, then letters, digits or `_`, 24 bytes at most.
+#[tactic(auto, using(crate::proofs::steps::NameSteps::name_read))]
 pub fn is_sender(name: &[u8]) -> bool
     ensures { result ≡ is_sender name.now }
 {

@@ -2,11 +2,12 @@
 ghost use Rattle.std.specs.Prelude.{◌≡◌, ◌+◌, ◌-◌, ◌*◌, ◌≤◌, length, get_or, drop, replicate, ◌++◌};
 ghost use Rattle.values.specs.inner_contracts.Puts.{Put};
 ghost use Rattle.values.specs.definitions.Bytes.{same_bytes};
-ghost use Rattle.checking.specs.definitions.CountFaults.{MOST_ENTITIES};
-ghost use Rattle.checking.specs.inner_contracts.Directory.{ENTITY_COUNT_ROW};
-ghost use Rattle.cycles.specs.definitions.Planes.{CELL_BYTES, ENTITY_CELLS, ENTITY_CELL_BYTES};
-ghost use Rattle.senders.specs.definitions.Sender.{MOST_NAME_BYTES, MOST_SENDERS};
-ghost use Rattle.senders.specs.definitions.StateImage.{NAME_PLACE, SENDER_HEAD_BYTES, sender_size, image_size, part_name, is_padded, is_sender_head};
+ghost use Rattle.checking.specs.definitions.CountFaults;
+ghost use Rattle.checking.specs.inner_contracts.Directory;
+ghost use Rattle.cycles.specs.definitions.Planes;
+ghost use Rattle.senders.specs.definitions.Sender;
+ghost use Rattle.senders.specs.definitions.StateImage;
+ghost use Rattle.senders.specs.definitions.StateImage.{sender_size, image_size, part_name, is_padded, is_sender_head};
 ghost use Rattle.senders.specs.inner_contracts.SenderMemory.{PlaceRead, PartTest, PartsTest, KeptCellPut, KeptPut, part_of};
 
 use crate::layout::{HEAD_BYTES, MOST_NAME_BYTES, NAME_PLACE, SENDER_HEAD_BYTES};
@@ -20,7 +21,7 @@ use values::{cell, put_bytes, put_cell, same_bytes};
 
 // Where the part of the sender at a place begins in the image.
 pub fn part_at(n: usize, place: usize) -> usize
-    requires { (n ≤ MOST_ENTITIES) × (place ≤ MOST_SENDERS) }
+    requires { (n ≤ CountFaults.MOST_ENTITIES) × (place ≤ Sender.MOST_SENDERS) }
     ensures { result ≡ image_size n place }
 {
     HEAD_BYTES + 2 * ENTITY_BYTES * n + place * (SENDER_HEAD_BYTES + ENTITY_BYTES * n)
@@ -30,8 +31,8 @@ pub fn part_at(n: usize, place: usize) -> usize
 
 // The name in a part; none where its length is too great.
 pub fn name_of(part: &[u8]) -> &[u8]
-    requires { NAME_PLACE ≤ length part.now }
-    ensures { (length result.now ≤ MOST_NAME_BYTES) × (get_or part.now 0 0 ≤ MOST_NAME_BYTES → result.now ≡ part_name part.now) }
+    requires { StateImage.NAME_PLACE ≤ length part.now }
+    ensures { (length result.now ≤ Sender.MOST_NAME_BYTES) × (get_or part.now 0 0 ≤ Sender.MOST_NAME_BYTES → result.now ≡ part_name part.now) }
 {
     let size = part[0] as usize;
     if MOST_NAME_BYTES < size {
@@ -42,8 +43,9 @@ pub fn name_of(part: &[u8]) -> &[u8]
 }
 
 // Is this the part of the sender of that name?
+#[tactic(auto, using(crate::proofs::steps::PartSteps::other_length))]
 fn has_name(part: &[u8], name: &[u8]) -> bool
-    requires { (SENDER_HEAD_BYTES ≤ length part.now) × (length name.now ≤ MOST_NAME_BYTES) }
+    requires { (StateImage.SENDER_HEAD_BYTES ≤ length part.now) × (length name.now ≤ Sender.MOST_NAME_BYTES) }
     ensures { result ≡ same_bytes name.now (part_name part.now) }
 {
     let size = name.len();
@@ -55,8 +57,9 @@ fn has_name(part: &[u8], name: &[u8]) -> bool
 }
 
 // The place of the sender of that name among `count` parts of so many bytes; `count` if there is none.
+#[tactic(auto, using(crate::proofs::steps::PartSteps::places_begin, crate::proofs::steps::PartSteps::place_found))]
 pub fn place_of(parts: &[u8], size: usize, count: usize, name: &[u8]) -> usize
-    requires { (SENDER_HEAD_BYTES ≤ size) × (count * size ≤ length parts.now) × (length name.now ≤ MOST_NAME_BYTES) }
+    requires { (StateImage.SENDER_HEAD_BYTES ≤ size) × (count * size ≤ length parts.now) × (length name.now ≤ Sender.MOST_NAME_BYTES) }
     ensures { PlaceRead parts.now size count name.now result }
 {
     let mut at = 0;
@@ -73,8 +76,9 @@ pub fn place_of(parts: &[u8], size: usize, count: usize, name: &[u8]) -> usize
 
 // ---- tests
 
+#[tactic(auto, using(cycles::proofs::laws::TableLaws::each_fails, cycles::proofs::laws::TableLaws::each_goes_on, cycles::proofs::laws::TableLaws::each_ends), unfolding(crate::specs::definitions::StateImage::is_padded))]
 fn is_padded(part: &[u8]) -> bool
-    requires { NAME_PLACE ≤ length part.now }
+    requires { StateImage.NAME_PLACE ≤ length part.now }
     ensures { result ≡ is_padded part.now }
 {
     let mut i = part[0] as usize;
@@ -89,8 +93,9 @@ fn is_padded(part: &[u8]) -> bool
 }
 
 // Has a part a name and a number of at least 1?
+#[tactic(auto, using(crate::proofs::steps::PartSteps::head_read))]
 fn is_sender_head(part: &[u8]) -> bool
-    requires { SENDER_HEAD_BYTES ≤ length part.now }
+    requires { StateImage.SENDER_HEAD_BYTES ≤ length part.now }
     ensures { result ≡ is_sender_head part.now }
 {
     if MOST_NAME_BYTES < part[0] as usize {
@@ -105,8 +110,9 @@ fn is_sender_head(part: &[u8]) -> bool
     number(&part[NAME_PLACE..]) != 0
 }
 
+#[tactic(auto, using(crate::proofs::steps::PartSteps::head_fails, crate::proofs::steps::PartSteps::plane_says))]
 fn is_sender_part(classes: &[u8], d: &[u16], part: &[u8]) -> bool
-    requires { sender_size (get_or d.now ENTITY_COUNT_ROW 0) ≤ length part.now }
+    requires { sender_size (get_or d.now Directory.ENTITY_COUNT_ROW 0) ≤ length part.now }
     ensures { PartTest classes.now d.now part.now result }
 {
     if !is_sender_head(part) {
@@ -116,9 +122,10 @@ fn is_sender_part(classes: &[u8], d: &[u16], part: &[u8]) -> bool
 }
 
 // Are these `count` parts of senders, no two of one name?
+#[tactic(auto, using(crate::proofs::steps::PartSteps::parts_begin, crate::proofs::steps::PartSteps::part_fails))]
 pub fn are_senders(classes: &[u8], d: &[u16], parts: &[u8], count: usize) -> bool
-    requires d_bound { get_or d.now ENTITY_COUNT_ROW 0 ≤ MOST_ENTITIES }
-    requires count_bound { (count ≤ MOST_SENDERS) × (count * sender_size (get_or d.now ENTITY_COUNT_ROW 0) ≤ length parts.now) }
+    requires d_bound { get_or d.now Directory.ENTITY_COUNT_ROW 0 ≤ CountFaults.MOST_ENTITIES }
+    requires count_bound { (count ≤ Sender.MOST_SENDERS) × (count * sender_size (get_or d.now Directory.ENTITY_COUNT_ROW 0) ≤ length parts.now) }
     ensures { PartsTest classes.now d.now parts.now count result }
 {
     let size = SENDER_HEAD_BYTES + ENTITY_BYTES * checking::row(d, ENTITY_COUNT_ROW);
@@ -142,7 +149,7 @@ pub fn are_senders(classes: &[u8], d: &[u16], parts: &[u8], count: usize) -> boo
 
 // Puts what was fired at cell number i, if the member whose first token has that number is an action.
 fn put_kept_cell(classes: &[u8], token: usize, fired: &[u8], i: usize, inputs: &mut [u8])
-    requires { (i * CELL_BYTES + CELL_BYTES ≤ length fired.now) × (i * CELL_BYTES + CELL_BYTES ≤ length inputs.old) }
+    requires { (i * Planes.CELL_BYTES + Planes.CELL_BYTES ≤ length fired.now) × (i * Planes.CELL_BYTES + Planes.CELL_BYTES ≤ length inputs.old) }
     ensures { KeptCellPut classes.now token fired.now i inputs.old inputs.new }
 {
     if is_sort(classes, token, ACTION) {
@@ -151,9 +158,10 @@ fn put_kept_cell(classes: &[u8], token: usize, fired: &[u8], i: usize, inputs: &
 }
 
 // Makes of a line's inputs, of n entities, what is kept of them: of an action what was fired, of any other cell its reading, which stands there.
+#[tactic(auto, using(crate::proofs::steps::KeptSteps::none_kept, crate::proofs::steps::KeptSteps::rest_kept, crate::proofs::steps::KeptSteps::all_kept))]
 pub fn put_kept(classes: &[u8], d: &[u16], n: usize, fired: &[u8], inputs: &mut [u8])
-    requires { (ENTITY_CELL_BYTES * n ≤ length fired.now) × (ENTITY_CELL_BYTES * n ≤ length inputs.old) }
-    ensures { KeptPut classes.now d.now inputs.old fired.now (ENTITY_CELLS * n) inputs.old
+    requires { (Planes.ENTITY_CELL_BYTES * n ≤ length fired.now) × (Planes.ENTITY_CELL_BYTES * n ≤ length inputs.old) }
+    ensures { KeptPut classes.now d.now inputs.old fired.now (Planes.ENTITY_CELLS * n) inputs.old
         inputs.new }
 {
     let end = ENTITY_CELLS * n;
@@ -171,6 +179,7 @@ pub fn put_kept(classes: &[u8], d: &[u16], n: usize, fired: &[u8], inputs: &mut 
 }
 
 // Puts a byte of 0 from `at` to `end`.
+#[tactic(auto, using(crate::proofs::steps::KeptSteps::zeros_put))]
 fn put_zeros(memory: &mut [u8], at: usize, end: usize)
     requires { (at ≤ end) × (end ≤ length memory.old) }
     ensures { Put (replicate (end - at) 0) memory.old at memory.new end }
@@ -184,8 +193,8 @@ fn put_zeros(memory: &mut [u8], at: usize, end: usize)
 
 // Puts a sender's part of n entities at the front of memory.
 pub fn put_sender(memory: &mut [u8], n: usize, name: &[u8], last: u32, flags: &[u8], cells: &[u8])
-    requires name_len_bound { (length name.now ≤ MOST_NAME_BYTES) × (n ≤ length flags.now) × (ENTITY_CELL_BYTES * n ≤ length cells.now) }
-    requires n_bound { (n ≤ MOST_ENTITIES) × (sender_size n ≤ length memory.old) }
+    requires name_len_bound { (length name.now ≤ Sender.MOST_NAME_BYTES) × (n ≤ length flags.now) × (Planes.ENTITY_CELL_BYTES * n ≤ length cells.now) }
+    requires n_bound { (n ≤ CountFaults.MOST_ENTITIES) × (sender_size n ≤ length memory.old) }
     ensures { memory.new
         ≡ part_of n name.now last flags.now cells.now ++ drop (sender_size n) memory.old }
 {

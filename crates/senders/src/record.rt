@@ -1,11 +1,11 @@
 // A record on a checked bench whose rules' names are resolved: what a state says to it, and the memory that it leaves of the state's.
 ghost use Rattle.std.specs.Prelude.{ℕ, ◌≤◌, ◌<◌, length, get_or};
-ghost use Rattle.checking.specs.definitions.CountFaults.{MOST_ENTITIES};
-ghost use Rattle.checking.specs.inner_contracts.Directory.{ENTITY_COUNT_ROW};
-ghost use Rattle.cycles.specs.definitions.Planes.{MOST_CELL_BYTES};
-ghost use Rattle.cycles.specs.inner_contracts.HeaderReads.{NO_COLUMN};
-ghost use Rattle.senders.specs.definitions.Sender.{MOST_NAME_BYTES, MOST_SENDERS};
-ghost use Rattle.senders.specs.definitions.StateImage.{STATE};
+ghost use Rattle.checking.specs.definitions.CountFaults;
+ghost use Rattle.checking.specs.inner_contracts.Directory;
+ghost use Rattle.cycles.specs.definitions.Planes;
+ghost use Rattle.cycles.specs.inner_contracts.HeaderReads;
+ghost use Rattle.senders.specs.definitions.Sender;
+ghost use Rattle.senders.specs.definitions.StateImage;
 ghost use Rattle.senders.specs.inner_contracts.Advancing.{LastRead, ResentRead, Followed, Settled, SentTaken, Advanced};
 
 use crate::judge::{Judgement, in_turn, same_readings, takes_cells};
@@ -21,8 +21,9 @@ use cycles::number;
 use cycles::record::{Sent, clear_cells, clear_flags, read_sent, read_values};
 
 // The last number of the sender at a place; 0 for one that is not known.
+#[tactic(auto, using(crate::proofs::steps::ResentSteps::last_unknown_read))]
 fn last_of(state: &[u8], n: usize, place: usize) -> u32
-    requires { (n ≤ MOST_ENTITIES) × (place < MOST_SENDERS) × (STATE ≤ length state.now) }
+    requires { (n ≤ CountFaults.MOST_ENTITIES) × (place < Sender.MOST_SENDERS) × (StateImage.STATE ≤ length state.now) }
     ensures { LastRead state.now n place result }
 {
     if state[COUNT_AT] as usize <= place {
@@ -33,6 +34,7 @@ fn last_of(state: &[u8], n: usize, place: usize) -> u32
 }
 
 // Is a line of that number, whose inputs stand in `flags` and `cells`, the last one of the sender at that place?
+#[tactic(auto, using(crate::proofs::steps::ResentSteps::resent_not_known, crate::proofs::steps::ResentSteps::resent_not_last))]
 fn is_resent(
     classes: &[u8],
     d: &[u16],
@@ -42,8 +44,8 @@ fn is_resent(
     flags: &[u8],
     cells: &[u8],
 ) -> bool
-    requires d_bound { (get_or d.now ENTITY_COUNT_ROW 0 ≤ MOST_ENTITIES) × (place < MOST_SENDERS) × (STATE ≤ length state.now) }
-    requires in_bounds { (MOST_ENTITIES ≤ length flags.now) × (MOST_CELL_BYTES ≤ length cells.now) }
+    requires d_bound { (get_or d.now Directory.ENTITY_COUNT_ROW 0 ≤ CountFaults.MOST_ENTITIES) × (place < Sender.MOST_SENDERS) × (StateImage.STATE ≤ length state.now) }
+    requires in_bounds { (CountFaults.MOST_ENTITIES ≤ length flags.now) × (Planes.MOST_CELL_BYTES ≤ length cells.now) }
     ensures { ResentRead classes.now d.now state.now place line flags.now cells.now result }
 {
     let n = checking::row(d, ENTITY_COUNT_ROW);
@@ -71,8 +73,8 @@ fn follow(
     cells: &mut [u8],
     state: &mut [u8],
 )
-    requires d_bound { (get_or d.now ENTITY_COUNT_ROW 0 ≤ MOST_ENTITIES) × (place < MOST_SENDERS) × (length name.now ≤ MOST_NAME_BYTES) }
-    requires in_bounds { (MOST_ENTITIES ≤ length flags.now) × (MOST_CELL_BYTES ≤ length cells.old) × (STATE ≤ length state.old) }
+    requires d_bound { (get_or d.now Directory.ENTITY_COUNT_ROW 0 ≤ CountFaults.MOST_ENTITIES) × (place < Sender.MOST_SENDERS) × (length name.now ≤ Sender.MOST_NAME_BYTES) }
+    requires in_bounds { (CountFaults.MOST_ENTITIES ≤ length flags.now) × (Planes.MOST_CELL_BYTES ≤ length cells.old) × (StateImage.STATE ≤ length state.old) }
     ensures { Followed classes.now literals.now d.now refs.now scopes.now name.now place last
         flags.now cells.old state.old state.new }
 {
@@ -98,6 +100,7 @@ fn follow(
 }
 
 // What a state says to a line that is read; `flags` and `cells` have its inputs. A new line moves the state on, a retransmission leaves it.
+#[tactic(auto, using(crate::proofs::laws::RecordLaws::settled_early))]
 fn settle(
     classes: &[u8],
     literals: &[u32],
@@ -111,8 +114,8 @@ fn settle(
     cells: &mut [u8],
     state: &mut [u8],
 ) -> Judgement
-    requires d_bound { (get_or d.now ENTITY_COUNT_ROW 0 ≤ MOST_ENTITIES) × (place < MOST_SENDERS) × (length name.now ≤ MOST_NAME_BYTES) }
-    requires in_bounds { (MOST_ENTITIES ≤ length flags.now) × (MOST_CELL_BYTES ≤ length cells.old) × (STATE ≤ length state.old) }
+    requires d_bound { (get_or d.now Directory.ENTITY_COUNT_ROW 0 ≤ CountFaults.MOST_ENTITIES) × (place < Sender.MOST_SENDERS) × (length name.now ≤ Sender.MOST_NAME_BYTES) }
+    requires in_bounds { (CountFaults.MOST_ENTITIES ≤ length flags.now) × (Planes.MOST_CELL_BYTES ≤ length cells.old) × (StateImage.STATE ≤ length state.old) }
     ensures { Settled classes.now literals.now d.now refs.now scopes.now name.now place line
         flags.now cells.old state.old state.new result }
 {
@@ -138,6 +141,7 @@ fn settle(
 }
 
 // A record whose sender and number are read. The memory is a state.
+#[tactic(auto, using(crate::proofs::laws::SentLaws::sent_refused, crate::proofs::steps::SentSteps::sender_short))]
 fn take_sent(
     classes: &[u8],
     literals: &[u32],
@@ -151,8 +155,8 @@ fn take_sent(
     line: u64,
     state: &mut [u8],
 ) -> Judgement
-    requires count_in_bounds { (count ≤ length columns.now) × ((k : ℕ) → k < count → get_or columns.now k 0 < NO_COLUMN) }
-    requires in_bounds { STATE ≤ length state.old }
+    requires count_in_bounds { (count ≤ length columns.now) × ((k : ℕ) → k < count → get_or columns.now k 0 < HeaderReads.NO_COLUMN) }
+    requires in_bounds { StateImage.STATE ≤ length state.old }
     ensures { SentTaken classes.now literals.now d.now refs.now scopes.now columns.now count
         values.now name.now line state.old state.new result }
 {
@@ -175,7 +179,8 @@ fn take_sent(
         known,
         name,
     );
-    if MOST_SENDERS <= place {
+    let is_full = MOST_SENDERS <= place;
+    if is_full {
         return Judgement::Refused(42);
     }
     let mut flags = [0u8; MOST_ENTITIES];
@@ -191,6 +196,7 @@ fn take_sent(
 }
 
 // A record under a header that is read: `columns` has the numbers of its columns. The memory is a state.
+#[tactic(auto, using(crate::proofs::laws::SentLaws::got_size))]
 pub fn advance(
     classes: &[u8],
     literals: &[u32],
@@ -202,8 +208,8 @@ pub fn advance(
     values: &[u8],
     state: &mut [u8],
 ) -> Judgement
-    requires count_in_bounds { (count ≤ length columns.now) × ((k : ℕ) → k < count → get_or columns.now k 0 < NO_COLUMN) }
-    requires in_bounds { STATE ≤ length state.old }
+    requires count_in_bounds { (count ≤ length columns.now) × ((k : ℕ) → k < count → get_or columns.now k 0 < HeaderReads.NO_COLUMN) }
+    requires in_bounds { StateImage.STATE ≤ length state.old }
     ensures { Advanced classes.now literals.now d.now refs.now scopes.now columns.now count
         values.now state.old state.new result }
 {

@@ -1,9 +1,9 @@
 // The row of a sender.
 ghost use Rattle.std.specs.Prelude.{◌≤◌, length};
-ghost use Rattle.cycles.specs.definitions.Planes.{MOST_CELL_BYTES};
-ghost use Rattle.cycles.specs.definitions.Row.{MOST_ROW_BYTES};
-ghost use Rattle.senders.specs.definitions.Sender.{MOST_NAME_BYTES};
-ghost use Rattle.senders.specs.definitions.StateImage.{STATE};
+ghost use Rattle.cycles.specs.definitions.Planes;
+ghost use Rattle.cycles.specs.definitions.Row;
+ghost use Rattle.senders.specs.definitions.Sender;
+ghost use Rattle.senders.specs.definitions.StateImage;
 ghost use Rattle.senders.specs.inner_contracts.RowMemory.{RowPut, PlaceShown, Shown};
 
 use crate::layout::{COUNT_AT, MOST_SENDERS, NAME_PLACE, SENDER_HEAD_BYTES};
@@ -16,7 +16,7 @@ use values::{put_bytes, put_decimal};
 
 // The row of a sender with this name, this last number and these fired actions: writes it to the front and answers its length.
 fn put_row(classes: &[u8], d: &[u16], name: &[u8], last: u32, cells: &[u8], row: &mut [u8]) -> usize
-    requires { (length name.now ≤ MOST_NAME_BYTES) × (MOST_CELL_BYTES ≤ length cells.now) × (MOST_ROW_BYTES ≤ length row.old) }
+    requires { (length name.now ≤ Sender.MOST_NAME_BYTES) × (Planes.MOST_CELL_BYTES ≤ length cells.now) × (Row.MOST_ROW_BYTES ≤ length row.old) }
     ensures { RowPut classes.now d.now name.now last cells.now
         row.old row.new result }
 {
@@ -27,8 +27,9 @@ fn put_row(classes: &[u8], d: &[u16], name: &[u8], last: u32, cells: &[u8], row:
 }
 
 // The row of the sender at a place.
+#[tactic(auto, using(crate::proofs::steps::RowSteps::place_too_many))]
 pub fn show_place(classes: &[u8], d: &[u16], state: &[u8], place: usize, row: &mut [u8]) -> usize
-    requires { (STATE ≤ length state.now) × (MOST_ROW_BYTES ≤ length row.old) }
+    requires { (StateImage.STATE ≤ length state.now) × (Row.MOST_ROW_BYTES ≤ length row.old) }
     ensures { PlaceShown classes.now d.now state.now place row.old row.new result }
 {
     let n = checking::row(d, ENTITY_COUNT_ROW);
@@ -53,9 +54,10 @@ pub fn show_place(classes: &[u8], d: &[u16], state: &[u8], place: usize, row: &m
 }
 
 // The row of the sender of a name: of one that is not known, 0 and nothing fired.
+#[tactic(auto, using(crate::proofs::steps::RowSteps::shown_too_many))]
 pub fn show(classes: &[u8], d: &[u16], state: &[u8], name: &[u8], row: &mut [u8]) -> usize
-    requires name_len_bound { length name.now ≤ MOST_NAME_BYTES }
-    requires in_bounds { (STATE ≤ length state.now) × (MOST_ROW_BYTES ≤ length row.old) }
+    requires name_len_bound { length name.now ≤ Sender.MOST_NAME_BYTES }
+    requires in_bounds { (StateImage.STATE ≤ length state.now) × (Row.MOST_ROW_BYTES ≤ length row.old) }
     ensures { Shown classes.now d.now state.now name.now row.old row.new result }
 {
     let n = checking::row(d, ENTITY_COUNT_ROW);

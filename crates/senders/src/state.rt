@@ -1,6 +1,6 @@
 // The state image: memory that stands for a state of a bench.
 ghost use Rattle.std.specs.Prelude.{◌≤◌, length};
-ghost use Rattle.senders.specs.definitions.StateImage.{STATE};
+ghost use Rattle.senders.specs.definitions.StateImage;
 ghost use Rattle.senders.specs.inner_contracts.SenderMemory.{StateTest};
 ghost use Rattle.senders.specs.inner_contracts.RowMemory.{FreshStatePut};
 
@@ -10,8 +10,9 @@ use checking::layout::{ENTITY_COUNT_ROW, MOST_ENTITIES};
 use cycles::{are_stores, number, put_fresh_stores, put_number};
 
 // Whether memory is a state of the bench whose text has that fingerprint.
+#[tactic(auto, using(crate::proofs::steps::StateSteps::state_read))]
 pub fn is_state(classes: &[u8], d: &[u16], print: u32, state: &[u8]) -> bool
-    requires { STATE ≤ length state.now }
+    requires { StateImage.STATE ≤ length state.now }
     ensures { StateTest print classes.now d.now state.now result }
 {
     let n = checking::row(d, ENTITY_COUNT_ROW);
@@ -43,7 +44,7 @@ pub fn put_fresh(
     print: u32,
     state: &mut [u8],
 )
-    requires { STATE ≤ length state.old }
+    requires { StateImage.STATE ≤ length state.old }
     ensures { FreshStatePut text.now classes.now offsets.now lengths.now values.now d.now
         print state.old state.new }
 {

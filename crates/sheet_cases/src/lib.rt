@@ -1,3 +1,2 @@
 // Day sheets of stored texts, computed by the definitions.
 #![tactic(auto)]
-

@@ -1,10 +1,10 @@
 // The closing rows of the real columns.
 ghost use Rattle.std.specs.Prelude.{[], ◌∷◌, cond, ◌+◌, ◌*◌, ◌≤◌, ◌<◌, length, take};
 ghost use Rattle.values.specs.inner_contracts.Puts.{Put};
-ghost use Rattle.sheets.specs.definitions.Layout.{MOST_CHOSEN};
+ghost use Rattle.sheets.specs.definitions.Layout;
 ghost use Rattle.sheets.specs.definitions.Closing.{column_row, two_rows, closing_rows, all_closing_rows};
 ghost use Rattle.sheets.specs.definitions.Sheet.{with_feeds};
-ghost use Rattle.sheets.specs.definitions.Sizes.{SHEET_ROW_BYTES, MOST_LINE_BYTES, MOST_CLOSING_BYTES};
+ghost use Rattle.sheets.specs.definitions.Sizes;
 
 use crate::Fold;
 use crate::layout::{CELL_COLUMNS, MOST_CHOSEN, NUMBER_COLUMNS};
@@ -12,8 +12,9 @@ use crate::rows::{close_row, put_half};
 use values::Value;
 
 // A value in the columns of chosen cell k, from 0 on, and nothing else.
+#[tactic(auto, using(crate::proofs::laws::LayoutLaws::length_right, crate::proofs::laws::RowLaws::half_most))]
 fn put_column_row(out: &mut [u8], at: usize, k: usize, below: bool, v: Value) -> usize
-    requires { (k < MOST_CHOSEN) × (at + SHEET_ROW_BYTES ≤ length out.old) }
+    requires { (k < Layout.MOST_CHOSEN) × (at + Sizes.SHEET_ROW_BYTES ≤ length out.old) }
     ensures { Put (with_feeds (column_row k below v ∷ [])) out.old at out.new result }
 {
     let end = put_half(out, at, NUMBER_COLUMNS + CELL_COLUMNS * (k + 1), below, v);
@@ -21,7 +22,7 @@ fn put_column_row(out: &mut [u8], at: usize, k: usize, below: bool, v: Value) ->
 }
 
 fn put_two_rows(out: &mut [u8], at: usize, k: usize, x: f64) -> usize
-    requires { (k < MOST_CHOSEN) × (at + MOST_LINE_BYTES ≤ length out.old) }
+    requires { (k < Layout.MOST_CHOSEN) × (at + Sizes.MOST_LINE_BYTES ≤ length out.old) }
     ensures { Put (with_feeds (two_rows k x)) out.old at out.new result }
 {
     let a = put_column_row(out, at, k, false, Value::Real(x));
@@ -29,7 +30,7 @@ fn put_two_rows(out: &mut [u8], at: usize, k: usize, x: f64) -> usize
 }
 
 fn put_closing(out: &mut [u8], at: usize, k: usize, f: Fold) -> usize
-    requires { (k < MOST_CHOSEN) × (at + MOST_CLOSING_BYTES ≤ length out.old) }
+    requires { (k < Layout.MOST_CHOSEN) × (at + Sizes.MOST_CLOSING_BYTES ≤ length out.old) }
     ensures { Put (with_feeds (closing_rows k f)) out.old at out.new result }
 {
     if f.found {
@@ -44,7 +45,7 @@ fn put_closing(out: &mut [u8], at: usize, k: usize, f: Fold) -> usize
 
 // A column that is not real has no closing rows.
 fn put_closing_if_real(out: &mut [u8], at: usize, k: usize, real: bool, f: Fold) -> usize
-    requires { (k < MOST_CHOSEN) × (at + MOST_CLOSING_BYTES ≤ length out.old) }
+    requires { (k < Layout.MOST_CHOSEN) × (at + Sizes.MOST_CLOSING_BYTES ≤ length out.old) }
     ensures { Put (with_feeds (cond real (closing_rows k f) [])) out.old at out.new result }
 {
     if real {
@@ -61,7 +62,7 @@ pub fn put_closings(
     fs: [Fold; MOST_CHOSEN],
     count: usize,
 ) -> usize
-    requires { (count ≤ MOST_CHOSEN) × (at + MOST_CLOSING_BYTES * count ≤ length out.old) }
+    requires { (count ≤ Layout.MOST_CHOSEN) × (at + Sizes.MOST_CLOSING_BYTES * count ≤ length out.old) }
     ensures { Put (with_feeds (all_closing_rows 0 (take count reals) fs)) out.old at out.new result }
 {
     let mut k = 0;

@@ -1,7 +1,7 @@
 // The lowest, highest and last set value of each real column, over the lines printed so far.
 ghost use Rattle.std.specs.Prelude.{◌≡◌, cond, ◌≤◌, take, replicate};
 ghost use Rattle.std.specs.Float.Ieee.{lt};
-ghost use Rattle.sheets.specs.definitions.Layout.{MOST_CHOSEN};
+ghost use Rattle.sheets.specs.definitions.Layout;
 ghost use Rattle.sheets.specs.definitions.Folds.{NONE_SET, folded, folded_value, folded_values};
 
 use crate::Fold;
@@ -9,7 +9,7 @@ use crate::layout::MOST_CHOSEN;
 use values::Value;
 
 pub fn no_folds() -> [Fold; MOST_CHOSEN]
-    ensures { result ≡ replicate MOST_CHOSEN NONE_SET }
+    ensures { result ≡ replicate Layout.MOST_CHOSEN NONE_SET }
 {
     let none_set = Fold {
         lowest: 0.0,
@@ -39,6 +39,7 @@ fn higher(earlier: f64, later: f64) -> f64
     earlier
 }
 
+#[tactic(auto, unfolding(crate::specs::definitions::Folds::folded))]
 fn folded(f: Fold, x: f64) -> Fold
     ensures { result ≡ folded f x }
 {
@@ -59,6 +60,7 @@ fn folded(f: Fold, x: f64) -> Fold
 }
 
 // Only a set real enters.
+#[tactic(auto, unfolding(crate::specs::definitions::Folds::folded_value))]
 fn folded_value(f: Fold, v: Value) -> Fold
     ensures { result ≡ folded_value f v }
 {
@@ -76,12 +78,13 @@ fn folded_value(f: Fold, v: Value) -> Fold
 }
 
 // A line's first `count` values enter, each into its column.
+#[tactic(auto, using(crate::proofs::laws::FoldLaws::values_put), unfolding(crate::specs::definitions::Folds::folded_values))]
 pub fn folded_values(
     fs: [Fold; MOST_CHOSEN],
     vs: [Value; MOST_CHOSEN],
     count: usize,
 ) -> [Fold; MOST_CHOSEN]
-    requires { count ≤ MOST_CHOSEN }
+    requires { count ≤ Layout.MOST_CHOSEN }
     ensures { result ≡ folded_values fs (take count vs) }
 {
     let mut gs = fs;

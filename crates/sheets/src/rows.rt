@@ -1,10 +1,11 @@
 // The one or two rows of a printed line, from their parts.
 ghost use Rattle.std.specs.Prelude.{◌≡◌, [], ◌∷◌, ◌++◌, ◌+◌, ◌*◌, ◌-◌, ◌≤◌, length, take, replicate};
 ghost use Rattle.values.specs.inner_contracts.Puts.{Put};
-ghost use Rattle.sheets.specs.definitions.Layout.{SHEET_COLUMNS, NUMBER_COLUMNS, CELL_COLUMNS, MOST_CHOSEN, right_aligned};
+ghost use Rattle.sheets.specs.definitions.Layout;
+ghost use Rattle.sheets.specs.definitions.Layout.{right_aligned};
 ghost use Rattle.sheets.specs.definitions.Rows.{is_set_real, half, cell_columns, sheet_row, has_set_real, line_rows};
 ghost use Rattle.sheets.specs.definitions.Sheet.{with_feeds};
-ghost use Rattle.sheets.specs.definitions.Sizes.{SHEET_ROW_BYTES, MOST_LINE_BYTES};
+ghost use Rattle.sheets.specs.definitions.Sizes;
 
 use crate::layout::{
     CELL_COLUMNS, HALF_DIGITS, MOST_CHOSEN, NUMBER_COLUMNS, REAL_DIGITS, SHEET_COLUMNS,
@@ -13,6 +14,7 @@ use values::Value;
 
 // ---- columns
 
+#[tactic(auto, using(crate::proofs::laws::LayoutLaws::spaces_step, crate::proofs::laws::LayoutLaws::spaces_put))]
 fn put_spaces(out: &mut [u8], at: usize, count: usize) -> usize
     requires { at + count ≤ length out.old }
     ensures { Put (replicate count 32) out.old at out.new result }
@@ -37,8 +39,8 @@ fn put_right(out: &mut [u8], at: usize, width: usize, t: &[u8]) -> usize
 
 // A row that began at `start` and has its text to `end` is filled with spaces and closed by a line feed.
 pub fn close_row(out: &mut [u8], start: usize, end: usize) -> usize
-    requires { (start ≤ end) × (end ≤ start + SHEET_COLUMNS) × (start + SHEET_ROW_BYTES ≤ length out.old) }
-    ensures { Put (replicate (start + SHEET_COLUMNS - end) 32 ++ 10 ∷ []) out.old end out.new result }
+    requires { (start ≤ end) × (end ≤ start + Layout.SHEET_COLUMNS) × (start + Sizes.SHEET_ROW_BYTES ≤ length out.old) }
+    ensures { Put (replicate (start + Layout.SHEET_COLUMNS - end) 32 ++ 10 ∷ []) out.old end out.new result }
 {
     let filled = put_spaces(out, end, start + SHEET_COLUMNS - end);
     values::put_bytes(out, filled, b"\n")
@@ -46,6 +48,7 @@ pub fn close_row(out: &mut [u8], start: usize, end: usize) -> usize
 
 // ---- values
 
+#[tactic(auto, using(values::proofs::laws::RealLaws::no_nan), unfolding(crate::specs::definitions::Rows::is_set_real))]
 fn is_set_real(v: Value) -> bool
     ensures { result ≡ is_set_real v }
 {
@@ -62,8 +65,9 @@ fn is_set_real(v: Value) -> bool
     }
 }
 
+#[tactic(auto, using(crate::proofs::laws::RowLaws::real_next, crate::proofs::laws::RowLaws::real_here, crate::proofs::laws::RowLaws::real_nowhere))]
 fn has_set_real(vs: [Value; MOST_CHOSEN], count: usize) -> bool
-    requires { count ≤ MOST_CHOSEN }
+    requires { count ≤ Layout.MOST_CHOSEN }
     ensures { result ≡ has_set_real (take count vs) }
 {
     let mut i = 0;
@@ -78,8 +82,9 @@ fn has_set_real(vs: [Value; MOST_CHOSEN], count: usize) -> bool
 }
 
 // What a value shows in the first row or, `below`, in the second, right aligned in `width` columns.
+#[tactic(auto, using(crate::proofs::laws::RowLaws::printed_fits))]
 pub fn put_half(out: &mut [u8], at: usize, width: usize, below: bool, v: Value) -> usize
-    requires { (CELL_COLUMNS ≤ width) × (at + width ≤ length out.old) }
+    requires { (Layout.CELL_COLUMNS ≤ width) × (at + width ≤ length out.old) }
     ensures { Put (right_aligned width (half below v)) out.old at out.new result }
 {
     let mut t = [0u8; REAL_DIGITS];
@@ -104,7 +109,7 @@ fn put_columns(
     vs: [Value; MOST_CHOSEN],
     count: usize,
 ) -> usize
-    requires { (count ≤ MOST_CHOSEN) × (at + CELL_COLUMNS * count ≤ length out.old) }
+    requires { (count ≤ Layout.MOST_CHOSEN) × (at + Layout.CELL_COLUMNS * count ≤ length out.old) }
     ensures { Put (cell_columns below (take count vs)) out.old at out.new result }
 {
     let mut i = 0;
@@ -119,6 +124,7 @@ fn put_columns(
 
 // ---- rows
 
+#[tactic(auto, using(crate::proofs::laws::LayoutLaws::length_right))]
 fn put_sheet_row(
     out: &mut [u8],
     at: usize,
@@ -127,7 +133,7 @@ fn put_sheet_row(
     vs: [Value; MOST_CHOSEN],
     count: usize,
 ) -> usize
-    requires { (length lead.now ≤ NUMBER_COLUMNS) × (count ≤ MOST_CHOSEN) × (at + SHEET_ROW_BYTES ≤ length out.old) }
+    requires { (length lead.now ≤ Layout.NUMBER_COLUMNS) × (count ≤ Layout.MOST_CHOSEN) × (at + Sizes.SHEET_ROW_BYTES ≤ length out.old) }
     ensures { Put (with_feeds (sheet_row below lead.now (take count vs) ∷ [])) out.old at out.new result }
 {
     let a = put_right(out, at, NUMBER_COLUMNS, lead);
@@ -136,8 +142,9 @@ fn put_sheet_row(
 }
 
 // The rows of the line of number n, whose chosen cells read the first `count` values.
+#[tactic(auto, using(crate::proofs::laws::RowLaws::decimal_text, values::proofs::laws::FormLaws::decimal_most))]
 pub fn put_line(out: &mut [u8], at: usize, n: u64, vs: [Value; MOST_CHOSEN], count: usize) -> usize
-    requires { (count ≤ MOST_CHOSEN) × (at + MOST_LINE_BYTES ≤ length out.old) }
+    requires { (count ≤ Layout.MOST_CHOSEN) × (at + Sizes.MOST_LINE_BYTES ≤ length out.old) }
     ensures { Put (with_feeds (line_rows (record { number = n; values = take count vs }))) out.old at out.new result }
 {
     let mut t = [0u8; NUMBER_COLUMNS];

@@ -310,6 +310,7 @@ pub fn mark_table() -> [u8; 256]
 }
 
 // The entry of a byte in either table: what the table's function gives for it.
+#[tactic(auto, using(crate::proofs::laws::ByteTableLaws::entry_at))]
 pub fn entry(table: &[u8], b: u8) -> u8
     requires { length table.now ≡ BYTES }
     ensures { (f : ℕ → ℕ) → table.now ≡ at_bytes f → result ≡ f b }
@@ -318,6 +319,7 @@ pub fn entry(table: &[u8], b: u8) -> u8
 }
 
 // The class of one byte.
+#[tactic(auto, using(crate::proofs::laws::ByteTableLaws::length_at_bytes))]
 pub fn class_of_byte(b: u8) -> u8
     ensures { result ≡ byte_class b }
 {

@@ -1,7 +1,8 @@
 // The grammar of a bench file: which columns of token classes are one, by recursive descent. Each function reads on from where another
 // reading ended, and a refused one stays refused, so that a sequence needs no tests.
 ghost use Rattle.std.specs.Prelude.{◌≡◌, Bool};
-ghost use Rattle.text.specs.definitions.Tokens.{Token, NAME, INTERFACE, ACTION, ENTITY, WHEN, COMMA};
+ghost use Rattle.text.specs.definitions.Tokens;
+ghost use Rattle.text.specs.definitions.Tokens.{Token};
 ghost use Rattle.text.specs.definitions.Syntax.{Sort};
 ghost use Rattle.text.specs.definitions.Readers.{give, expect, many};
 ghost use Rattle.text.specs.definitions.Grammar.{kind_reader, member_after, action_after, interface_after, number_reader, literal_reader};
@@ -142,7 +143,7 @@ fn action(classes: &[u8], from: usize) -> usize
 }
 
 fn actions(classes: &[u8], from: usize) -> usize
-    ensures { ReadsFrom classes.now (many ACTION action_after) from result }
+    ensures { ReadsFrom classes.now (many Tokens.ACTION action_after) from result }
 {
     let mut p = from;
     while next_is(classes, p, ACTION) {
@@ -164,7 +165,7 @@ fn interface(classes: &[u8], from: usize) -> usize
 }
 
 fn interfaces(classes: &[u8], from: usize) -> usize
-    ensures { ReadsFrom classes.now (many INTERFACE interface_after) from result }
+    ensures { ReadsFrom classes.now (many Tokens.INTERFACE interface_after) from result }
 {
     let mut p = from;
     while next_is(classes, p, INTERFACE) {
@@ -208,7 +209,7 @@ fn assignment(classes: &[u8], from: usize) -> usize
 }
 
 fn assignments(classes: &[u8], from: usize) -> usize
-    ensures { ReadsFrom classes.now (many NAME assignment_after) from result }
+    ensures { ReadsFrom classes.now (many Tokens.NAME assignment_after) from result }
 {
     let mut p = from;
     while next_is(classes, p, NAME) {
@@ -230,7 +231,7 @@ fn entity(classes: &[u8], from: usize) -> usize
 }
 
 fn entities(classes: &[u8], from: usize) -> usize
-    ensures { ReadsFrom classes.now (many ENTITY entity_after) from result }
+    ensures { ReadsFrom classes.now (many Tokens.ENTITY entity_after) from result }
 {
     let mut p = from;
     while next_is(classes, p, ENTITY) {
@@ -430,7 +431,7 @@ fn call(classes: &[u8], from: usize) -> usize
 
 // Each after a `,`.
 fn calls(classes: &[u8], from: usize) -> usize
-    ensures { ReadsFrom classes.now (many COMMA call_after) from result }
+    ensures { ReadsFrom classes.now (many Tokens.COMMA call_after) from result }
 {
     let mut p = from;
     while next_is(classes, p, COMMA) {
@@ -462,7 +463,7 @@ fn rule(classes: &[u8], from: usize) -> usize
 }
 
 fn rules(classes: &[u8], from: usize) -> usize
-    ensures { ReadsFrom classes.now (many WHEN rule_after) from result }
+    ensures { ReadsFrom classes.now (many Tokens.WHEN rule_after) from result }
 {
     let mut p = from;
     while next_is(classes, p, WHEN) {

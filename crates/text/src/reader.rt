@@ -1,6 +1,5 @@
-// A text with an offset in it, from which items are taken one after another. The borrow checker covers no function over a struct that holds a
-// slice, so those are few and thin and proved by hand: each takes the struct apart and calls a function of `tokens`. Others call `item_at` or, as the lexer
-// does, `item_in`.
+// A text with an offset in it, from which items are taken one after another. The functions over the struct are few and thin: each takes it apart
+// and calls a function of `tokens`. Others call `item_at` or, as the lexer does, `item_in`.
 ghost use Rattle.std.specs.Prelude.{◌≡◌};
 ghost use Rattle.text.specs.definitions.ByteClass.{byte_class};
 ghost use Rattle.text.specs.inner_contracts.ByteTables.{at_bytes, mark_class};
@@ -41,7 +40,7 @@ pub fn advanced<'a>(r: Reader<'a>) -> Reader<'a>
     }
 }
 
-// What begins at an offset of a text. Its parameters are plain: a caller needs no proof by hand.
+// What begins at an offset of a text, with plain parameters.
 pub fn item_at(text: &[u8], at: usize) -> Item
     ensures { result ≡ token_at text.now at }
 {

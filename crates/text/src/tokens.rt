@@ -3,7 +3,8 @@ ghost use Rattle.std.specs.Prelude.{◌≡◌, List, [], ◌∷◌, true, ◌+�
 ghost use Rattle.std.proofs.Math.Option.{get_or};
 ghost use Rattle.text.specs.definitions.Bytes.{run, is_digit, is_comment_byte};
 ghost use Rattle.text.specs.definitions.ByteClass.{byte_class};
-ghost use Rattle.text.specs.definitions.Tokens.{Fixed, spelled, reserved, class_in, NAME, name_item, number_item, digits_value};
+ghost use Rattle.text.specs.definitions.Tokens;
+ghost use Rattle.text.specs.definitions.Tokens.{Fixed, spelled, reserved, class_in, name_item, number_item, digits_value};
 ghost use Rattle.text.specs.inner_contracts.ByteTables.{at_bytes, mark_class};
 ghost use Rattle.text.specs.inner_contracts.TokenTable.{goes_on, of_length, part, located, token_at, offset_after, columns_of, Lexes};
 
@@ -17,6 +18,7 @@ use values::slices::same_bytes;
 // ---- runs
 
 // Does a comment go on with the byte, which has this class? Of the blanks, the line feed ends it.
+#[tactic(auto, using(crate::proofs::laws::ClassLaws::early_in_comment, crate::proofs::laws::ClassLaws::not_in_comment, crate::proofs::laws::ClassLaws::late_in_comment))]
 fn is_in_comment(class: u8, b: u8) -> bool
     requires { class ≡ byte_class b }
     ensures { result ≡ is_comment_byte b }
@@ -31,6 +33,7 @@ fn is_in_comment(class: u8, b: u8) -> bool
 }
 
 // Does a run go on with the byte?
+#[tactic(auto, using(crate::proofs::laws::ByteTableLaws::length_at_bytes, crate::proofs::laws::ClassLaws::in_name_by, crate::proofs::laws::ClassLaws::digit_by))]
 fn runs_on(table: &[u8], which: Run, b: u8) -> bool
     requires { table.now ≡ at_bytes byte_class }
     ensures { result ≡ goes_on which b }
@@ -44,6 +47,7 @@ fn runs_on(table: &[u8], which: Run, b: u8) -> bool
 }
 
 // Where the longest run from an offset on ends, byte by byte.
+#[tactic(auto, using(crate::proofs::steps::RunSteps::running_start, crate::proofs::steps::RunSteps::runs_further, crate::proofs::steps::RunSteps::run_ends, crate::proofs::laws::RunLaws::run_past))]
 fn short_run_end(table: &[u8], text: &[u8], at: usize, which: Run) -> usize
     requires table_value { table.now ≡ at_bytes byte_class }
     requires at_in_bounds { at ≤ length text.now }
@@ -60,6 +64,7 @@ fn short_run_end(table: &[u8], text: &[u8], at: usize, which: Run) -> usize
 }
 
 // The same, four bytes a turn while so many are left: one test for the text's end serves all four.
+#[tactic(auto, using(crate::proofs::steps::RunSteps::running_start, crate::proofs::steps::RunSteps::runs_further, crate::proofs::steps::RunSteps::run_ends))]
 fn run_end(table: &[u8], text: &[u8], at: usize, which: Run) -> usize
     requires table_value { table.now ≡ at_bytes byte_class }
     requires at_in_bounds { at ≤ length text.now }
@@ -90,9 +95,10 @@ fn run_end(table: &[u8], text: &[u8], at: usize, which: Run) -> usize
 // ---- names and reserved words
 
 // The class of `word` if it is the name, else `other`: one word more before those that gave `other`.
+#[tactic(auto, using(crate::proofs::laws::FixedLaws::class_first, crate::proofs::laws::FixedLaws::class_later))]
 fn class_if(name: &[u8], word: &[u8], class: u8, other: u8) -> u8
-    ensures { (fs : List Fixed) → other ≡ get_or (class_in fs name.now) NAME
-        → result ≡ get_or (class_in (spelled word.now class ∷ fs) name.now) NAME }
+    ensures { (fs : List Fixed) → other ≡ get_or (class_in fs name.now) Tokens.NAME
+        → result ≡ get_or (class_in (spelled word.now class ∷ fs) name.now) Tokens.NAME }
 {
     if same_bytes(name, word) {
         return class;
@@ -101,8 +107,9 @@ fn class_if(name: &[u8], word: &[u8], class: u8, other: u8) -> u8
 }
 
 // The class of either of two words.
+#[tactic(auto, using(crate::proofs::laws::FixedLaws::class_nothing))]
 fn class_of_two(name: &[u8], first: &[u8], class: u8, second: &[u8], other: u8) -> u8
-    ensures { result ≡ get_or (class_in (spelled first.now class ∷ spelled second.now other ∷ []) name.now) NAME }
+    ensures { result ≡ get_or (class_in (spelled first.now class ∷ spelled second.now other ∷ []) name.now) Tokens.NAME }
 {
     let c = class_if(name, second, other, classes::NAME);
     class_if(name, first, class, c)
@@ -110,7 +117,7 @@ fn class_of_two(name: &[u8], first: &[u8], class: u8, second: &[u8], other: u8) 
 
 // The class of the reserved words of four bytes.
 fn class_of_four(name: &[u8]) -> u8
-    ensures { result ≡ get_or (class_in (of_length 4 reserved) name.now) NAME }
+    ensures { result ≡ get_or (class_in (of_length 4 reserved) name.now) Tokens.NAME }
 {
     let c = class_if(name, b"rank", classes::RANK, classes::NAME);
     let c = class_if(name, b"real", classes::REAL, c);
@@ -123,7 +130,7 @@ fn class_of_four(name: &[u8]) -> u8
 
 // The class of those of five.
 fn class_of_five(name: &[u8]) -> u8
-    ensures { result ≡ get_or (class_in (of_length 5 reserved) name.now) NAME }
+    ensures { result ≡ get_or (class_in (of_length 5 reserved) name.now) Tokens.NAME }
 {
     let c = class_if(name, b"whole", classes::WHOLE, classes::NAME);
     let c = class_if(name, b"false", classes::FALSE, c);
@@ -133,8 +140,9 @@ fn class_of_five(name: &[u8]) -> u8
 }
 
 // The class of a run of name bytes: a reserved word's, or NAME. Only words of its length are compared.
+#[tactic(auto, using(crate::proofs::laws::FixedLaws::reserved_of, crate::proofs::laws::FixedLaws::not_reserved))]
 pub fn name_class(name: &[u8]) -> u8
-    ensures { result ≡ get_or (class_in reserved name.now) NAME }
+    ensures { result ≡ get_or (class_in reserved name.now) Tokens.NAME }
 {
     match name.len() {
         2 => class_of_two(name, b"on", classes::ON, b"or", classes::OR),
@@ -163,6 +171,7 @@ pub fn name_class(name: &[u8]) -> u8
 // ---- what begins at an offset
 
 // The name or reserved word in the bytes from `at` to `end`.
+#[tactic(auto, using(crate::proofs::laws::ItemLaws::name_part_long, crate::proofs::laws::ItemLaws::name_part))]
 fn name_at(text: &[u8], at: usize, end: usize) -> Item
     requires { (at < end) × (end ≤ length text.now) }
     ensures { result ≡ located at (name_item (part at end text.now)) }
@@ -178,6 +187,7 @@ fn name_at(text: &[u8], at: usize, end: usize) -> Item
 }
 
 // What a digit stands for.
+#[tactic(auto, using(crate::proofs::laws::DigitRunLaws::digit_bounds))]
 fn digit_value(b: u8) -> u64
     requires { is_digit b ≡ true }
     ensures { (result ≡ b - 48) × (result < 10) }
@@ -186,6 +196,7 @@ fn digit_value(b: u8) -> u64
 }
 
 // The value of a run of digits, ten at most.
+#[tactic(auto, using(values::proofs::laws::DigitLaws::digits_read, crate::proofs::laws::DigitRunLaws::digit_there, crate::proofs::laws::DigitRunLaws::value_step), unfolding(crate::specs::definitions::Tokens::digits_value))]
 fn digits_value(digits: &[u8]) -> u64
     requires { (length digits.now ≤ 10) × (run is_digit digits.now ≡ digits.now) }
     ensures { result ≡ digits_value 0 digits.now }
@@ -201,6 +212,7 @@ fn digits_value(digits: &[u8]) -> u64
 }
 
 // The number in the digits from `at` to `end`, and in an `r` after them.
+#[tactic(auto, using(crate::proofs::laws::ItemLaws::number_part_long, crate::proofs::laws::ItemLaws::number_part_large, crate::proofs::laws::ItemLaws::number_part_real, crate::proofs::laws::ItemLaws::number_part_whole, crate::proofs::laws::ItemLaws::number_part_last))]
 fn number_at(text: &[u8], at: usize, end: usize) -> Item
     requires at_lt_end { (at < end) × (end ≤ length text.now) }
     requires text_value { run is_digit (part at end text.now) ≡ part at end text.now }
@@ -231,6 +243,7 @@ fn number_at(text: &[u8], at: usize, end: usize) -> Item
 }
 
 // What begins at an offset, by the tables of byte classes and of marks.
+#[tactic(auto, using(crate::proofs::laws::ByteTableLaws::length_at_bytes, crate::proofs::steps::StepLaws::at_end, crate::proofs::steps::StepLaws::blank_at, crate::proofs::steps::StepLaws::comment_at, crate::proofs::steps::StepLaws::name_at, crate::proofs::steps::StepLaws::digits_at, crate::proofs::steps::StepLaws::number_at, crate::proofs::steps::StepLaws::mark_at, crate::proofs::steps::StepLaws::nothing_at))]
 pub(crate) fn token_by(table: &[u8], marks: &[u8], text: &[u8], at: usize) -> Item
     requires { (table.now ≡ at_bytes byte_class) × (marks.now ≡ at_bytes mark_class) }
     ensures { result ≡ token_at text.now at }
@@ -265,6 +278,7 @@ pub(crate) fn token_at(text: &[u8], at: usize) -> Item
 }
 
 // The offset after what begins at an offset; the same where nothing does.
+#[tactic(auto, unfolding(crate::specs::inner_contracts::TokenTable::offset_after))]
 pub(crate) fn offset_after(text: &[u8], at: usize) -> usize
     ensures { result ≡ offset_after text.now at }
 {

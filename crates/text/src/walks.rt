@@ -1,7 +1,7 @@
 // The walks over a token table: rows, steps, and where a reading ends.
 ghost use Rattle.std.specs.Prelude.{ℕ, ◌≤◌, ◌≡◌, get_or};
 ghost use Rattle.text.specs.definitions.Readers.{halt};
-ghost use Rattle.text.specs.definitions.Syntax.{OPENERS};
+ghost use Rattle.text.specs.definitions.Syntax;
 ghost use Rattle.text.specs.definitions.Grammar.{simple_or, expression_reader, priority_reader, atom_reader};
 ghost use Rattle.text.specs.inner_contracts.ParseAnswers.{Next, parsed_of};
 ghost use Rattle.text.specs.inner_contracts.Walks.{Steps, Ends};
@@ -40,6 +40,7 @@ pub fn value_at(values: &[u32], i: usize) -> u32
 }
 
 // Where what was read from number `at` on ends; `at`, if it was refused.
+#[tactic(auto, using(crate::proofs::steps::EndLaws::refused_ends, crate::proofs::steps::EndLaws::next_same, crate::proofs::laws::CodeReaderLaws::parsed_next, crate::proofs::laws::CodeReaderLaws::parsed_refused))]
 fn end_of(answer: usize, at: usize) -> usize
     ensures onward { at ≤ result }
     ensures ends { (i : ℕ) → parsed_of answer ≡ Next i → at ≤ i → result ≡ i }
@@ -67,7 +68,7 @@ fn leaf_end(classes: &[u8], at: usize) -> usize
 
 // The end of any expression, by the parser.
 fn parsed_end(classes: &[u8], at: usize) -> usize
-    ensures { Ends classes.now (expression_reader OPENERS) at result }
+    ensures { Ends classes.now (expression_reader Syntax.OPENERS) at result }
 {
     end_of(expression(classes, at, OPENERS), at)
 }
@@ -75,7 +76,7 @@ fn parsed_end(classes: &[u8], at: usize) -> usize
 // The number of the token after the expression at number `at`. Most expressions are one leaf: no opener has a class below that of `real`, and no
 // operator one below that of `+`.
 pub fn expression_end(classes: &[u8], at: usize) -> usize
-    ensures { Ends classes.now (expression_reader OPENERS) at result }
+    ensures { Ends classes.now (expression_reader Syntax.OPENERS) at result }
 {
     if REAL <= class_at(classes, at) {
         return parsed_end(classes, at);
@@ -100,7 +101,7 @@ pub fn priority_end(classes: &[u8], at: usize) -> usize
 
 // The number of the token after the clause, or the condition in parentheses, at number `at`.
 pub fn atom_end(classes: &[u8], at: usize) -> usize
-    ensures { Ends classes.now (atom_reader OPENERS) at result }
+    ensures { Ends classes.now (atom_reader Syntax.OPENERS) at result }
 {
     end_of(atom(classes, at, OPENERS), at)
 }

@@ -4,7 +4,12 @@
 
 ghost use Rattle.std.specs.Prelude.{◌≤◌, length};
 
-use libc::STDOUT_FILENO;
+use std::env::FillError;
+use std::io;
+use std::rt::Env;
+
+// The most bytes of a path.
+const PATH: usize = 4096;
 
 // One byte more, where there is room; answers where it ends.
 fn put(path: &mut [u8], at: usize, b: u8) -> usize
@@ -42,29 +47,39 @@ fn path_of(path: &mut [u8], folder: &[u8], file: &[u8]) -> usize
 }
 
 // The rows of a folder; `bench` and `readings` are memory for the two paths.
-fn run_in(folder: &[u8], bench: &mut [u8], readings: &mut [u8]) {
+fn run_in(
+    rt: &HostRuntime,
+    folder: &[u8],
+    bench: &mut [u8],
+    readings: &mut [u8],
+) -> io::Result<()> {
     let b = path_of(bench, folder, b"bench.txt");
     let r = path_of(readings, folder, b"readings.txt");
-    runner::run(&bench[0..b], &readings[0..r]);
+    runner::run(rt, &bench[0..b], &readings[0..r])
 }
 
-// Argument number i, and the rows of the folder that it names.
-fn run_case(i: usize) {
-    let mut folder = io::buffer();
-    let mut bench = io::buffer();
-    let mut readings = io::buffer();
-    let n = os::arg(i, &mut folder);
-    io::write_all(STDOUT_FILENO, b"== ");
-    io::write_all(STDOUT_FILENO, &folder[..n]);
-    io::write_all(STDOUT_FILENO, b"\n");
-    run_in(&folder[..n], &mut bench, &mut readings);
+// Argument number i, and the rows of the folder that it names. Is there one?
+fn run_case(rt: &HostRuntime, i: usize) -> io::Result<bool> {
+    let mut folder = [0u8; PATH];
+    let mut bench = [0u8; PATH];
+    let mut readings = [0u8; PATH];
+    let n = match rt.arg(i, &mut folder) {
+        Ok(n) => n,
+        Err(FillError::TooLong) => 0,
+        Err(FillError::NotPresent) => return Ok(false),
+    };
+    runner::put(rt, b"== ")?;
+    runner::put(rt, &folder[..n])?;
+    runner::put(rt, b"\n")?;
+    run_in(rt, &folder[..n], &mut bench, &mut readings)?;
+    Ok(true)
 }
 
-fn main() {
-    let mut i: usize = 1;
-    let n = os::arg_count();
-    while i < n {
-        run_case(i);
-        i += 1;
+fn main(rt: HostRuntime) -> io::Result<()> {
+    for i in 1..usize::MAX {
+        if !run_case(&rt, i)? {
+            return Ok(());
+        }
     }
+    Ok(())
 }

@@ -1,3 +1,2 @@
 // No code: proofs/ has which rules the definitions say are tried in the stored readings, computed by the check.
 #![tactic(auto)]
-

@@ -7,6 +7,7 @@ use crate::slices::{put_word, word_at};
 use crate::{Kind, Value};
 
 // Whether a cell of the kind can hold the value; the laws say that a cell's bytes need no other test.
+#[tactic(auto, unfolding(crate::specs::definitions::Storable::of_kind, crate::specs::definitions::Fitting::kinds_fit, crate::specs::definitions::Fitting::value_kind, crate::specs::definitions::Fitting::same_kind))]
 pub fn of_kind(kind: Kind, v: Value) -> bool
     ensures { result ≡ of_kind kind v }
 {

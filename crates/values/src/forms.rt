@@ -11,6 +11,7 @@ use crate::{Field, Kind, Number, Value};
 
 // ---- digits
 
+#[tactic(auto, unfolding(crate::specs::definitions::Forms::digit_byte))]
 pub fn digit_byte(d: u64) -> u8
     requires { d < 16 }
     ensures { result ≡ digit_byte d }
@@ -22,6 +23,7 @@ pub fn digit_byte(d: u64) -> u8
 }
 
 // The digit of a byte; 16, which no base has, for a byte of none.
+#[tactic(auto, unfolding(crate::specs::definitions::Forms::digit_of))]
 pub fn digit_of(c: u8) -> u64
     ensures { (result ≡ digit_of c) × (result < 17) }
 {
@@ -43,6 +45,7 @@ pub fn digit_of(c: u8) -> u64
 // ---- printing
 
 // The decimal digits, at most `left`, the highest first and no zero in front.
+#[tactic(auto, using(crate::proofs::laws::DigitLaws::digits_put))]
 fn put_decimal_digits(s: &mut [u8], at: usize, left: usize, n: u64) -> usize
     requires { at + length (decimal_digits left n) ≤ length s.old }
     ensures { (result ≡ at + length (decimal_digits left n)) × (s.new ≡ overwritten s.old at (decimal_digits left n)) }
@@ -67,6 +70,7 @@ pub fn put_decimal(s: &mut [u8], at: usize, n: u64) -> usize
 }
 
 // The last `left` hexadecimal digits, the highest first.
+#[tactic(auto, using(crate::proofs::laws::DigitLaws::digits_put))]
 pub fn put_hexadecimal(s: &mut [u8], at: usize, left: usize, n: u64) -> usize
     requires { at + length (hexadecimal left n) ≤ length s.old }
     ensures { (result ≡ at + length (hexadecimal left n)) × (s.new ≡ overwritten s.old at (hexadecimal left n)) }
@@ -91,6 +95,7 @@ pub fn put_whole(s: &mut [u8], at: usize, z: i32) -> usize
     put_decimal(s, at, n as u64)
 }
 
+#[tactic(auto, using(crate::proofs::laws::RealLaws::nans))]
 pub fn put_value(s: &mut [u8], at: usize, v: Value) -> usize
     requires { at + length (printed v) ≤ length s.old }
     ensures { (result ≡ at + length (printed v)) × (s.new ≡ overwritten s.old at (printed v)) }
@@ -116,6 +121,7 @@ pub fn put_value(s: &mut [u8], at: usize, v: Value) -> usize
 // ---- reading
 
 // The number of the digits from `from` on; 16 of them fit 64 bits in every base.
+#[tactic(auto, using(crate::proofs::laws::DigitLaws::digits_read))]
 pub fn scan(s: &[u8], from: usize, base: u64) -> Number
     requires { (base ≤ 16) × (from ≤ length s.now) × (length s.now ≤ from + 16) }
     ensures { result ≡ scanned base 0 (drop from s.now) }
@@ -134,6 +140,7 @@ pub fn scan(s: &[u8], from: usize, base: u64) -> Number
 }
 
 // The number of 1 to 10 decimal digits from `from` on, with no zero in front.
+#[tactic(auto, using(crate::proofs::laws::DigitLaws::first_left), unfolding(crate::specs::definitions::Forms::led))]
 pub fn magnitude(s: &[u8], from: usize) -> Number
     ensures { result ≡ magnitude (drop from s.now) }
 {
@@ -184,6 +191,7 @@ fn negative_whole(m: Number) -> Field
     }
 }
 
+#[tactic(auto, using(crate::proofs::laws::DigitLaws::empty_malformed))]
 pub fn read_whole(s: &[u8]) -> Field
     ensures { result ≡ whole_field s.now }
 {
@@ -208,6 +216,7 @@ pub fn read_truth(s: &[u8]) -> Field
     Field::Malformed
 }
 
+#[tactic(auto, using(crate::proofs::laws::RealLaws::finite_no_nan))]
 fn finite_real(m: Number) -> Field
     ensures { result ≡ finite_real m }
 {

@@ -16,6 +16,7 @@ fn is_late(stamp: u8, priority: u8) -> bool
 }
 
 // The write of a value to cell number i, by a rule of this priority: made unless one of its priority or a higher one was made before.
+#[tactic(auto, unfolding(crate::specs::inner_contracts::Pending::pended))]
 pub fn put_write(area: &mut [u8], stamps: usize, i: usize, priority: u8, v: Value)
     requires { (i * 9 + 9 ≤ stamps) × (stamps + i < length area.old) × (priority < 255) }
     ensures { area.new ≡ pended stamps area.old i priority v }

@@ -4,7 +4,6 @@ use mathlib.Core.Path.{◌≡◌, sym, ap, ◌∙◌}
 use mathlib.Core.List.{List}
 use mathlib.Core.Bool.{false}
 use lib.ListN.{get_or}
-use lib.Ieee as Ieee
 use Rattle.values.specs.declared.Value.TheVariants.{Unset}
 use Rattle.values.specs.definitions.Value.{differ}
 use Rattle.values.specs.definitions.Bytes.{word_at}

@@ -10,7 +10,7 @@ use mathlib.Core.Logic.{inr}
 use lib.Bits.{bit_and, and_comm}
 use lib.Dec.{eqb, ltb}
 use lib.ListN.{get_or}
-use borrow.Author.Rules.{zero≤}
+use Prim.Native.Nat.{zero-le}
 use borrow.Author.Tests.{eq-eqb, ne_eqb, eqb-false, ltb-true, ltb-false, not-true}
 use Rattle.cell_sets.specs.definitions.Sets.{has_bit, is_in}
 use Rattle.cell_sets.specs.inner_contracts.Adding.{Added}
@@ -106,8 +106,8 @@ module _ {rows : List ℕ} {base size count : ℕ} {set : List ℕ} where
         → MetBelow rows base size count set (j + 1) after
     unfolding byte_meets
     met_next {after} small a = record {
-      common = λ k h t. by_row k (has_bit r k) refl h (sym (a.inside k zero≤ h) ∙ t);
-      meets = λ k h i l p q. a.inside k zero≤ h ∙ by_side k h i l p q (ltb i (8 * j)) refl;
+      common = λ k h t. by_row k (has_bit r k) refl h (sym (a.inside k zero-le h) ∙ t);
+      meets = λ k h i l p q. a.inside k zero-le h ∙ by_side k h i l p q (ltb i (8 * j)) refl;
       none = λ k h. a.outside k (inr h) ∙ m.none k h;
     }
       where

@@ -2,7 +2,7 @@
 use Prim.Native.Nat.{ℕ, ◌+◌, ◌-◌, ◌≤◌, ◌<◌}
 use native.Mathlib.Omega.{arith}
 use mathlib.Core.Path.{◌≡◌, refl, sym, ap, ap₂, ◌∙◌}
-use mathlib.Core.Bool.{Bool, true, false, not}
+use mathlib.Core.Bool.{Bool, true, false}
 use mathlib.Core.List.{List, ◌∷◌}
 use mathlib.Core.Option.{Option, none, some}
 use lib.Dec.{eqb}
@@ -22,7 +22,7 @@ use Rattle.checking.specs.definitions.NameFaults.{is_of_sort, member_faults}
 use Rattle.checking.specs.definitions.KindFaults.{kind_if_found, member_kind, assignment_kind_faults}
 use Rattle.checking.specs.inner_contracts.Directory.{name_in, ColumnsOf, Named, Bench, sort_class, kind_class, number_or, member_number}
 use Rattle.checking.specs.inner_contracts.DirectoryReads.{Few, MemberClass}
-use Rattle.checking.specs.inner_contracts.Sequences.{Sequence, over}
+use Rattle.checking.specs.inner_contracts.Sequences.{Sequence}
 use Rattle.checking.specs.inner_contracts.DeclarationWalk.{
   literal_class,
   literal_end,
@@ -266,3 +266,12 @@ module _ {classes offsets d : List ℕ} {face m equals last : ℕ} where
         e ∙ unless_same 18
         (kind_tests w few face a.name (literal_kind a.literal) h j (g ∙ ap literal_class l ∙ c) (get_elem? w.file.interfaces face) refl k) (o ∙ at);
   }
+
+-- the class of a literal's kind
+pub ruleset literal_classes = (whole_class, real_class, truth_class)
+
+-- where an assignment ends
+pub ruleset assignment_ends = (end_short, end_signed, end_plain)
+
+-- the turns of the search for a name
+pub ruleset looking_turns = (looking_begins, looking_outside, looking_here, looking_on)

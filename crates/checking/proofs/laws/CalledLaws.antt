@@ -175,3 +175,6 @@ row_interface {d = d} w few e x s =
         → get_elem? w.file.interfaces (number_or 16 o) ≡ item_of o
     go none q = number_beyond w.file.interfaces 16 few
     go (some r) q = found_at (λ (i : Interface). i.name) x.interface.bytes w.file.interfaces q
+
+-- what the loop over the items needs
+pub ruleset items_passed = (passed_none, passed_all, passed_here, passed_on)

@@ -268,3 +268,6 @@ module _ {text cs os ls vs d e : List ℕ} {s : Syntax} where
     settles_file q = room_told (λ z. file_short (sym x ∙ z)) λ t l k.
         let (a, b) = file_says t l k found refl in
         (λ z. a (sym q ∙ z), subst (Says text (columns_of cs os ls vs) e) (sym q) b)
+
+-- the answer by what `read` made of the text
+pub ruleset settled_answers = (settles_short, settles_long, settles_bad, settles_unfit, judged_rows, settles_file)

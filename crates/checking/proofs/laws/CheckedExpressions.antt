@@ -113,6 +113,7 @@ Kinded o = (k : Kind) × (o ≡ some k)
 there : (o : Option Kind) → T (has_kind o) → Kinded o
 unfolding Kinded has_kind
 there (some k) h = (k, refl)
+there none h = elim h [ ]
 
 operand_kinded : (result : Kind → Option Kind) (o : Option Kind) → Kinded o → T (operand_fits result o) → Kinded (bind o result)
 unfolding Kinded bind operand_fits
@@ -133,6 +134,7 @@ module _ (s : Scope) (known_interface : (n : List ℕ) → T (is_known s n) → 
       by_member : (i : Interface) → interface_in s n ≡ some i → (o : Option (Indexed Member)) → member_named i m.bytes ≡ o → T (is_of_sort sort o)
           → KnownMember s sort n m.bytes
       by_member i e (some r) q t = record { interface = i; found = r; of_interface = e; named = q; of_sort = t }
+      by_member i e none q t = elim t [ ]
 
       go : (i : Interface) × (interface_in s n ≡ some i) → KnownMember s sort n m.bytes
       go (i, e) =

@@ -108,6 +108,7 @@ pub record KnownFile (f : File) : Type 0 where
 not_found : {A : Type 0} (o : Option A) → T (not (is_found o)) → o ≡ none
 unfolding is_found
 not_found none h = refl
+not_found {A = A} (some _) h = elim h [ ]
 
 -- what is not among names and one more is not among them, and is not that one
 absent_before : (n : List ℕ) (before : List Name) (m : Name) → look_up (λ (x : Name). x) n (before ++ m ∷ []) ≡ none
@@ -149,6 +150,7 @@ module _ {A : Type 0} (name_of : A → Name) where
       let (a, (r, l, i)) = found_itself (before ++ name_of y ∷ []) ys p.1 m in
       let (b, d) = absent_before (name_of x).bytes before (name_of y) a in
       (b, (record { number = suc r.number; item = r.item }, rw (d, l), i))
+  found_itself before [] h {x = x} x4 = elim x4 [ ]
 
 own_names : (i : Interface) → interface_name_faults i ≡ [] → OwnNames i
 unfolding interface_name_faults member_named
@@ -175,6 +177,7 @@ assignment_known i a n k = go (member_named i a.name.bytes) refl (no_fault (is_o
       of_sort = t;
       kind = sym (kinds_fit_eq r.item.kind (literal_kind a.literal) (rw (member_kind_found i a.name e) at fit));
     }
+    go none e t = elim t [ ]
 
 attribute_assigned : (e : Entity) (m : Member) → attribute_faults e m ≡ [] → T (is_attribute m.sort)
     → (r : Indexed Assignment) × (look_up (λ (a : Assignment). a.name) m.name.bytes e.assignments ≡ some r)
@@ -184,6 +187,7 @@ attribute_assigned e m h t = go (is_attribute m.sort) (look_up (λ (a : Assignme
   where
     go : (b : Bool) (o : Option (Indexed Assignment)) → T b → T (not b || is_found o) → (r : Indexed Assignment) × (o ≡ some r)
     go true o t q = found_some o q
+    go false o t q = elim t [ ]
 
 entity_known : (f : File) (e : Entity) → entity_name_faults f e ≡ [] → entity_kind_faults f e ≡ [] → KnownEntity f e
 unfolding entity_name_faults entity_kind_faults
@@ -287,6 +291,7 @@ module _ (f : File) (entities : (e : Entity) → Memᴰ e f.entities → KnownEn
           → T (entity_or_variable e v) → (i : Interface) × (interface_meant f e v ≡ some i)
       go none p (some v) q h = variable_known v.item (found_member (λ (v : Variable). v.name) n (variables r) q)
       go (some e) p v q h = let k = entities e.item (found_member (λ (e : Entity). e.name) n f.entities p) in (k.interface, k.named)
+      go none p none q h = elim h [ ]
 
   clause_in_targets : (c : Clause) → Memᴰ c (clauses r.condition) → Memᴰ c.target (targets r)
   unfolding targets

@@ -269,3 +269,6 @@ module _ {classes d : List ℕ} {k m at : ℕ} (h : MemberRow d k m at) where
     is = λ text offsets lengths w i x s t.
         e ∙ ap (λ (p : ℕ). get_or classes (p + 3) 0) (row_stands w i x s t) ∙ class_stands w (get_or d (member_row k m) 0 + 3) (w.directory.member_kind k m i x s t);
   }
+
+-- what the loop over the items needs
+pub ruleset items_passed = (passed_none, passed_all, passed_here, passed_on)

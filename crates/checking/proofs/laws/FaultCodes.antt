@@ -1,52 +1,16 @@
 -- Codes of refusals: what holds of 11 to 18 and of 44 holds of the code of every refused text.
 use Prim.Native.Nat.{ℕ}
-use native.Mathlib.Omega.{arith}
-use mathlib.Core.Path.{◌≡◌, refl}
 use mathlib.Core.Bool.{Bool, true, false}
 use mathlib.Core.List.{List, [], ◌∷◌, ◌++◌, map, flat_map}
 use mathlib.Core.Option.{Option, none, some}
 use lib.Dec.{leb}
 use lib.ListN.{length, drop}
 use Rattle.text.specs.definitions.Tokens.{Lexing, tokens, no_token_at, tokens_of}
-use Rattle.text.specs.definitions.Syntax.{
-  Name,
-  Sort,
-  Member,
-  Interface,
-  Assignment,
-  Entity,
-  Expression,
-  literal,
-  member,
-  to_real,
-  negate,
-  apply,
-  Target,
-  Filter,
-  Test,
-  changed,
-  equals,
-  Clause,
-  Call,
-  Priority,
-  Rule,
-  File,
-}
+use Rattle.text.specs.definitions.Syntax.{Name, Sort, Interface, Assignment, Entity, Expression, literal, member, to_real, negate, apply, Target, Filter, Test, changed, equals, Clause, Call, Priority, Rule, File}
 use Rattle.text.specs.definitions.Parse.{ParseVerdict, grammatical, ungrammatical_at, parse}
 use Rattle.values.specs.declared.Kind.{Kind}
 use Rattle.checking.specs.definitions.Faults.{Fault, fault, fault_unless, earlier, earliest}
-use Rattle.checking.specs.definitions.Scope.{
-  clauses,
-  Scope,
-  scope_of,
-  variables,
-  interface_named,
-  interface_in,
-  is_attribute,
-  is_action,
-  is_event,
-  is_member,
-}
+use Rattle.checking.specs.definitions.Scope.{Scope, interface_in, is_attribute}
 use Rattle.checking.specs.definitions.PriorityFaults.{MOST_PRIORITY, number_faults, given_faults, priority_faults}
 use Rattle.checking.specs.definitions.CountFaults.{beyond, interface_count_faults, rule_count_faults, count_faults}
 use Rattle.checking.specs.definitions.NameFaults.{

@@ -19,6 +19,9 @@ same_bytes_eq (x ∷ xs) (y ∷ ys) h = go (eqb x y) refl (same_bytes_eq xs ys) 
   where
     go : (t : Bool) → eqb x y ≡ t → (T (same_bytes xs ys) → xs ≡ ys) → T (cond t (same_bytes xs ys) false) → (x ∷ xs) ≡ (y ∷ ys)
     go true e k h = ap₂ ◌∷◌ (eqb→eq x y (rw e tt)) (k h)
+    go false e k h = elim h [ ]
+same_bytes_eq [] (y ∷ ys) h = elim h [ ]
+same_bytes_eq (x ∷ xs) [] h = elim h [ ]
 
 pub same_bytes_refl : (a : List ℕ) → same_bytes a a ≡ true
 unfolding same_bytes
@@ -29,6 +32,7 @@ same_bytes_refl (x ∷ xs) = rw (is_true (eqb x x) (eqb_refl x)) (same_bytes_ref
 pub found_some : {A : Type 0} (o : Option A) → T (is_found o) → (a : A) × (o ≡ some a)
 unfolding is_found
 found_some (some a) h = (a, refl)
+found_some {A = A} none h = elim h [ ]
 
 module _ {A : Type 0} (name_of : A → Name) where
   module _ (n : List ℕ) where
@@ -66,6 +70,7 @@ module _ {A : Type 0} (name_of : A → Name) where
           → (r : Indexed A) × (here_or_later b y (look_up name_of (name_of x).bytes ys) ≡ some r)
       go true r = (record { number = 0; item = y }, refl)
       go false (r, e) = (record { number = suc r.number; item = r.item }, rw e)
+  member_found [] {x = x} x3 = elim x3 [ ]
 
 pub entity_found : (f : File) (n : List ℕ) {e : Indexed Entity} → entity_named f n ≡ some e → get_elem? f.entities e.number ≡ some e.item
 unfolding entity_named

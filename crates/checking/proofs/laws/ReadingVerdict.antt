@@ -1,7 +1,7 @@
 -- The verdict on a text from the answer of `read`.
 use mathlib.Core.Path.{◌≡◌}
 use mathlib.Core.List.{List}
-use Prim.Native.Nat.{ℕ, ◌≤◌, ◌<◌}
+use Prim.Native.Nat.{ℕ}
 use lib.ListN.{length}
 use borrow.Author.Tests.{le-leb, lt-leb}
 use Rattle.text.specs.declared.reading.Syntax.{Syntax}
@@ -9,7 +9,7 @@ use Rattle.text.specs.declared.reading.Syntax.TheVariants.{File, TooLong, NoToke
 use Rattle.text.specs.inner_contracts.TokenTable.{TokenColumns}
 use Rattle.text.specs.inner_contracts.Syntaxes.{ReadsText}
 use Rattle.text.proofs.laws.SyntaxLaws.{said}
-use Rattle.checking.specs.definitions.Verdict.{Verdict, refused_at, file_verdict, parsing_verdict, lexing_verdict, MOST_BYTES, verdict}
+use Rattle.checking.specs.definitions.Verdict.{refused_at, file_verdict, parsing_verdict, lexing_verdict, MOST_BYTES, verdict}
 
 module _ {text : List ℕ} {t u : TokenColumns} {r : Syntax} (l : ReadsText text t u r) where
   pub long_verdict : r ≡ TooLong → verdict text ≡ refused_at 11 32768

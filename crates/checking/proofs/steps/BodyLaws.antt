@@ -20,7 +20,7 @@ use Rattle.checking.specs.definitions.NameFaults.{repeated_faults, again_faults,
 use Rattle.checking.specs.definitions.KindFaults.{assignment_kind_faults}
 use Rattle.checking.specs.inner_contracts.Directory.{name_in, member_number}
 use Rattle.checking.specs.inner_contracts.DirectoryReads.{NumberOf, FewMembers}
-use Rattle.checking.specs.inner_contracts.Sequences.{Sequence, over, one}
+use Rattle.checking.specs.inner_contracts.Sequences.{Sequence, over}
 use Rattle.checking.specs.inner_contracts.DeclarationWalk.{AssignmentEnd, Sets, AttributeFound, KindFound, Body, AssignmentsFound}
 use Rattle.checking.proofs.laws.DirectoryLaws.{number_below, column_bytes, column_offset}
 use Rattle.checking.proofs.laws.WalkedFaults.{unless_same, Left, left_all, left_next, left_none}
@@ -181,3 +181,6 @@ module _ {text classes offsets lengths d : List ℕ} {face from : ℕ} where
             sym (b.bench.columns.class b.body.close b.body.closing b.body.stands) ∙ b.body.class in
             let r : get_or classes q 0 ≡ BRACE_CLOSE = rw here j in
             absurd (omega arith)
+
+-- the turns over the assignments
+pub ruleset assigning_turns = (assigning_begins, assigning_stops, assigning_outside, assigning_on)

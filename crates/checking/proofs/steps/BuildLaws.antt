@@ -253,10 +253,3 @@ directory_short classes d l = record {
   items = λ t. absurd (never t);
   others = λ i h. refl;
 }
-
-pub directory_long : (classes d : List ℕ) → 355 ≤ length d → 65535 < length classes → DirectoryBuilt classes d d false
-directory_long classes d room l = record {
-  answers = rw (le-leb 355 (length d) room, lt-leb (length classes) 65535 l);
-  items = λ t. absurd (never t);
-  others = λ i h. refl;
-}

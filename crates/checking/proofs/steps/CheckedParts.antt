@@ -17,22 +17,7 @@ use Rattle.checking.specs.inner_contracts.FoundFaults.{found_as, merged}
 use Rattle.checking.specs.definitions.Scope.{Scope}
 use Rattle.checking.specs.definitions.NameFaults.{expression_name_faults}
 use Rattle.checking.specs.definitions.KindFaults.{kind_of, expression_kind_faults, matched_kind_faults}
-use Rattle.checking.specs.inner_contracts.RuleParts.{
-  kind_code,
-  KindsFit,
-  OperandsFit,
-  OperatedKind,
-  ExpressionChecked,
-  LiteralChecked,
-  ClosedChecked,
-  RealChecked,
-  NegatedChecked,
-  AppliedChecked,
-  NothingFound,
-  Matched,
-  After,
-  Joined,
-}
+use Rattle.checking.specs.inner_contracts.RuleParts.{kind_code, KindsFit, OperandsFit, OperatedKind, ExpressionChecked, LiteralChecked, RealChecked, NegatedChecked, AppliedChecked, NothingFound, Matched, After, Joined}
 use Rattle.checking.proofs.laws.FaultLaws.{earliest_append}
 use Rattle.checking.proofs.laws.KindCodes.{real_fits, real_whole, real_other, negated_bool, negated_other}
 
@@ -55,9 +40,6 @@ found_nothing = refl
 pub literal_checked : {next kind : ℕ} → LiteralChecked next kind (record { next = next; kind = kind; names = variants.Nothing; kinds = variants.Nothing })
 unfolding kind_of expression_name_faults expression_kind_faults kind_code
 literal_checked = record { next_is = refl; checked = λ s l e. record { kind = e; names = found_nothing; kinds = found_nothing } }
-
-pub closed_checked : {x : Kinded} {next : ℕ} → ClosedChecked x next (record { next = next; kind = x.kind; names = x.names; kinds = x.kinds })
-closed_checked = record { next_is = refl; checked = λ s a h. record { kind = h.kind; names = h.names; kinds = h.kinds } }
 
 module _ (offset : ℕ) {x : Kinded} where
   real_kinds : {fit : Bool} {here kinds : Option Fault} → KindsFit x.kind WHOLE fit → here ≡ earliest (fault_unless fit 18 offset)

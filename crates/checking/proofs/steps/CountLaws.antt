@@ -1,6 +1,6 @@
 -- The items of a file beyond the counts: in the order of the text, as a scan meets them, and by their sorts, as they are defined. The earliest
 -- is the same.
-use Prim.Native.Nat.{ℕ, zero, suc, ◌+◌, ◌-◌}
+use Prim.Native.Nat.{ℕ, zero, suc, ◌-◌}
 use native.Mathlib.Nat.{sub-zero}
 use native.Mathlib.Omega.{arith}
 use mathlib.Core.Path.{◌≡◌, refl, sym, ap, ◌∙◌}
@@ -16,7 +16,7 @@ use Rattle.text.proofs.laws.FlatLaws.{declarations, rulings, rule_in, clause_in,
 use Rattle.checking.specs.definitions.Faults.{fault, earliest}
 use Rattle.checking.specs.inner_contracts.FoundFaults.{merged}
 use Rattle.checking.specs.definitions.Scope.{clauses, variables}
-use Rattle.checking.specs.definitions.CountFaults.{beyond, count_faults}
+use Rattle.checking.specs.definitions.CountFaults.{count_faults}
 use Rattle.checking.proofs.laws.FaultLaws.{earliest_append}
 use Rattle.checking.proofs.laws.LeastLaws.{
   lower,

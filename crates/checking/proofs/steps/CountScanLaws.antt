@@ -194,3 +194,9 @@ module _ (classes offsets : List ℕ) (end from : ℕ) where
   ruling_ends {i} {found = found} h l =
       let e : end - i ≡ 0 = omega arith in
       sym (merged_none_right (found_as found)) ∙ (rw e at h.rest)
+
+-- the turns of the scan before `rules`
+pub ruleset declared_turns = (interface_turn, member_turn, entity_turn, declared_pass, declaring_ends, none_below, none_above)
+
+-- and after it
+pub ruleset ruled_turns = (rule_turn, variable_turn, clause_turn, call_turn, ruled_pass, ruling_ends, none_ruled_of)

@@ -429,3 +429,6 @@ repeated_found {text} {classes} {offsets} {lengths} {d} {start} h c =
     h.faults
     ∙ ap (λ ns. earliest (again_faults ns)) (sym (ap (map (λ (v : Variable). v.name)) (world_variables c)
     ∙ map_map (λ (v : Variable). v.name) (variable_row text offsets lengths) (names_from classes start)))
+
+-- which sorts are wanted
+pub ruleset sorts_wanted = (any_sort, same_sort, other_sort, event_sort)

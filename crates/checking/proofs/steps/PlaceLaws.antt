@@ -1,6 +1,6 @@
 -- Putting the numbers of tokens into rows: one turn of the scan, and what the rows then have.
 use Prim.Native.Nat.{ℕ, zero, suc, ◌+◌, ◌*◌, ◌-◌, ◌≤◌, ◌<◌}
-use native.Mathlib.Nat.{add-zero, sub-zero}
+use native.Mathlib.Nat.{add-zero}
 use native.Mathlib.Numerals.{add-one}
 use native.Mathlib.Omega.{arith}
 use mathlib.Core.Path.{◌≡◌, refl, ap, ◌∙◌}
@@ -47,9 +47,6 @@ module _ (classes : List ℕ) (low high from end base most : ℕ) (d : List ℕ)
     pub size : length new ≡ length d
     pub count : n + length (places classes low high (end - i) i) ≡ length all
     pub puts : sets new (base + n) (take (most - n) (places classes low high (end - i) i)) ≡ sets d base (take most all)
-
-  pub marking_starts : Marking d 0 from
-  marking_starts = record { few = omega arith; size = refl; count = omega arith; puts = rw (add-zero base, sub-zero most) }
 
   turn : (i : ℕ) → i < end → places classes low high (end - i) i
       ≡ place_if (leb low (get_or classes i 0) && leb (get_or classes i 0) high) i (places classes low high (end - (i + 1)) (i + 1))

@@ -5,21 +5,21 @@ use native.Mathlib.Nat.{sub-zero}
 use native.Mathlib.Numerals.{add-one}
 use native.Mathlib.Omega.{arith}
 use mathlib.Core.Path.{◌≡◌, refl, sym, ap, ap₂, ◌∙◌}
-use mathlib.Core.Bool.{cond, false}
-use mathlib.Core.List.{List, [], ◌∷◌, ◌++◌, flat_map, append-nil}
+use mathlib.Core.Bool.{cond}
+use mathlib.Core.List.{List, [], ◌++◌, flat_map, append-nil}
 use mathlib.Core.Option.{Option, none, some}
 use lib.Dec.{leb, eqb}
-use lib.ListN.{length, get_or, get_elem?}
-use borrow.Author.Tests.{eq-eqb, ne_eqb}
+use lib.ListN.{length, get_or}
+use borrow.Author.Tests.{ne_eqb}
 use Rattle.text.specs.definitions.Tokens.{Token, RANK}
-use Rattle.text.specs.definitions.Syntax.{Priority, Rule, File}
+use Rattle.text.specs.definitions.Syntax.{Priority, Rule}
 use Rattle.text.proofs.laws.LanguageLaws.{is}
 use Rattle.text.proofs.laws.ListLaws.{flatMap_flatMap}
 use Rattle.text.proofs.laws.SpotLaws.{Spots, over, skip, spot, spots_le}
 use Rattle.text.proofs.laws.RuleMarks.{PriorityAt}
 use Rattle.text.proofs.laws.FlatLaws.{priority_listed, file_marks, file_priorities}
 use Rattle.checking.specs.declared.faults.Found.{Found}
-use Rattle.checking.specs.definitions.Faults.{Fault, fault_unless, earliest}
+use Rattle.checking.specs.definitions.Faults.{fault_unless, earliest}
 use Rattle.checking.specs.definitions.PriorityFaults.{MOST_PRIORITY, number_faults, given_faults, priority_faults}
 use Rattle.checking.specs.inner_contracts.FoundFaults.{found_as, merged}
 use Rattle.checking.specs.inner_contracts.CountChecked.{ClassesOf, OffsetsOf}
@@ -98,3 +98,6 @@ priority_checked classes offsets values e = record {
       let size = w.count in
       e ∙ ap earliest (priority_scanned values w o v spots (length classes) (omega arith) ∙ priorities_listed f.rules);
 }
+
+-- the turns of the scan
+pub ruleset priority_turns = (priority_turn, priority_pass, prioritizing_ends, priority_checked)

@@ -337,3 +337,9 @@ module _ {text classes offsets lengths d : List ℕ} {start : ℕ} where
           let z : (m * 256 + low) / 256 ≡ m = omega (arith, a.within) in
           z ∙ b.is c ∙ ap (λ j. member_meant (world_scope c) (name_in text offsets lengths j) (name_in text offsets lengths i)) (o.is start c.begins.used n w);
     }
+
+-- which token is the owner
+pub ruleset owners = (no_owner_first, dotted_owner, event_owner, action_owner, other_owner, no_owner_second, declared_owner, filtered_owner)
+
+-- the turns of the search for a variable
+pub ruleset referring_turns = (referring_all, referring_over, referring_full, referring_end, referring_here, referring_other, referring_on)

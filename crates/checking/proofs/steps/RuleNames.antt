@@ -250,3 +250,6 @@ module _ {text classes offsets lengths : List ℕ} {start : ℕ} where
     pub repeated_again : class ≡ COLON → {first at : ℕ} {r : Found} → Declaration text classes offsets lengths start n first → at ≡ get_or offsets n 0
         → found_as r ≡ earliest (fault_unless (eqb first n) 15 at) → RepeatedAt text classes offsets lengths start class n r
     repeated_again h f o u = record { other = λ z. absurd (z h); faults = λ e. u ∙ rw (f.first, o) }
+
+-- the turns of the search for a declaration
+pub ruleset sought_turns = (sought_all, sought_end, sought_here, sought_on)

@@ -183,14 +183,6 @@ module _ (l : List ℕ) (at n a b c : ℕ) where
     stored_third : get_or (stored l at n a b c) (at + 3) 0 ≡ c
     stored_third = get_or-set_same (set (set (set l at n) (at + 1) a) (at + 2) b) (at + 3) c 0 (simp length-set (omega arith))
 
-module _ (l₀ : List ℕ) {l₁ l₂ l₃ l₄ : List ℕ} (at n a b c : ℕ) (p : l₁ ≡ set l₀ at n) (q : l₂ ≡ set l₁ (at + 1) a) (r : l₃ ≡ set l₂ (at + 2) b)
-    (s : l₄ ≡ set l₃ (at + 3) c) where
-  pub four_puts : l₄ ≡ stored l₀ at n a b c
-  four_puts = s ∙ ap (λ l. set l (at + 3) c) (r ∙ ap (λ l. set l (at + 2) b) (q ∙ ap (λ l. set l (at + 1) a) p))
-
-  pub four_length : length l₄ ≡ length l₀
-  four_length = ap length four_puts ∙ stored_length l₀ at n a b c
-
 -- the rows of the rules before number k are filled
 pub record Scoping (text classes offsets lengths d scopes new : List ℕ) (k : ℕ) : Type 0 where
   pub size : length new ≡ length scopes
@@ -246,3 +238,6 @@ module _ {text classes offsets lengths d scopes : List ℕ} where
         item j c l (suc zero) x e g = let z : 4 * j + 1 + 1 ≡ 4 * j + 2 = omega arith in ap (λ i. get_or new i 0) z ∙ g
         item j c l (suc (suc zero)) x e g = let z : 4 * j + 1 + 2 ≡ 4 * j + 3 = omega arith in ap (λ i. get_or new i 0) z ∙ g
         item j c l (suc (suc (suc v))) x e g = let b = number_below (variables c.rule) (suc (suc (suc v))) e in absurd (omega arith)
+
+-- the turns of the count of declarations
+pub ruleset counting_turns = (counting_all, counting_over, counting_end, counting_other, counting_here, counting_on)

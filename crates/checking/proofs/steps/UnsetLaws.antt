@@ -156,3 +156,6 @@ module _ {text classes offsets lengths d : List ℕ} {face from to interfaces : 
             let few = b.few.members face i s in
             let z : length i.members ≤ j = omega (arith, l (omega arith)) in
             rw s (e ∙ left_end (attribute_faults b.entity) i.members (p.left b k i s) z)
+
+-- the turns over the members
+pub ruleset settled_turns = (unset_unasked, settled_none, settled_other, settled_set, settled_fails, settled_all)

@@ -1,19 +1,11 @@
 -- A text is accepted exactly if it is admitted.
 use Prim.Native.Nat.{ℕ}
-use mathlib.Core.Path.{◌≡◌, refl, sym, ap, ◌∙◌, subst}
-use mathlib.Core.Logic.{◌↔◌}
-use mathlib.Core.List.{List, []}
-use mathlib.Core.Option.{none}
+use mathlib.Core.Path.{◌≡◌, sym, ◌∙◌, subst}
+use mathlib.Core.List.{List}
 use lib.ListN.{length}
 use borrow.Author.Tests.{le-leb}
-use Rattle.text.specs.definitions.Tokens.{Token, Lexing, tokens, no_token_at, tokens_of}
 use Rattle.text.specs.definitions.Syntax.{File}
-use Rattle.text.specs.definitions.Parse.{ParseVerdict, grammatical, ungrammatical_at, parse}
 use Rattle.text.proofs.theorems.ParserViable.{parser_exact}
-use Rattle.checking.specs.definitions.Faults.{Fault, earliest}
-use Rattle.checking.specs.definitions.CountFaults.{count_faults}
-use Rattle.checking.specs.definitions.NameFaults.{name_faults}
-use Rattle.checking.specs.definitions.KindFaults.{kind_faults}
 use Rattle.checking.specs.definitions.Verdict.{accepted, refused_by, file_verdict, parsing_verdict, lexing_verdict, MOST_BYTES, verdict}
 use Rattle.checking.specs.definitions.Admitted.{Faultless, Admitted}
 use Rattle.checking.proofs.laws.FaultLaws.{none_earliest}

@@ -18,7 +18,7 @@ pub record Faultless (f : File) : Type 0 where
   pub kinds : kind_faults f ≡ []
 
 -- a text within the limit, all of it words; these are a grammatical file, and its tree has no fault (the parser makes
--- a tree of words exactly if they are a grammatical file: `parser-exact`)
+-- a tree of words exactly if they are a grammatical file: `parser_exact`)
 pub record Admitted (text : List ℕ) : Type 0 where
   pub short : length text ≤ MOST_BYTES
   pub words : List Token

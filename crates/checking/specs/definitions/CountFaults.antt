@@ -1,6 +1,6 @@
 -- "Most: 16 interfaces, 12 members each, 32 entities, 64 rules; per rule 3 variables, 8 clauses, 8 calls"
 use Rattle.std.specs.Prelude.{ℕ, drop}
-use mathlib.Core.List.{List, [], ◌∷◌, ◌++◌, map, flat_map}
+use mathlib.Core.List.{List, ◌++◌, map, flat_map}
 use Rattle.text.specs.definitions.Syntax.{Interface, Rule, File}
 use Rattle.checking.specs.definitions.Faults.{Fault, fault}
 use Rattle.checking.specs.definitions.Scope.{clauses, variables}

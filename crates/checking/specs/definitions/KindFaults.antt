@@ -1,6 +1,6 @@
 -- Kinds that do not fit: 18 of document 01's table ("Names and kinds").
 use Rattle.std.specs.Prelude.{ℕ}
-use mathlib.Core.List.{List, [], ◌∷◌, ◌++◌, flat_map}
+use mathlib.Core.List.{List, [], ◌++◌, flat_map}
 use Rattle.std.proofs.Math.Option.{Option, none, some, bind}
 use Rattle.values.specs.declared.Kind.{Kind}
 use Rattle.values.specs.definitions.Fitting.{number_kind, operated_kind, real_kind, operand_fits, operands_fit, kinds_fit}

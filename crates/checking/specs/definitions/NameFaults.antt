@@ -1,5 +1,5 @@
 -- Names declared again, unknown or of the wrong sort, and attributes not set: 15, 16 and 17 of document 01's table.
-use Rattle.std.specs.Prelude.{ℕ, Bool, true, false, not, ◌||◌}
+use Rattle.std.specs.Prelude.{Bool, false, not, ◌||◌}
 use mathlib.Core.List.{List, [], ◌∷◌, ◌++◌, map, flat_map}
 use Rattle.std.proofs.Math.Option.{Option, none, some}
 use Rattle.text.specs.definitions.Syntax.{

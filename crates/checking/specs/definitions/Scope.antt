@@ -4,25 +4,7 @@ use mathlib.Core.List.{List, [], ◌∷◌, ◌++◌, map, flat_map}
 use Rattle.std.proofs.Math.Option.{Option, none, some}
 use Rattle.std.proofs.Math.ListN.{get_elem?}
 use Rattle.values.specs.definitions.Bytes.{same_bytes}
-use Rattle.text.specs.definitions.Syntax.{
-  Name,
-  Sort,
-  attribute,
-  event,
-  action,
-  Member,
-  Interface,
-  Entity,
-  Target,
-  Clause,
-  Condition,
-  clause,
-  both,
-  either,
-  Call,
-  Rule,
-  File,
-}
+use Rattle.text.specs.definitions.Syntax.{Name, Sort, attribute, event, action, Member, Interface, Entity, Target, Clause, Condition, clause, both, either, Rule, File}
 
 -- an item of a list, and its number in the list
 pub record Indexed (A : Type 0) : Type 0 where

@@ -1,8 +1,8 @@
 -- The verdict on a bench text: 11 to 18 in the order of document 01's table, with document 02's 44 after 13, or acceptance.
-use Rattle.std.specs.Prelude.{ℕ, List, [], ◌∷◌, Bool, true, false, leb, length}
+use Rattle.std.specs.Prelude.{ℕ, List, [], true, false, leb, length}
 use Rattle.std.proofs.Math.Option.{Option, none, some}
 use Rattle.std.proofs.Math.ListN.{get_elem?}
-use Rattle.text.specs.definitions.Tokens.{Token, Lexing, tokens, no_token_at, tokens_of}
+use Rattle.text.specs.definitions.Tokens.{Lexing, tokens, no_token_at, tokens_of}
 use Rattle.text.specs.definitions.Syntax.{Entity, File}
 use Rattle.text.specs.definitions.Parse.{ParseVerdict, grammatical, ungrammatical_at, parse}
 use Rattle.text.specs.definitions.Answers.{refusal_answer}

@@ -3,9 +3,9 @@ use Rattle.std.specs.Prelude.{ℕ, ◌+◌, ◌≤◌, ◌<◌, ◌≡◌, Bool,
 use mathlib.Core.List.{List, ◌++◌, map, flat_map}
 use Rattle.std.proofs.Math.Option.{some}
 use Rattle.std.proofs.Math.ListN.{get_elem?}
-use Rattle.text.specs.definitions.Tokens.{Token, NAME, WHOLE_NUMBER, REAL_NUMBER, INTERFACE, ENTITY, WHEN, WHOLE, BOOL, REAL, BRACE_CLOSE, MINUS}
-use Rattle.text.specs.definitions.Syntax.{Name, Member, Interface, literal_kind, Assignment, Entity, Rule, File}
-use Rattle.text.specs.definitions.Grammar.{interface_after, assignment_after, entity_after, rule_after}
+use Rattle.text.specs.definitions.Tokens.{Token, NAME, WHOLE_NUMBER, REAL_NUMBER, WHOLE, BOOL, REAL, BRACE_CLOSE, MINUS}
+use Rattle.text.specs.definitions.Syntax.{Name, Member, Interface, literal_kind, Assignment, Entity, File}
+use Rattle.text.specs.definitions.Grammar.{assignment_after}
 use Rattle.checking.specs.inner_contracts.DirectoryItems.{ItemsOf}
 use Rattle.checking.specs.declared.faults.Found.{Found}
 use Rattle.checking.specs.declared.faults.Faulted.{Faulted}
@@ -15,26 +15,7 @@ use Rattle.checking.specs.inner_contracts.FoundFaults.{found_as}
 use Rattle.checking.specs.definitions.Scope.{look_up, is_found, is_attribute}
 use Rattle.checking.specs.definitions.NameFaults.{again_faults, member_faults, interface_name_faults, unset_faults, entity_name_faults}
 use Rattle.checking.specs.definitions.KindFaults.{assignment_kind_faults, entity_kind_faults}
-use Rattle.checking.specs.inner_contracts.Directory.{
-  name_in,
-  ColumnsOf,
-  Named,
-  Begins,
-  sort_class,
-  kind_class,
-  NO_MEMBER,
-  member_number,
-  ENTITY_COUNT_ROW,
-  ENTITY_INTERFACE_ROWS,
-  DIRECTORY,
-  interface_row,
-  member_count_row,
-  member_row,
-  entity_row,
-  rule_row,
-  DirectoryOf,
-  Bench,
-}
+use Rattle.checking.specs.inner_contracts.Directory.{name_in, ColumnsOf, Named, kind_class, NO_MEMBER, member_number, ENTITY_COUNT_ROW, ENTITY_INTERFACE_ROWS, DIRECTORY, DirectoryOf, Bench}
 use Rattle.checking.specs.definitions.CountFaults.{MOST_RULES}
 use Rattle.checking.specs.inner_contracts.DirectoryReads.{Few}
 use Rattle.checking.specs.inner_contracts.Sequences.{Sequence}

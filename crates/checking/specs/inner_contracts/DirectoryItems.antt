@@ -25,7 +25,7 @@ use Rattle.checking.specs.inner_contracts.Directory.{
   rule_row,
 }
 
--- the fields of `Directory-of`, without `entity-interface`
+-- the fields of `DirectoryOf`, without `entity_interface`
 pub record ItemsOf (f : File) (ts : List Token) (d : List ℕ) : Type 0 where
   pub interfaces : get_or d INTERFACE_COUNT_ROW 0 ≡ length f.interfaces
   pub entities : get_or d ENTITY_COUNT_ROW 0 ≡ length f.entities

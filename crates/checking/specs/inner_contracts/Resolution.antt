@@ -3,7 +3,7 @@
 use Rattle.std.specs.Prelude.{ℕ, ◌+◌, ◌*◌, ◌/◌, ◌%◌, ◌≤◌, ◌<◌, ◌≡◌, List, ◌⊎◌, length, get_or}
 use Rattle.std.proofs.Math.Option.{Option, none, some}
 use Rattle.std.proofs.Math.ListN.{get_elem?}
-use Rattle.text.specs.definitions.Tokens.{NAME, EVENT, ACTION, FROM, WITH, ON, COLON, DOT, WHEN}
+use Rattle.text.specs.definitions.Tokens.{NAME, EVENT, ACTION, FROM, WITH, ON, COLON, DOT}
 use Rattle.text.specs.definitions.Syntax.{Entity}
 use Rattle.checking.specs.definitions.Scope.{Indexed, entity_named, Variable, variables, variable_named, Scope, interface_in}
 use Rattle.checking.specs.definitions.CountFaults.{MOST_ENTITIES, MOST_RULES, MOST_VARIABLES}
@@ -28,7 +28,7 @@ unfoldable pub reference : Scope → List ℕ → ℕ
 unfolding reference_by entity_named variable_named
 reference s n = reference_by (entity_named s.file n) (variable_named s.variables n)
 
--- the member of that name of what the owner's name means, by its number; NO-MEMBER for none
+-- the member of that name of what the owner's name means, by its number; NO_MEMBER for none
 unfoldable pub member_meant : Scope → List ℕ → List ℕ → ℕ
 unfolding member_number interface_in
 member_meant s owner m = member_number (interface_in s owner) m

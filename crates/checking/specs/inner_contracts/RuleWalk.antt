@@ -1,7 +1,7 @@
 -- What the walk over a rule promises: the earliest faults of its names and of its kinds, for every bench for which columns and directory stand.
-use Rattle.std.specs.Prelude.{ℕ, ◌≤◌, ◌≡◌, List, length}
+use Rattle.std.specs.Prelude.{ℕ, ◌≡◌, List}
 use Rattle.text.specs.definitions.Tokens.{WHEN}
-use Rattle.text.specs.definitions.Syntax.{Rule, File}
+use Rattle.text.specs.definitions.Syntax.{Rule}
 use Rattle.text.specs.definitions.Grammar.{rule_after}
 use Rattle.checking.specs.declared.faults.Faulted.{Faulted}
 use Rattle.checking.specs.definitions.Faults.{earliest}

@@ -84,7 +84,7 @@ module _ {A : Type 0} where
   pub numbered_among : (xs : List A) (k : ℕ) {x : A} → get_elem? xs k ≡ some x → Among (record { number = k; item = x }) (numbered 0 xs)
   numbered_among xs k {x} h = subst (λ i. Among (record { number = i; item = x }) (numbered 0 xs)) (zero-add k) (numbered_among_from 0 xs k h)
 
-  -- what a look_up finds stands in the list at its number
+  -- what a look-up finds stands in the list at its number
   pub look_up_at : (name_of : A → Name) (n : List ℕ) (xs : List A) {r : Indexed A} → look_up name_of n xs ≡ some r → get_elem? xs r.number ≡ some r.item
   unfolding look_up
   look_up_at name_of n [] {r} h = absurd (none-ne-some r h)
@@ -111,6 +111,7 @@ module _ {A : Type 0} where
 
 or_left : (b c : Bool) → T b → T (b || c)
 or_left true c h = tt
+or_left false c h = elim h [ ]
 
 or_right : (b c : Bool) → T c → T (b || c)
 or_right true c h = tt

@@ -65,6 +65,7 @@ can_be_inside f S r i n a e h =
         → ((v : Indexed Variable) → p ≡ some v → get_elem? (variables r) v.number ≡ some v.item) → T (can_mean f o p e) → S e
     go none (some v) q at t = i.ranged v.item e (at_among (variables r) v.number (at v refl)) t
     go (some d) p q at t = subst S (eqb→eq d.number e t) (i.named n d a q)
+    go none none q at t = elim t [ ]
 
 -- where a spot was found: its entity has the property
 abbrev pub SpotIn : (ℕ → Type 0) → Option Spot → Type 0

@@ -56,6 +56,17 @@ set_passes Reals (Real (fin s m e)) h g =
     and_i (ltb (to_bits binary64 x) 18446744073709551616) (finite_bits (to_bits binary64 x))
     (lt→ltb (to_bits binary64 x) 18446744073709551616 (to_bits-lt binary64 x h))
     (rw (finite_by_bits x h) tt)
+set_passes Wholes (Truth _) h g = elim h [ ]
+set_passes Wholes (Real _) h g = elim h [ ]
+set_passes Wholes Unset h g = elim g [ ]
+set_passes Bools (Whole z) h g = elim h [ ]
+set_passes Bools (Real _) h g = elim h [ ]
+set_passes Bools Unset h g = elim g [ ]
+set_passes Reals (Whole z) h g = elim h [ ]
+set_passes Reals (Truth _) h g = elim h [ ]
+set_passes Reals (Real lib.Ieee.nan) h g = elim h [ ]
+set_passes Reals (Real (lib.Ieee.inf _)) h g = elim h [ ]
+set_passes Reals Unset h g = elim g [ ]
 
 pub value_passes : (k : Kind) (v : Value) → T (storable k v) → T (is_value_cell k (tag v) (payload v))
 unfolding is_value_cell is_unset_cell

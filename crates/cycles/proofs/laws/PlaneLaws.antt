@@ -104,7 +104,7 @@ module _ (f : File) where
       let t = each_at test 0 (12 * count) h (e * 12 + m) (omega arith) (omega arith) in
       rw (cell_entity e m b, cell_member e m b) at t
 
-  -- a store whose attributes must be set where `must-be-set` says so, by the entity's flag
+  -- a store whose attributes must be set where `must_be_set` says so, by the entity's flag
   module _ (must_be_set : Bool → Bool) (m : List ℕ) (h : T (plane_fits 2 (λ present. store_fits (must_be_set present)) f m)) where
     abbrev cs : List ℕ
     cs = cells_of count m

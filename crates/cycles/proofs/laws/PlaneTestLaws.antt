@@ -273,3 +273,13 @@ module _ {classes d m : List ℕ} {u : Bool} (now : PlaneTest Now classes d m u)
         rw (← now_tested text offsets lengths w c, t)
         (s.is text offsets lengths w c ∙ ap (plane_fits 2 (λ present. store_fits present) f) k);
   }
+
+-- ---- what a function's goals need together
+
+pub ruleset store_tests = (token_tested, store_any, store_attribute, store_other)
+
+pub ruleset kept_tests = (token_tested, kept_by_action, kept_by_event, kept_blank, kept_none)
+
+pub ruleset cells_tests = (cells_begin, cells_pass_end, cells_fail, cells_go_on)
+
+pub ruleset stores_tests = (length_behind, stores_impossible, now_fails, previous_says)

@@ -174,6 +174,7 @@ module _ (sp : Spots) (now previous : Store) where
 not_both : (a b : Bool) → T (not (a && b)) → T a → b ≡ false
 not_both true true h t = absurd h
 not_both true false h t = refl
+not_both false b h t = elim t [ ]
 
 module _ (f : File) (now previous : Store) (sound : SoundStore f now) (sound_previous : SoundStore f previous) (r : Rule)
     (rests : T (is_quiescent f now previous r)) where

@@ -54,6 +54,8 @@ module _ (f : File) where
   bound_entity [] [] h j g = absurd (none_some g)
   bound_entity (w ∷ vs) (e ∷ b) h zero g = (e, refl, h.0 ∙ ap (λ (v : Variable). interface_named f v.interface.bytes) (some_injective g))
   bound_entity (w ∷ vs) (e ∷ b) h (suc j) g = bound_entity vs b h.1 j g
+  bound_entity [] (e ∷ b) h j {v = v} g = elim h [ ]
+  bound_entity (w ∷ vs) [] h j {v = v} g = elim h [ ]
 
   number_of : (e : ℕ) {x : Entity} → get_elem? f.entities e ≡ some x → interface_of f e ≡ interface_named f x.interface.bytes
   unfolding interface_of

@@ -59,10 +59,14 @@ module _ (f : File) (s : Store) (i : Inputs) (sound : SoundStore f s) (taken : S
     where
       no_event : (y : Sort) → y ≡ event → T (is_attribute y) → ⊥
       no_event attribute h t = let z : ◌≡◌ {A = ℕ} 0 1 = cc in omega arith
+      no_event event h t = elim t [ ]
+      no_event Rattle.text.specs.definitions.Syntax.action h t = elim t [ ]
 
       by_sort : (a b : Bool) → T b → cond (a && not b) Unset (s.cell e m) ≡ s.cell e m
       by_sort true true h = refl
       by_sort false true h = refl
+      by_sort false false h = elim h [ ]
+      by_sort true false h = elim h [ ]
 
       by_given : (o : Option Value) → i.given e m ≡ o → get_or o (unread e m) ≡ s.cell e m
       by_given none g = rw q (by_sort (leaves s i e) (is_attribute x.sort) t)
@@ -113,3 +117,5 @@ module _ (f : File) (s : Store) (ws : List Write) where
     where
       by_sort : (y : Sort) → T (is_attribute y) → cond (is_action y) (written_value (standing e m ws)) (s.cell e m) ≡ s.cell e m
       by_sort attribute t = refl
+      by_sort event t = elim t [ ]
+      by_sort Rattle.text.specs.definitions.Syntax.action t = elim t [ ]

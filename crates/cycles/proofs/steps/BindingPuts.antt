@@ -10,19 +10,19 @@ use lib.Dec.{T, leb, ltb, eqb}
 use lib.Ieee.Fits.{and_r}
 use lib.ListN.{length, get_or, get_elem?, drop, set, length-set}
 use lib.Seq.{get_or-set_same, get_or-set_other}
-use borrow.Author.Tests.{leb-true, leb-false, ltb-true, ltb-false, eqb-true, eqb-false, le-leb, lt-leb}
+use borrow.Author.Tests.{leb-true, leb-false, ltb-true, ltb-false, eqb-true, eqb-false}
 use Rattle.values.specs.definitions.Bytes.{same_bytes}
 use Rattle.text.specs.definitions.Syntax.{Entity}
 use Rattle.text.proofs.laws.ListLaws.{some_injective, none_some}
 use Rattle.checking.specs.definitions.Scope.{Variable, variables}
-use Rattle.checking.specs.inner_contracts.Directory.{rule_row, entity_interface_row}
+use Rattle.checking.specs.inner_contracts.Directory.{rule_row}
 use Rattle.checking.specs.inner_contracts.Resolution.{scope_row}
 use Rattle.checking.proofs.laws.DirectoryLaws.{number_inside}
 use Rattle.cycles.specs.declared.evaluate.Binding.{Binding}
 use Rattle.cycles.specs.definitions.Bindings.{bindings}
 use Rattle.cycles.specs.inner_contracts.Evaluation.{bound, puts, RulePuts}
 use Rattle.cycles.specs.inner_contracts.AllRules.{Gives, complete, candidate, Ranged, Ranges, EntityAdded, BindingsPut}
-use Rattle.cycles.specs.inner_contracts.Guards.{GuardsFound, Needless, no_candidate, silent, Marked, MarksSet}
+use Rattle.cycles.specs.inner_contracts.Guards.{Needless, no_candidate, silent, Marked, MarksSet}
 use Rattle.cycles.proofs.steps.EvaluationLaws.{puts_append}
 use Rattle.cycles.proofs.steps.ResolvedLaws.{rule_puts_binding}
 use Rattle.cycles.proofs.steps.BindingWrites.{
@@ -48,12 +48,6 @@ use Rattle.cycles.proofs.steps.BindingWrites.{
 -- ---- tests
 
 module _ (scopes : List ℕ) (k level : ℕ) where
-  pub complete_three : 3 ≤ level → true ≡ complete scopes k level
-  complete_three h = rw (le-leb 3 level h)
-
-  pub complete_counted : level < 3 → {r : ℕ} → r ≡ get_or scopes (scope_row k) 0 → eqb r level ≡ complete scopes k level
-  complete_counted h e = rw (e, lt-leb 3 level h)
-
   pub incomplete_few : {t : Bool} → t ≡ complete scopes k level → t ≡ false → level < 3
   incomplete_few e f = go (leb 3 level) refl (sym e ∙ f)
     where
@@ -67,13 +61,6 @@ module _ (scopes : List ℕ) (k level : ℕ) where
       go : (t : Bool) → (t || eqb (get_or scopes (scope_row k) 0) level) ≡ false → ⊥
       go true h = let z : ◌≡◌ {A = ℕ} 0 1 = cc in omega arith
       go false h = absurd (eqb-false (get_or scopes (scope_row k) 0) level h n)
-
-module _ (d flags : List ℕ) (face e : ℕ) {p : Bool} (present : p ≡ eqb (get_or flags e 0) 1) where
-  pub candidate_absent : p ≡ false → false ≡ candidate d flags face e
-  candidate_absent f = rw (sym present ∙ f)
-
-  pub candidate_present : p ≡ true → {r : ℕ} → r ≡ get_or d (entity_interface_row e) 0 → eqb r face ≡ candidate d flags face e
-  candidate_present f g = rw (sym present ∙ f, g)
 
 -- ---- ranges of candidates
 
@@ -178,11 +165,6 @@ module _ {b : Binding} {level e : ℕ} (byte : e < 256) where
       go (a ∷ c ∷ []) s m g (suc (suc zero)) x h = omega (arith, some_injective h)
       go (a ∷ c ∷ []) s m g (suc (suc (suc v))) x h = absurd (none_some h)
       go (a ∷ c ∷ i ∷ es) s m g v x h = absurd (omega arith)
-
--- ---- no guards
-
-pub no_guards : {classes refs : List ℕ} {at : ℕ} {guards : List ℕ} → GuardsFound classes refs at guards 0
-no_guards = record { found = λ w l start r n p h j q. absurd (omega arith) }
 
 -- ---- what one rule puts
 
@@ -380,3 +362,6 @@ module _ {classes values d refs scopes flags cells previous_flags previous_cells
           let (v, h) = next_variable c (incomplete_more scopes k level y n) in
           let last = last_writes c h {e = e + get_or d 1 0} (omega arith) in
           ap (puts after) (sym (writes_between c h (get_or d 1 0) e (λ x from u i. outside c h x i (λ p. omega (arith, p.1))) ∙ last)) ∙ turns.left c v h)
+
+-- what a loop that finds a range needs
+pub ruleset range_turns = (range_begins, range_skips, range_takes)

@@ -1,6 +1,6 @@
 -- The writes of calls and of a rule, by a walk over their tokens: one law for each place where the walk returns, and three for its loop.
 use Prim.Native.Nat.{ℕ, ◌+◌, ◌/◌, ◌%◌, ◌<◌, ◌≤◌}
-use mathlib.Core.Path.{◌≡◌, refl, sym, ap, ap₂, ◌∙◌}
+use mathlib.Core.Path.{subst, ◌≡◌, refl, sym, ap, ap₂, ◌∙◌}
 use mathlib.Core.List.{List, [], ◌∷◌, ◌++◌, flat_map, append-nil, append_assoc}
 use mathlib.Core.Bool.{Bool, true, false, ◌&&◌}
 use mathlib.Core.Logic.{inr}
@@ -284,8 +284,10 @@ module _ {classes values refs : List ℕ} {b : Binding} {flags cells previous_fl
         (walk_in (in_stores_rows classes values refs b flags cells previous_flags previous_cells) d) in
         let whole = rule_walk {yields = λ c r u. priority_of r ≤ MOST_PRIORITY → u ≡ puts area (binding_writes c.rule.spots c.now c.previous r)}
         {v = after} start said h s (walk_in in_now g) (walk_in in_now k) (next_steps q)
-        (λ c x a y ys ex ea ey eys few. rw (← ea, e, ← ex few) (eys ∙ ap (λ l. puts l (flat_map (call_writes c.rule.spots c.now priority) ys)) ey
-        ∙ sym (puts_append area (call_writes c.rule.spots c.now priority y) (flat_map (call_writes c.rule.spots c.now priority) ys)))) in
+        (λ c x a y ys ex ea ey eys few. rw (← ea, e)
+        (subst (λ (p : ℕ). after ≡ puts area (call_writes c.rule.spots c.now p y ++ flat_map (call_writes c.rule.spots c.now p) ys)) (ex few)
+        (eys ∙ ap (λ l. puts l (flat_map (call_writes c.rule.spots c.now priority) ys)) ey
+        ∙ sym (puts_append area (call_writes c.rule.spots c.now priority y) (flat_map (call_writes c.rule.spots c.now priority) ys))))) in
         let (y, d) = walk_yields whole c l f in
         y (omega arith) few;
   }

@@ -32,27 +32,7 @@ module _ (b : Binding) (r : ℕ) where
   unfolding bound
   bound_entity h = rw (lt-ltb r 32 h)
 
-  pub bound_first : r ≡ 32 → b.entities % 256 ≡ bound b r
-  unfolding bound
-  bound_first e = rw e
-
-  pub bound_second : r ≡ 33 → b.entities / 256 % 256 ≡ bound b r
-  unfolding bound
-  bound_second e = rw e
-
-  pub bound_third : 32 ≤ r → (r ≡ 32 → ⊥) → (r ≡ 33 → ⊥) → b.entities / 65536 % 256 ≡ bound b r
-  unfolding bound
-  bound_third h n m = rw (le-ltb r 32 h, ne_eqb r 32 n, ne_eqb r 33 m)
-
 -- ---- cells
-
--- whether entity e is present, asked of member m
-module _ (m : ℕ) (p : Bool) where
-  pub no_member : 12 ≤ m → false ≡ (ltb m 12 && p)
-  no_member h = rw (le-ltb m 12 h)
-
-  pub a_member : m < 12 → {r : Bool} → r ≡ p → r ≡ (ltb m 12 && p)
-  a_member h q = rw (lt-ltb m 12 h) q
 
 module _ {count : ℕ} {flags cells : List ℕ} {s : Store} (h : Stored count flags cells s) {p : Option Spot} {e m : ℕ} where
   pub present_located : Locates count p e m → (ltb m 12 && eqb (get_or flags e 0) 1) ≡ is_present_at s p
@@ -67,11 +47,6 @@ module _ {count : ℕ} {flags cells : List ℕ} {s : Store} (h : Stored count fl
       rw (q, h.present e k, z)
   absent_read (missing q k) a = rw q
 
-  short_read : Locates count p e m → length cells < (e * 12 + m) * 9 + 9 → Unset ≡ value_at s p
-  unfolding value_at
-  short_read (located what q k l) a = absurd (omega (arith, h.room))
-  short_read (missing q k) a = rw q
-
   present_read : Locates count p e m → (ltb m 12 && eqb (get_or flags e 0) 1) ≡ true → {v : Value} → v ≡ cell_at cells (e * 12 + m) → v ≡ value_at s p
   unfolding value_at
   present_read (located what q k l) a r =
@@ -84,9 +59,6 @@ module _ {count : ℕ} {flags cells : List ℕ} {s : Store} (h : Stored count fl
 module _ {flags cells : List ℕ} {e m : ℕ} where
   pub read_absent : (ltb m 12 && eqb (get_or flags e 0) 1) ≡ false → CellRead flags cells e m Unset
   read_absent a = record { reads = λ count s p h l. absent_read h l a }
-
-  pub read_short : length cells < (e * 12 + m) * 9 + 9 → CellRead flags cells e m Unset
-  read_short k = record { reads = λ count s p h l. short_read h l k }
 
   pub read_present : (ltb m 12 && eqb (get_or flags e 0) 1) ≡ true → {v : Value} → v ≡ cell_at cells (e * 12 + m) → CellRead flags cells e m v
   read_present a q = record { reads = λ count s p h l. present_read h l a q }
@@ -116,13 +88,6 @@ module _ {area : List ℕ} {priority e m : ℕ} {v : Value} where
       go (located what q k l) = absurd (omega arith)
       go (missing q k) = rw q (none_written area made priority v)
 
-  pub put_beyond : {made : Bool} → 384 ≤ e * 12 + m → Put area made priority e m v area
-  put_beyond {made} h = record { written = λ count p k l. go k l }
-    where
-      go : {count : ℕ} {p : Option Spot} → count ≤ 32 → Locates count p e m → area ≡ puts area (written_if made p priority v)
-      go few (located what q k l) = absurd (omega arith)
-      go few (missing q k) = rw q (none_written area made priority v)
-
   pub put_made : {made : Bool} {after : List ℕ} → made ≡ true → m < 12 → after ≡ pended MOST_CELL_BYTES area (e * 12 + m) priority v → Put area made priority e m v after
   unfolding puts written_if
   put_made {made} {after} em h a = record { written = λ count p k l. go l }
@@ -130,6 +95,10 @@ module _ {area : List ℕ} {priority e m : ℕ} {v : Value} where
       go : {count : ℕ} {p : Option Spot} → Locates count p e m → after ≡ puts area (written_if made p priority v)
       go (located what q k l) = rw (em, q) a
       go (missing q k) = absurd (omega arith)
+
+pub ruleset cells_read = (read_absent, read_present)
+
+pub ruleset writes_put = (put_nothing, put_missing, put_made)
 
 -- ---- the tokens of a world
 

@@ -5,15 +5,12 @@ use mathlib.Core.List.{List}
 use mathlib.Core.Bool.{Bool, true, false}
 use lib.IntN.{pos}
 use lib.Ieee.{binary64, of_int}
-use lib.Dec.{eqb}
 use lib.ListN.{length, get_or}
-use borrow.Author.Tests.{ne_eqb}
 use Rattle.values.specs.declared.Value.{Value}
 use Rattle.values.specs.declared.Value.TheVariants.{Truth}
 use Rattle.values.specs.declared.Operator.{Operator}
-use Rattle.values.specs.declared.Operator.TheVariants.{Plus, Minus, Times, Divide}
 use Rattle.values.specs.definitions.Value.{fitted, settled, operated, negated, as_real}
-use Rattle.text.specs.definitions.Tokens.{NAME, WHOLE_NUMBER, REAL_NUMBER, TRUE, FALSE, REAL, ROUND_OPEN, PLUS, MINUS, TIMES, DIVIDE}
+use Rattle.text.specs.definitions.Tokens.{NAME, WHOLE_NUMBER, REAL_NUMBER, TRUE, FALSE, REAL, ROUND_OPEN, MINUS}
 use Rattle.text.specs.definitions.Syntax.{Expression}
 use Rattle.text.specs.definitions.Readers.{Parser, halt, joined}
 use Rattle.text.specs.definitions.Grammar.{name_of, operator_of, apply_at, is_factor_operator, is_term_operator, simple_or, factor_reader, expression_reader}
@@ -37,46 +34,7 @@ use Rattle.cycles.specs.inner_contracts.TotalMachine.{value}
 use Rattle.cycles.specs.inner_contracts.Evaluation.{bound, CellRead, in_store_rows, ExpressionYields, ExpressionWalk, ExpressionLoop}
 use Rattle.cycles.proofs.steps.EvaluationLaws.{number_at, dotted_at}
 
--- ---- operators
-
-module _ (c : ℕ) where
-  pub operator_plus : c ≡ PLUS → Plus ≡ operator_of c
-  unfolding operator_of
-  operator_plus e = rw e
-
-  pub operator_minus : c ≡ MINUS → Minus ≡ operator_of c
-  unfolding operator_of
-  operator_minus e = rw e
-
-  pub operator_times : c ≡ TIMES → Times ≡ operator_of c
-  unfolding operator_of
-  operator_times e = rw e
-
-  pub operator_divide : (c ≡ PLUS → ⊥) → (c ≡ MINUS → ⊥) → (c ≡ TIMES → ⊥) → Divide ≡ operator_of c
-  unfolding operator_of
-  operator_divide p m t = rw (ne_eqb c PLUS p, operator_of, ne_eqb c MINUS m, ne_eqb c TIMES t)
-
-  pub factor_operator : c ≡ TIMES → true ≡ is_factor_operator c
-  unfolding is_factor_operator
-  factor_operator e = rw e
-
-  pub other_factor_operator : (c ≡ TIMES → ⊥) → {r : Bool} → r ≡ eqb c DIVIDE → r ≡ is_factor_operator c
-  unfolding is_factor_operator
-  other_factor_operator n q = rw (ne_eqb c TIMES n) q
-
-  pub term_operator : c ≡ PLUS → true ≡ is_term_operator c
-  unfolding is_term_operator
-  term_operator e = rw e
-
-  pub other_term_operator : (c ≡ PLUS → ⊥) → {r : Bool} → r ≡ eqb c MINUS → r ≡ is_term_operator c
-  unfolding is_term_operator
-  other_term_operator n q = rw (ne_eqb c PLUS n) q
-
 -- ---- what begins with no opener
-
--- a cell by other names
-pub cell_same : {flags cells : List ℕ} {e f m n : ℕ} {v : Value} → e ≡ f → m ≡ n → CellRead flags cells e m v → CellRead flags cells f n v
-cell_same p q h = rw (p, q) at h
 
 -- `class` is what the walk found at number `at`
 module _ {classes values refs : List ℕ} {b : Binding} {flags cells : List ℕ} {at class : ℕ} (is : class ≡ get_or classes at 0) where

@@ -206,3 +206,9 @@ module _ {text classes offsets lengths d : List ℕ} {i token : ℕ} (t : CellTo
           h.is w.tokens w.columns vs y (subst (λ (n : ℕ). BodyOf w.tokens (n + 5) y) (sym r) body)
           ∙ ap (λ n. assigned (look_up (λ a. a.name) n y.assignments)) named
           ∙ f
+
+-- what a loop over assignments needs
+pub ruleset assigning_turns = (assigning_begins, assigning_ends, assigning_here, assigning_on)
+
+-- what a cell has at first
+pub ruleset values_found = (value_none, value_assigned)

@@ -3,13 +3,13 @@
 use Prim.Native.Nat.{ℕ, zero, suc, ◌+◌, ◌*◌, ◌/◌, ◌%◌, ◌≤◌, ◌<◌}
 use native.Mathlib.Omega.{arith}
 use mathlib.Core.Path.{◌≡◌, refl, sym, ap, ap₂, ◌∙◌}
-use mathlib.Core.Bool.{Bool, true, false, not, true≢false, beq}
+use mathlib.Core.Bool.{Bool, true, false, true≢false, beq}
 use mathlib.Core.List.{List, [], ◌∷◌, ◌++◌, map}
 use mathlib.Core.Logic.{◌⊎◌, inl, inr}
 use lib.Dec.{eqb, ltb}
 use lib.ListN.{length, get_or, get_elem?, drop, set, length-append, length-drop}
 use lib.Seq.{get_or-set_same, get_or-set_other}
-use borrow.Author.Tests.{not-true, eqb-true, eqb-false, ltb-true, ltb-false}
+use borrow.Author.Tests.{eqb-true, eqb-false, ltb-true, ltb-false}
 use Rattle.values.specs.declared.Value.{Value}
 use Rattle.values.specs.definitions.Value.{equal, differ}
 use Rattle.text.specs.definitions.Syntax.{Expression, Condition, File}
@@ -255,9 +255,6 @@ module _ {classes values d refs scopes flags cells previous_flags previous_cells
 -- ---- marks
 
 module _ {Failing : ℕ → Type 0} where
-  pub none_taken : {marks : List ℕ} → MarksTaken Failing marks marks
-  none_taken = record { takes = λ e. inl refl }
-
   pub mark_taken : {before : List ℕ} (marks : List ℕ) (e : ℕ) → MarksTaken Failing before marks → e < length marks → Failing e
       → MarksTaken Failing before (set marks e 0)
   mark_taken {before} marks e t h f = record { takes = λ i. go i (eqb i e) refl }
@@ -296,9 +293,6 @@ still_marked {classes} {values} {d} {refs} {scopes} {flags} {cells} {previous_fl
     within e f l n (inr (y, h)) = absurd (n y)
 
 module _ {classes values refs flags cells previous_flags previous_cells : List ℕ} {b : Binding} {guards : List ℕ} {count level first end : ℕ} where
-  pub not_narrowed : {marks : List ℕ} → Narrowed classes values refs flags cells previous_flags previous_cells b guards count level first end marks marks
-  not_narrowed = record { narrows = λ d scopes k face found marked. marked }
-
   -- one guard more
   pub narrowed : {j code n m at : ℕ} → j < count → code ≡ get_or guards (4 * j) 0 → n ≡ get_or guards (4 * j + 1) 0 → m ≡ get_or guards (4 * j + 2) 0
       → at ≡ get_or guards (4 * j + 3) 0 → code / 8 % 4 ≡ level + 1
@@ -363,19 +357,6 @@ module _ {b : Binding} {level e : ℕ} {binding : Binding} (added : EntityAdded 
     agrees = λ s v l n. refl;
   }
 
-  pub unchanged_fails : {flags cells previous_flags previous_cells : List ℕ} {cell earlier : Value} → CellRead flags cells o m cell
-      → CellRead previous_flags previous_cells o m earlier → {t : Bool} → t ≡ differ cell earlier → not t ≡ true
-      → Unchanged b level flags cells previous_flags previous_cells r m e
-  unchanged_fails {cell = cell} {earlier} h k {t} q f = record {
-    binding = binding;
-    added = added;
-    cell = cell;
-    earlier = earlier;
-    reads = rw refers at h;
-    reads_earlier = rw refers at k;
-    same = sym q ∙ not-true t f;
-  }
-
 module _ {classes values refs : List ℕ} {b : Binding} {level : ℕ} where
   module _ {flags cells : List ℕ} {r m at : ℕ} {outcome : Bool} {inner : ℕ} where
     -- the expression worked out before: its variables have their entities
@@ -403,16 +384,6 @@ module _ {classes values refs : List ℕ} {b : Binding} {level : ℕ} where
     }
 
   module _ {flags cells previous_flags previous_cells : List ℕ} where
-    pub group_fails : {at next e : ℕ} {binding : Binding} {holds : Bool} → EntityAdded b level e binding
-        → ConditionWalk classes values refs binding flags cells previous_flags previous_cells (atom_reader OPENERS) at holds next → not holds ≡ true
-        → GroupFails classes values refs b level flags cells previous_flags previous_cells at e
-    group_fails {next = next} {binding = binding} {holds} a w f = record {
-      binding = binding;
-      added = a;
-      next = next;
-      walk = rw (not-true holds f) at w;
-    }
-
     -- by the kind
     module _ {kind inner n m at r i : ℕ} (owner : r ≡ get_or refs n 0 % 256) (member : i ≡ get_or refs m 0 / 256) where
       pub by_change : kind ≡ CELL_CHANGES → (e : ℕ) → Unchanged b level flags cells previous_flags previous_cells r i e

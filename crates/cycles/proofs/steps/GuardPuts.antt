@@ -28,12 +28,6 @@ use Rattle.cycles.specs.inner_contracts.Finding.{Growth, GuardPut, none_put, one
 -- ---- levels
 
 module _ {refs : List ℕ} where
-  pub covered_none : (level i : ℕ) → Covered refs level i i
-  covered_none level i = record { covers = λ j v l h e s. absurd (omega arith) }
-
-  pub covered_all : (low high : ℕ) → Covered refs 3 low high
-  covered_all low high = record { covers = λ i v l h e s. s }
-
   pub covered_fewer : {level low high top : ℕ} → high ≤ top → Covered refs level low top → Covered refs level low high
   covered_fewer h c = record { covers = λ i v l k e s. c.covers i v l (omega arith) e s }
 
@@ -46,14 +40,6 @@ module _ {refs : List ℕ} where
       go : (i v : ℕ) → low ≤ i → i < high → get_or refs i 0 % 256 ≡ 32 + v → v < 3 → (t : Bool) → ltb i middle ≡ t → v < level
       go i v l h e s true q = c.covers i v l (ltb-true i middle q) e s
       go i v l h e s false q = d.covers i v (ltb-false i middle q) h e s
-
-  -- by what one token refers to
-  pub covered_at : {i r level : ℕ} → r ≡ get_or refs i 0 % 256 → ((v : ℕ) → r ≡ 32 + v → v < 3 → v < level) → Covered refs level i (i + 1)
-  covered_at {i} er f = record {
-    covers = λ j v l h e s.
-        let k : i ≡ j = omega arith in
-        f v (er ∙ ap (λ n. get_or refs n 0 % 256) k ∙ e) s;
-  }
 
 -- ---- guards in memory
 
@@ -141,20 +127,6 @@ module _ {classes : List ℕ} {w : Rows classes} {refs : List ℕ} {silence : Sp
           same_guard (ap (λ i. i / 8 % 4) first) (ap (λ i. i / 32) first) (ap (λ i. i % 8) first)
           (four_below rows p a n m at (4 * j + 1) (omega arith)) (four_below rows p a n m at (4 * j + 2) (omega arith))
           (four_below rows p a n m at (4 * j + 3) (omega arith)) (all j (omega arith))
-
--- no guard is put
-pub nothing_put : {refs : List ℕ} {kind n m at next : ℕ} {guards : List ℕ} {count : ℕ}
-    → PartPut refs kind n m at next (record { before = guards; count = count; after = guards; total = count })
-nothing_put {n = n} {at = at} {next = next} = record {
-  level = 3;
-  inner = 3;
-  few = omega arith;
-  within = omega arith;
-  own = covered_all n (n + 1);
-  inside = covered_all at next;
-  alone = λ h. covered_all at next;
-  put = none_put refl refl;
-}
 
 -- ---- what memory promises of a part
 

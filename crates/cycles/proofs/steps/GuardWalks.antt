@@ -169,11 +169,6 @@ abbrev pub ConjunctsLoop : List ℕ → List ℕ → ℕ → Growth → ℕ → 
 ConjunctsLoop classes refs at g i =
     Looping (all_rows classes) (ConditionGuards refs) (conjunction_reader OPENERS) is_and (joined (atom_reader OPENERS) both_at) at g i
 
--- turns of the loop, from memory a with k guards at number i to memory b with l guards at number j
-pub record ConjunctsTurned (classes refs : List ℕ) (at : ℕ) (a : List ℕ) (k i : ℕ) (b : List ℕ) (l j : ℕ) : Type 0 where
-  pub turned : {before : List ℕ} {count : ℕ} → ConjunctsLoop classes refs at (record { before = before; count = count; after = a; total = k }) i
-      → ConjunctsLoop classes refs at (record { before = before; count = count; after = b; total = l }) j
-
 module _ {classes refs : List ℕ} {at : ℕ} where
   pub conjuncts_begin : {g : Growth} {i : ℕ} → ConditionGuardsWalk classes refs (atom_reader OPENERS) at g i → ConjunctsLoop classes refs at g i
   conjuncts_begin h = conjunction_begins OPENERS h

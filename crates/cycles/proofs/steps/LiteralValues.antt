@@ -1,17 +1,10 @@
 -- The value of a literal, by the classes and values of its tokens.
-use Prim.Native.Nat.{ℕ, zero, suc, ◌+◌, ◌^◌, ◌≤◌, ◌<◌}
-use native.Mathlib.Nat.{lt_trans}
+use Prim.Native.Nat.{ℕ, suc, ◌+◌, ◌≤◌}
 use native.Mathlib.Omega.{arith}
 use mathlib.Core.Path.{◌≡◌, sym, ap, ◌∙◌}
 use mathlib.Core.Bool.{Bool, true, false}
 use mathlib.Core.List.{List}
-use lib.Dec.{lit<}
-use lib.IntN.{pos, neg_ℤ, ◌-ℤ◌, +ℤ_idl}
-use lib.Signed.{mag}
 use lib.ListN.{length, get_or, drop, get_or-eq_default}
-use mir.Syntax.{w64}
-use mir.Val.{SFits, to_z, of_z}
-use mir.Facts.{to_z-of_z, to_z_pos}
 use Rattle.values.specs.declared.Value.{Value}
 use Rattle.values.specs.declared.Value.TheVariants.{Truth}
 use Rattle.text.specs.definitions.Tokens.{Token, WHOLE_NUMBER, REAL_NUMBER, TRUE, FALSE, MINUS}
@@ -22,28 +15,6 @@ use Rattle.text.proofs.laws.TreeLaws.{read_tree}
 use Rattle.text.proofs.laws.SpotLaws.{Starts, expect_starts}
 use Rattle.checking.proofs.laws.EntityTokens.{by_next}
 use Rattle.cycles.specs.inner_contracts.FreshMemory.{LiteralColumns, NumberAt, LiteralAt}
-
--- ---- a number of 32 bits as an `i64`, and with its sign turned
-
-module _ {n : ℕ} (h : n < 2 ^ 32) where
-  pub wide_is : to_z w64 n ≡ pos n
-  wide_is = to_z_pos w64 {n = n} (lt_trans h (lit< tt))
-
-  minus_is : pos 0 -ℤ to_z w64 n ≡ neg_ℤ (pos n)
-  minus_is = rw wide_is (+ℤ_idl (neg_ℤ (pos n)))
-
-  minus_small : mag (neg_ℤ (pos n)) < 2 ^ 63
-  minus_small = go n h
-    where
-      go : (n : ℕ) → n < 2 ^ 32 → mag (neg_ℤ (pos n)) < 2 ^ 63
-      go zero h = lit< tt
-      go (suc n) h = omega arith
-
-  pub minus_fits : SFits w64 (pos 0 -ℤ to_z w64 n)
-  minus_fits = rw minus_is (record { sfits = minus_small })
-
-  pub minus_back : to_z w64 (of_z w64 (pos 0 -ℤ to_z w64 n)) ≡ neg_ℤ (pos n)
-  minus_back = to_z-of_z minus_fits ∙ minus_is
 
 -- ---- what was read
 
@@ -150,3 +121,6 @@ module _ {classes values : List ℕ} {i : ℕ} where
     is = λ ts columns l n r.
         literal_reads columns i r (λ k p. absurd (a k)) (λ k p. absurd (b k)) (λ k m s. absurd (c k)) (λ s. q.is ts columns l n s);
   }
+
+-- by the class of the first token
+pub ruleset literals_found = (literal_outside, literal_true, literal_false, literal_minus, literal_number)

@@ -103,6 +103,7 @@ entity_of f i e t = go (get_elem? f.entities e) refl t
   where
     go : (o : Option Entity) → get_elem? f.entities e ≡ o → T (entity_is_of i o) → (e < length f.entities) × (interface_of_entity f o ≡ interface_named f i)
     go (some x) q t = (number_below f.entities e q, ap (interface_named f) (same_bytes_eq x.interface.bytes i t))
+    go none q t = elim t [ ]
 
 module _ {f : File} (few : Few f) (vs : List Variable) (bs : List ℕ) (binds : Binds f vs bs) (all : length bs ≡ length vs) (b : Binding) where
   -- the members of entity e, which reference r means

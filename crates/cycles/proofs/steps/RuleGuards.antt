@@ -85,10 +85,6 @@ module _ (sp : Spots) (now previous : Store) where
 -- ---- a call
 
 module _ {classes refs : List ℕ} {at : ℕ} where
-  pub call_no_guard : {guards : List ℕ} {count : ℕ}
-      → CallGuarded classes refs at (record { before = guards; count = count; after = guards; total = count })
-  call_no_guard = no_guard refl refl
-
   pub call_a_guard : {name opener i j on owner k class attr p inside next after : ℕ} {g : Growth}
       → Steps (length classes) at name → Steps (length classes) name opener → Steps (length classes) opener i
       → Ends classes (expression_reader OPENERS) i j → Steps (length classes) j on → Steps (length classes) on owner → TargetWalk classes owner k
@@ -133,9 +129,6 @@ Grown refs g w r u =
     → Guarded w refs (λ sp now previous. binding_writes sp now previous r ≡ []) g.after g.total
 
 module _ {classes refs : List ℕ} {at : ℕ} where
-  pub no_guards : {guards : List ℕ} → GuardsFound classes refs at guards 0
-  no_guards = record { found = λ w l start r used e k j h. absurd (omega arith) }
-
   module _ {o next m : ℕ} {g : Growth} (d : Ends classes priority_reader at o) (s : Steps (length classes) next m) where
     call_extends : CallGuarded classes refs m g → Walks (all_rows classes) (λ w (a : Condition) (u : Unit {0}). Unit {0}) (condition_reader OPENERS) o tt next
         → (w : Rows classes) → w.low ≤ at → (start : Token) (r : Rule) (used : ℕ) → rule_after start (drop at w.tokens) ≡ read r used

@@ -1,5 +1,5 @@
 -- Rules in memory: those of a set put what they write, one after another, and those that are tried are such a set.
-use Prim.Native.Nat.{ℕ, zero, suc, ◌+◌, ◌≤◌, ◌<◌}
+use Prim.Native.Nat.{ℕ, suc, ◌+◌, ◌≤◌, ◌<◌}
 use native.Mathlib.Numerals.{add-one}
 use native.Mathlib.Omega.{arith}
 use mathlib.Core.Path.{◌≡◌, refl, sym, ap, ◌∙◌}
@@ -7,7 +7,6 @@ use mathlib.Core.Bool.{Bool, true, false, not}
 use mathlib.Core.List.{List, [], ◌∷◌, flat_map}
 use mathlib.Core.Option.{some}
 use lib.ListN.{get_or, get_elem?, drop, drop_of_length-le}
-use borrow.Author.Tests.{not-true, not-false}
 use Rattle.text.specs.definitions.Syntax.{Rule}
 use Rattle.text.proofs.laws.ListLaws.{none_some}
 use Rattle.text.proofs.laws.SpotLaws.{stands_drop}
@@ -146,3 +145,6 @@ module _ {classes values d refs scopes flags cells previous_flags previous_cells
       (in_tried tried (is_quiescent f g.now g.previous) 0 f.rules (λ j r h.
       let z : 0 + j ≡ j = omega arith in
       ap (has_bit tried) z ∙ p.tried_are.is text classes offsets lengths values refs g j r h))
+
+-- what a loop over the rules of a set needs
+pub ruleset rules_in_turn = (rules_begin, rules_impossible, entities_impossible, rule_skipped, rule_turns, rules_end)

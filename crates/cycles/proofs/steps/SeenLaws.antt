@@ -270,3 +270,6 @@ tables_stored f s h {flags} {cells} r q a b =
           ∙ cell_read y.0 (s.cell (i / 12) (i % 12)) y.1
           ∙ ap₂ s.cell (cell_entity e m t) (cell_member e m t));
     }
+
+-- what a cell has after the line
+pub ruleset values_seen = (value_read, value_stays, value_kept, value_left)

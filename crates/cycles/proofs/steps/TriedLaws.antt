@@ -46,6 +46,7 @@ fails false h = refl
 
 excluded : (b : Bool) → T b → T (not b) → ⊥
 excluded true h g = g
+excluded false h g = elim h [ ]
 
 -- ---- cells
 
@@ -213,3 +214,6 @@ module _ {d scopes flags bytes previous_flags previous_bytes : List ℕ} where
           tried_is f (few_within f g.checked.few) g.now g.previous g.now_stored g.previous_stored
           (rw e at is_moved) r k rules (omega arith)
           (λ e m h l. g.reads_are.is k below few (rule_world g.checked k r q) (few_variables text f g.checked.accepts k r q) e m h l) met
+
+-- which rules are tried
+pub ruleset tried_sets = (tried_few_rules, tried_few_entities, tried_room, tried_by_sets)

@@ -33,7 +33,7 @@ unfoldable pub tried_rules : File → Store → Store → List Rule
 unfolding flat_map item_unless is_quiescent
 tried_rules f now previous = flat_map (λ r. item_unless (is_quiescent f now previous r) r) f.rules
 
--- a cycle that passes over the rules at rest; otherwise as `ref-cycle`
+-- a cycle that passes over the rules at rest; otherwise as `ref_cycle`
 unfoldable pub ref_skipping_cycle : File → Stores → Inputs → Outcome Stores
 unfolding run_if inputs_fit proceed collected ref_rule_writes tried_rules seen next_stores
 ref_skipping_cycle f s i =

@@ -71,7 +71,7 @@ pub record Resolved (classes values refs : List ℕ) (b : Binding) : Type 0 wher
 
 -- ---- stores in memory
 
--- a flag of 1 for each present entity, and the cells of each entity, as `decode-store` reads them
+-- a flag of 1 for each present entity, and the cells of each entity, as `decode_store` reads them
 pub record Stored (count : ℕ) (flags cells : List ℕ) (s : Store) : Type 0 where
   pub room : count * ENTITY_CELL_BYTES ≤ length cells
   pub present : (e : ℕ) → e < count → s.present e ≡ eqb (get_or flags e 0) 1

@@ -1,5 +1,5 @@
 -- The total machine, which code computes: the reference machine (Reference, Bindings, Cycle), but what that is stuck at gives unset, false or no
--- write here. For accepted files the two are equal (`accepted-sound`), so nobody has to believe this one.
+-- write here. For accepted files the two are equal (`accepted_sound`), so nobody has to believe this one.
 use Rattle.std.specs.Prelude.{ℕ, Bool, true, false, not, ◌&&◌, ◌||◌}
 use mathlib.Core.List.{List, [], flat_map}
 use Rattle.std.proofs.Math.Option.{Option, none, some}
@@ -54,20 +54,20 @@ value sp s (to_real at a) = as_real (value sp s a)
 value sp s (negate at a) = negated (value sp s a)
 value sp s (apply o at a b) = operated o (value sp s a) (value sp s b)
 
--- as `ref-filter`
+-- as `ref_filter`
 unfoldable pub filter_holds : Spots → Store → Target → Option Filter → Bool
 unfolding value_at value
 filter_holds sp s t none = true
 filter_holds sp s t (some g) = equal (value_at s (sp t.name.bytes g.attribute.bytes)) (value sp s g.expression)
 
--- as `ref-test`
+-- as `ref_test`
 unfoldable pub test_holds : Spots → Store → Store → Option Spot → Test → Bool
 unfolding value_at value
 test_holds sp now previous p changed = differ (value_at now p) (value_at previous p)
 test_holds sp now previous p (equals at a) =
     equal (value_at now p) (value sp now a) && not (equal (value_at previous p) (value sp previous a))
 
--- as `ref-clause`
+-- as `ref_clause`
 unfoldable pub clause_holds : Spots → Store → Store → Clause → Bool
 unfolding is_present_at filter_holds test_holds
 clause_holds sp now previous c =
@@ -81,7 +81,7 @@ holds sp now previous (clause c) = clause_holds sp now previous c
 holds sp now previous (both a b) = holds sp now previous a && holds sp now previous b
 holds sp now previous (either a b) = holds sp now previous a || holds sp now previous b
 
--- as `ref-call`
+-- as `ref_call`
 unfoldable pub call_writes : Spots → Store → (priority : ℕ) → Call → List Write
 unfolding written_if is_present_at filter_holds value
 call_writes sp now priority c =
@@ -102,7 +102,7 @@ unfoldable pub binding_writes : Spots → Store → Store → Rule → List Writ
 unfolding writes_if holds flat_map call_writes priority_of
 binding_writes sp now previous r = writes_if (holds sp now previous r.condition) (flat_map (call_writes sp now (priority_of r)) r.calls)
 
--- ---- all rules, as `ref-all-writes`
+-- ---- all rules, as `ref_all_writes`
 
 unfoldable pub rule_writes : File → Store → Store → Rule → List Write
 unfolding flat_map binding_writes spots bindings variables
@@ -112,7 +112,7 @@ unfoldable pub all_writes : File → Store → Store → List Write
 unfolding flat_map rule_writes
 all_writes f now previous = flat_map (rule_writes f now previous) f.rules
 
--- ---- a cycle, as `ref-cycle`
+-- ---- a cycle, as `ref_cycle`
 
 unfoldable pub cycle : File → Stores → Inputs → Stores
 unfolding next_stores all_writes

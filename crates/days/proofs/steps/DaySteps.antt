@@ -78,13 +78,6 @@ module _ (classes literals d refs scopes columns : List ℕ) (width : ℕ) (spot
     left_length : length (lines (drop at readings)) ≡ suc (length (lines (drop (stop + 1) readings)))
     left_length = ap length left
 
-    pub room_for_line : end + MOST_LINE_BYTES ≤ length sheet
-    room_for_line =
-        let r = w.room in
-        let s = w.size in
-        let l = left_length in
-        omega arith
-
     module _ {new_state : List ℕ} (kept : length new_state ≡ length state) {t : ℕ}
         (steps : Stepped classes literals d refs scopes columns width (take (stop - at) (drop at readings)) state new_state t) where
       -- the state after the record
@@ -183,12 +176,6 @@ module _ (classes literals d refs scopes columns : List ℕ) (width : ℕ) (spot
       }
 
   module _ {at end : ℕ} {state sheet : List ℕ} {gs : List Fold} (w : Going at end state sheet gs) where
-    pub room_for_closing : count ≤ MOST_CHOSEN → end + MOST_CLOSING_BYTES * count ≤ length sheet
-    room_for_closing h =
-        let r = w.room in
-        let s = w.size in
-        omega arith
-
     pub going_ends : length readings ≤ at → {reals : List Bool} → RealsRead classes d spots count reals → {new_sheet : List ℕ} {r : ℕ}
         → Put (with_feeds (all_closing_rows 0 (take count reals) gs)) sheet end new_sheet r
         → DayPut classes literals d refs scopes columns width spots count readings from state₀ m new_sheet r

@@ -56,6 +56,9 @@ module _ (s : List ℕ) (at : ℕ) where
   pub line_over : {i : ℕ} → LineSoFar s at i → length s ≤ i → LineEnd s at i
   line_over w h = record { after = w.after; inside = w.inside; part = w.part; fed = λ l. absurd (omega arith) }
 
+-- what `line_end` needs
+pub ruleset line_ended = (line_starts, line_goes_on, line_fed, line_over)
+
 -- ---- line feeds
 
 module _ (s : List ℕ) where
@@ -115,6 +118,9 @@ module _ (s : List ℕ) where
       go : (t : Bool) → ltb ((size - least) / MOST_LINE_BYTES) feeds ≡ t → t ≡ ltb size stated
       go true q = let l = ltb-true ((size - least) / MOST_LINE_BYTES) feeds q in sym (lt-ltb size stated (omega arith))
       go false q = let l = ltb-false ((size - least) / MOST_LINE_BYTES) feeds q in sym (le-ltb size stated (omega arith))
+
+-- what `line_feeds` needs
+pub ruleset feeds_counted = (feeds_begin, feeds_one, feeds_other, feeds_end)
 
 -- ---- a record
 

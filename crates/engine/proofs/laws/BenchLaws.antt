@@ -1,14 +1,14 @@
 -- The bench image, written and read back.
-use Prim.Native.Nat.{ℕ, ◌+◌, ◌-◌, ◌≤◌, ◌<◌}
+use Prim.Native.Nat.{ℕ, ◌+◌, ◌≤◌, ◌<◌}
 use native.Mathlib.Omega.{arith}
-use mathlib.Core.Path.{◌≡◌, refl, ap, ◌∙◌, subst}
+use mathlib.Core.Path.{◌≡◌, refl, ap, ◌∙◌}
 use mathlib.Core.Bool.{Bool, true, false}
 use mathlib.Core.List.{List, ◌++◌, append_assoc}
 use mathlib.Core.Option.{none, some}
 use lib.Dec.{leb}
 use lib.ListN.{length, take, drop, length-append, length-drop}
 use lib.Seq.{take-append_seam}
-use borrow.Author.Tests.{le-leb, lt-leb}
+use borrow.Author.Tests.{le-leb}
 use Rattle.values.specs.definitions.Bytes.{word_at, low_first, overwritten}
 use Rattle.text.specs.definitions.Syntax.{File}
 use Rattle.checking.specs.definitions.Verdict.{Verdict, verdict, MOST_BYTES, accepted_file}
@@ -32,18 +32,6 @@ bench_put text m (h, g) {n} p q =
     i.is
     ∙ ap (λ (k : ℕ). (low_first 4 (length text) ++ text) ++ drop k m) e
     ∙ append_assoc (low_first 4 (length text)) text (drop (4 + length text) m)
-
--- the text in memory, as code lends it
-pub text_none : (m : List ℕ) {n : ℕ} → n ≡ word_at 4 m 0 → 32768 < n → take (0 - 0) (drop 0 m) ≡ text_in m
-unfolding text_in
-text_none m {n} e h = rw (← e, lt-leb n MOST_BYTES h, text_in)
-
-pub text_held : (m : List ℕ) {n : ℕ} → n ≡ word_at 4 m 0 → n ≤ 32768 → take (4 + n - 4) (drop 4 m) ≡ text_in m
-unfolding text_in
-text_held m {n} e h =
-    let z : 4 + n - 4 ≡ n = omega arith in
-    let k : word_at 4 m 0 ≤ MOST_BYTES = subst (λ (j : ℕ). j ≤ MOST_BYTES) e h in
-    rw (z, le-leb (word_at 4 m 0) MOST_BYTES k, text_in) (ap (λ (j : ℕ). take j (drop 4 m)) e)
 
 -- the length that the first 4 bytes hold
 length_word : (n : ℕ) (rest : List ℕ) → n ≤ MOST_BYTES → word_at 4 (low_first 4 n ++ rest) 0 ≡ n

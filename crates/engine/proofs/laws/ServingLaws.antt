@@ -1,5 +1,5 @@
 -- A call on a text: what the parts that serve it say of it.
-use Prim.Native.Nat.{ℕ, ◌-◌, ◌*◌, ◌%◌, ◌≤◌}
+use Prim.Native.Nat.{ℕ, ◌-◌, ◌*◌, ◌≤◌}
 use native.Mathlib.Omega.{arith}
 use mathlib.Core.Path.{◌≡◌, refl, sym, ap, ◌∙◌, subst}
 use mathlib.Core.Bool.{Bool, true, false, ◌||◌}
@@ -27,11 +27,9 @@ use Rattle.senders.specs.inner_contracts.RowMemory.{Shown, FreshStatePut}
 use Rattle.senders.proofs.laws.SenderLaws.{name_short}
 use Rattle.senders.proofs.laws.StateLaws.{state_decoded, no_state}
 use Rattle.days.specs.declared.sheet.Sheeted.{Sheeted}
-use Rattle.days.specs.declared.sheet.Sheeted.TheVariants.{Refused as Not-made, Length}
 use Rattle.days.specs.definitions.DaySheet.{sheet_if_state}
 use Rattle.days.specs.inner_contracts.SheetMemory.{SheetIs, SheetPut}
 use Rattle.engine.specs.declared.line.Taken.{Taken}
-use Rattle.engine.specs.declared.line.Taken.TheVariants.{Refused, Row as Shows}
 use Rattle.engine.specs.declared.serve.Call.{Call}
 use Rattle.engine.specs.declared.serve.Call.TheVariants.{Check, Fresh, Line, Header, Row, Sheet}
 use Rattle.engine.specs.definitions.BenchImage.{with_bench, bench_of, text_in}
@@ -51,24 +49,9 @@ use Rattle.engine.specs.definitions.Calls.{
   sheet_answered,
   sheet_on_bench,
 }
-use Rattle.engine.specs.inner_contracts.LineMemory.{taken_answer, ShortRow, LineTaken}
+use Rattle.engine.specs.inner_contracts.LineMemory.{taken_answer, LineTaken}
 use Rattle.engine.proofs.laws.LineLaws.{state_told}
-use Rattle.engine.specs.inner_contracts.Serving.{served_line, served_sheet, served, sheeted_answer, Room, refusal, OnBench}
-
--- ---- the answer of a line
-
-pub answer_refused : {t : Taken} {code : ℕ} → t ≡ Refused code → code ≡ taken_answer t
-unfolding taken_answer
-answer_refused e = rw e
-
-pub answer_row : {t : Taken} {n r : ℕ} → t ≡ Shows n → ShortRow t → (n ≤ 32768 → r ≡ 256 * n) → r ≡ taken_answer t
-unfolding taken_answer
-answer_row {t} {n} e s h = rw e (h (subst ShortRow e s))
-
--- ---- the room of a call
-
-pub room_of : {call other : Call} (state shown names out : List ℕ) → call ≡ other → Room call state shown names out → Room other state shown names out
-room_of state shown names out e r = subst (λ (c : Call). Room c state shown names out) e r
+use Rattle.engine.specs.inner_contracts.Serving.{served_line, served_sheet, served, sheeted_answer, refusal, OnBench}
 
 pub serves_as : {call other : Call} {text classes offsets lengths literals d state shown names values out new_state new_out : List ℕ} {r : ℕ} → call ≡ other
     → OnBench other text classes offsets lengths literals d state shown names values out new_state new_out r
@@ -90,14 +73,6 @@ pub refused_says : (text d : List ℕ) (u : TokenColumns) {r : Checked} {code at
 refused_says text d u e s = subst (Says text u d) e s
 
 -- ---- a sheet
-
-pub sheet_refused : {t : Sheeted} {code : ℕ} → t ≡ Not-made code → code ≡ sheeted_answer t
-unfolding sheeted_answer
-sheet_refused e = rw e
-
-pub sheet_length : {t : Sheeted} {n : ℕ} → t ≡ Length n → 256 * (n % 72057594037927936) ≡ sheeted_answer t
-unfolding sheeted_answer
-sheet_length e = rw e
 
 sheet_said : (a : Answer (List ℕ)) (m : List ℕ) {new : List ℕ} (t : Sheeted) → SheetIs a m new t
     → record { answer = sheeted_answer t; sheet = new } ≡ sheet_answered a m
@@ -205,9 +180,6 @@ text_accepted m = go (leb (word_at 4 m 0) MOST_BYTES)
 -- ---- a text, by the check's answer
 
 module _ {text d e : List ℕ} {t u : TokenColumns} {r : Checked} (checks : Checks text t u d e r) where
-  pub checked_room : has_room text t d ≡ true → r ≡ checked_as.NoRoom → ⊥
-  checked_room h q = checks.enough h q
-
   pub refused_text : {code at : ℕ} → r ≡ checked_as.Refused code at → (call : Call) {state : List ℕ} (shown names values : List ℕ) {out : List ℕ} {a : ℕ}
       → a ≡ refusal call code at → record { answer = a; state = state; out = out } ≡ served call text state shown names values out
   refused_text q call shown names values p = refused_served call text shown names values (refused_says text e u q checks.says) p
@@ -228,11 +200,6 @@ module _ {text d e : List ℕ} {t u : TokenColumns} {r : Checked} (checks : Chec
         let k = checks.classes_kept in
         let m = length-take (n - 0) u.classes in
         rw m (omega arith)
-
-    pub accepted_text : {call : Call} {state shown names values out new_state new_out : List ℕ} {a : ℕ}
-        → OnBench call text (take (n - 0) u.classes) u.offsets u.lengths u.values e state shown names values out new_state new_out a
-        → record { answer = a; state = new_state; out = new_out } ≡ served call text state shown names values out
-    accepted_text s = let z : n - 0 ≡ n = omega arith in s.is (rw z accepts.stands)
 
 or_true : (b : Bool) → (b || true) ≡ true
 or_true true = refl

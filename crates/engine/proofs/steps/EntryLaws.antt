@@ -5,7 +5,7 @@ use mathlib.Core.Bool.{Bool, true, false}
 use mathlib.Core.List.{List}
 use lib.Dec.{ltb}
 use lib.ListN.{length}
-use borrow.Author.Tests.{lt-ltb, le-ltb, ltb-false}
+use borrow.Author.Tests.{lt-ltb, le-ltb}
 use Rattle.senders.specs.definitions.StateImage.{STATE}
 use Rattle.days.specs.definitions.DaySheet.{sheet_size}
 use Rattle.engine.specs.declared.serve.Call.TheVariants.{Check, Fresh, Line, Header, Row, Sheet}
@@ -129,9 +129,6 @@ module _ (bench state sender row : List ℕ) where
           (ap (λ (x : Served). record { answer = x.answer; row = x.out }) e)
 
 -- ---- a sheet
-
-pub sheet_room : (readings : List ℕ) {size : ℕ} {short : Bool} → short ≡ ltb size (sheet_size readings) → short ≡ false → sheet_size readings ≤ size
-sheet_room readings {size} tests h = ltb-false size (sheet_size readings) (sym tests ∙ h)
 
 module _ (bench state readings cells sheet : List ℕ) where
   pub sheet_no_bench : length bench < BENCH → record { answer = 31; sheet = sheet } ≡ sheet_call bench state readings cells sheet

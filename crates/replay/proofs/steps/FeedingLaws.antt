@@ -34,17 +34,6 @@ use Rattle.replay.proofs.steps.GatheringLaws.{gathered_part, gathered_prints, ga
 -- ---- the lines of a chunk
 
 module _ (m : BenchMemory) (stage : Stage) (chunk : List ℕ) (from : ℕ) (line : List ℕ) (kept : ℕ) (columns state out : List ℕ) where
-  pub feeding_starts : from ≤ length chunk → Lent m stage line kept columns state
-      → Feeding m stage chunk from line kept columns state out line columns state out stage from kept 0
-  feeding_starts h lent = record {
-    after = omega arith;
-    inside = h;
-    fits = omega arith;
-    still = λ z. refl;
-    lent = lent;
-    goes = λ a q. record { later = a; stands = q; is = λ rest. refl; left = λ rest. refl };
-  }
-
   module _ {l c1 s1 o : List ℕ} {st : Stage} {at k u : ℕ} (f : Feeding m stage chunk from line kept columns state out l c1 s1 o st at k u)
       {l2 : List ℕ} {stop n : ℕ} (g : Gathering chunk at l k l2 stop n) where
     long : LONGEST < length l2
@@ -156,6 +145,10 @@ module _ (m : BenchMemory) (line : List ℕ) (kept : ℕ) (columns state : List 
   none_printed Names e a q = let z : ◌≡◌ {A = ℕ} 0 1 = cc in absurd (omega arith)
   none_printed (Values count) e (values f ns s) q = let z = eqb-true kept 0 e in rw z (sym (print_none (values f ns s)))
   none_printed Closed e nothing q = sym (nothing_printed (take kept line))
+  none_printed (Values count) e (names _) q = elim q [ ]
+  none_printed (Values count) e nothing q = elim q [ ]
+  none_printed Closed e (names _) q = elim q [ ]
+  none_printed Closed e (values f ns s) q = elim q [ ]
 
   pub none_finished : (stage : Stage) → is_over stage kept ≡ true → Finished m stage line kept columns state out 0
   none_finished stage e = record { fits = omega arith; is = none_printed stage e }
@@ -172,6 +165,10 @@ module _ (m : BenchMemory) (line : List ℕ) (kept : ℕ) (columns state : List 
             let z = eqb-false kept 0 x in
             last_printed (values f ns s) (take kept line) lent.part (omega (arith, z))
         go Closed nothing x y = let z : ◌≡◌ {A = ℕ} 0 1 = cc in absurd (omega arith)
+        go Names (values f ns s) x y = elim y [ ]
+        go Closed (values f ns s) x y = elim y [ ]
+        go Names nothing x y = elim y [ ]
+        go (Values count) nothing x y = elim y [ ]
 
     -- as code lends it
     pub last_finished : is_over stage kept ≡ false → {c2 s2 o2 : List ℕ} {r : Step} → LinePut m stage (take (kept - 0) line) columns state out 0 c2 s2 o2 r

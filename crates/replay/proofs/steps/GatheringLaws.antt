@@ -3,9 +3,9 @@ use Prim.Native.Nat.{ℕ, suc, zero, ◌+◌, ◌≤◌, ◌<◌}
 use native.Mathlib.Numerals.{add-one}
 use native.Mathlib.Omega.{arith}
 use mathlib.Core.Path.{◌≡◌, refl, sym, ap, ◌∙◌, subst}
-use mathlib.Core.List.{List, [], ◌∷◌, ◌++◌, append_assoc, append-nil}
+use mathlib.Core.List.{List, [], ◌∷◌, ◌++◌, append_assoc}
 use lib.ListN.{length, get_or, take, drop, set, length-set}
-use lib.Seq.{length-take-le, take_all, take-nil, drop-cons, take-suc-set}
+use lib.Seq.{length-take-le, take-nil, drop-cons, take-suc-set}
 use borrow.Author.Tests.{ne_eqb}
 use Rattle.cycles.specs.definitions.Readings.{PartOfLine}
 use Rattle.cycles.proofs.laws.ReadingsLaws.{part_append, part_take}
@@ -26,20 +26,6 @@ cut_full (suc n) [] m h = absurd (omega arith)
 cut_full (suc n) (x ∷ l) m h = ap (λ (k : List ℕ). x ∷ k) (cut_full n l m (omega arith))
 
 module _ (chunk : List ℕ) (from : ℕ) (line : List ℕ) (kept : ℕ) where
-  pub gathering_starts : from ≤ length chunk → kept ≤ length line → Gathering chunk from line kept line from kept
-  gathering_starts h k =
-      let n = length-take-le kept line k in
-      record {
-        after = omega arith;
-        inside = h;
-        room = k;
-        same = refl;
-        piece = [];
-        part = tt;
-        split = refl;
-        is = rw (append-nil (take kept line)) (sym (take_all (length line) (take kept line) (omega arith)));
-      }
-
   module _ {l : List ℕ} {i at : ℕ} (g : Gathering chunk from line kept l i at) (h : i < length chunk) (other : get_or chunk i 0 ≡ 10 → ⊥) where
     step_part : PartOfLine (g.piece ++ get_or chunk i 0 ∷ [])
     step_part = part_append g.piece (get_or chunk i 0 ∷ []) g.part (ne_eqb (get_or chunk i 0) 10 other, tt)

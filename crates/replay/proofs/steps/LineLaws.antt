@@ -50,7 +50,6 @@ use Rattle.replay.specs.inner_contracts.Awaiting.StandsFor.{stands_for}
 use Rattle.replay.specs.inner_contracts.Feeding.{ROOM, Takes, LinePut}
 use Rattle.replay.specs.declared.Stage.{Stage}
 use Rattle.replay.specs.declared.Stage.TheVariants.{Names, Values, Closed}
-use Rattle.replay.specs.declared.rows.Step.{Step}
 use Rattle.replay.proofs.steps.TakenLaws.{taken_refused, taken_row}
 
 -- ---- bytes that are appended
@@ -109,6 +108,8 @@ names_short m columns state {n = n} p s = go s.awaits s.stands
 
     go : (a : Awaits) → Stands m a Names columns state → n ≤ 32768
     go (names f) q = on q.file_stands
+    go (values _ _ _) q = elim q [ ]
+    go nothing q = elim q [ ]
 
 module _ (m : BenchMemory) (line columns state out : List ℕ) (used : ℕ) where
   header_none : {new_columns : List ℕ} {count : ℕ} → HeaderRead m.text m.classes m.offsets m.lengths m.d line new_columns count
@@ -144,6 +145,8 @@ module _ (m : BenchMemory) (line columns state out : List ℕ) (used : ℕ) wher
             let e = header_none r h b in
             let k = refusal_most 22 in
             record { appended = rw e (appended out used x (simp length-append (omega arith))); stands = rw e tt }
+    names_refused h room {o2 = o2} {end = end} x (values _ _ _) q = elim q [ ]
+    names_refused h room {o2 = o2} {end = end} x nothing q = elim q [ ]
 
     pub names_refused_put : MOST_COLUMNS < count → used + ROOM ≤ length out → {o2 : List ℕ} {end : ℕ} → Put (refusal 22 ++ 10 ∷ []) out used o2 end
         → LinePut m Names line columns state out used new_columns state o2 (record { stage = Closed; used = end })
@@ -176,6 +179,8 @@ module _ (m : BenchMemory) (line columns state out : List ℕ) (used : ℕ) wher
                   known = λ j s. r.known j s h;
                 });
               }
+      names_taken h room after fits (values _ _ _) q = elim q [ ]
+      names_taken h room after fits nothing q = elim q [ ]
 
       pub names_put : count ≤ MOST_COLUMNS → used ≤ length out → Stood m Names columns state → (after : List ℕ) → n < length new
           → LinePut m Names line columns state out used new_columns state (set (take used out ++ (new ++ after)) (used + n) 10)
@@ -194,6 +199,8 @@ values_known m count columns state s h = go s.awaits s.stands
   where
     go : (a : Awaits) → Stands m a (Values count) columns state → (count ≤ length columns) × ((k : ℕ) → k < count → get_or columns k 0 < NO_COLUMN)
     go (values f ns t) q = (omega (arith, q.few), q.known)
+    go (names _) q = elim q [ ]
+    go nothing q = elim q [ ]
 
 module _ (m : BenchMemory) (count : ℕ) (line columns state out : List ℕ) (used : ℕ)
     {lent new_state new_row : List ℕ} {r : Taken}
@@ -252,6 +259,8 @@ module _ (m : BenchMemory) (count : ℕ) (line columns state out : List ℕ) (us
       go : (a : Awaits) → Stands m a (Values count) columns state
           → Takes m a line out used columns new_state (set (take used out ++ (new_row ++ rest)) (used + n) 10) (Values count) (used + n + 1)
       go (values f ns s) q = on ns s q.file_stands q
+      go (names _) q = elim q [ ]
+      go nothing q = elim q [ ]
 
   pub refused_put : (rest : List ℕ) (code : ℕ) → r ≡ Refused code → code < 256 → used + ROOM ≤ length (take used out ++ rest) → used ≤ length out
       → {o2 : List ℕ} {end : ℕ} → Put (refusal code ++ 10 ∷ []) (take used out ++ rest) used o2 end
@@ -267,16 +276,10 @@ module _ (m : BenchMemory) (count : ℕ) (line columns state out : List ℕ) (us
 
       go : (a : Awaits) → Stands m a (Values count) columns state → Takes m a line out used columns new_state o2 (Values count) end
       go (values f ns s) q = on ns s q.file_stands q
+      go (names _) q = elim q [ ]
+      go nothing q = elim q [ ]
 
 -- ---- any line
-
-pub stood_as : (m : BenchMemory) {stage st : Stage} (columns state : List ℕ) → stage ≡ st → Stood m stage columns state → Stood m st columns state
-stood_as m columns state e s = subst (λ (x : Stage). Stood m x columns state) e s
-
-pub put_as : (m : BenchMemory) {stage st : Stage} (line columns state out : List ℕ) (used : ℕ) → stage ≡ st
-    → {new_columns new_state new_out : List ℕ} {r : Step} → LinePut m st line columns state out used new_columns new_state new_out r
-    → LinePut m stage line columns state out used new_columns new_state new_out r
-put_as m line columns state out used e p = rw e p
 
 pub nothing_put : (m : BenchMemory) {stage : Stage} (line columns state out : List ℕ) (used : ℕ) → stage ≡ Closed
     → LinePut m stage line columns state out used columns state out (record { stage = Closed; used = used })
@@ -285,3 +288,5 @@ nothing_put m {stage} line columns state out used e = rw e (record { short = ome
   where
     go : (a : Awaits) → Stands m a Closed columns state → Takes m a line out used columns state out Closed used
     go nothing q = record { appended = sym (append-nil (take used out)); stands = tt }
+    go (names _) q = elim q [ ]
+    go (values _ _ _) q = elim q [ ]

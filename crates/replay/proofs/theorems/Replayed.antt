@@ -24,6 +24,8 @@ unfolding is_closed
 nothing_left m Names columns state t a e q = let z : ◌≡◌ {A = ℕ} 0 1 = cc in absurd (omega arith)
 nothing_left m (Values count) columns state t a e q = let z : ◌≡◌ {A = ℕ} 0 1 = cc in absurd (omega arith)
 nothing_left m Closed columns state t nothing e q = sym (nothing_printed t)
+nothing_left m Closed columns state t (Rattle.replay.specs.inner_contracts.Awaiting.names _) e q = elim q [ ]
+nothing_left m Closed columns state t (Rattle.replay.specs.inner_contracts.Awaiting.values _ _ _) e q = elim q [ ]
 
 -- what is written is what is to be printed
 writes : {m : BenchMemory} {stage : Stage} {chunk line columns state all : List ℕ} {from kept : ℕ} {later : List (List ℕ)}

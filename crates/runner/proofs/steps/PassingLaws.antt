@@ -1,9 +1,9 @@
 -- A run's steps, one after another.
 use Prim.Native.Nat.{ℕ, ◌-◌, ◌≤◌, ◌<◌}
 use native.Mathlib.Omega.{arith}
-use mathlib.Core.Path.{◌≡◌, refl, sym, ap, ◌∙◌, subst}
+use mathlib.Core.Path.{◌≡◌, refl, sym, subst}
 use mathlib.Core.Bool.{Bool, true, false}
-use mathlib.Core.List.{List, [], ◌∷◌, ◌++◌, append_assoc, append-nil}
+use mathlib.Core.List.{List, [], ◌∷◌, ◌++◌, append_assoc}
 use lib.Dec.{leb}
 use lib.ListN.{length, take}
 use borrow.Author.Tests.{leb-true, leb-false}
@@ -34,14 +34,6 @@ module _ (m : BenchMemory) (stage : Stage) (chunk : List ℕ) (from : ℕ) (line
         subst (Writes m stage chunk from later line kept columns state) (sym (append_assoc p.printed (take r.used out2) all))
         (p.goes later (take r.used out2 ++ all) (feeds f w));
   }
-
-  -- the chunk is fed whole
-  pub passed_whole : {st : Stage} {at k : ℕ} {l c s : List ℕ} → Passed m stage chunk from line kept columns state [] st chunk at l k c s → length chunk ≤ at
-      → Passed m stage chunk from line kept columns state [] st chunk (length chunk) l k c s
-  passed_whole {st} {at} {k} {l} {c} {s} p h =
-      let i = p.inside in
-      let e : at ≡ length chunk = omega arith in
-      subst (λ (n : ℕ). Passed m stage chunk from line kept columns state [] st chunk n l k c s) e p
 
 module _ (m : BenchMemory) (stage : Stage) (line columns state : List ℕ) where
   pub file_none : Lent m stage line 0 columns state → FilePassed m stage line columns state stage line 0 columns state

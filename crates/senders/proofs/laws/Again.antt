@@ -100,6 +100,7 @@ module _ {X : Type 0} (f : File) (Step : State → Accepted → X → Type 0) (t
     }
     held_along r (x ∷ xs) (b, st, c) h y (there i) =
         held_along (follow f r b) xs c (held_on f (its_line a).sender then r b (turn r b x st) h) y i
+    held_along r [] _ h y x4 = elim x4 [ ]
 
     pub later_lines : (xs : List X) → Chain (follow f s a) xs → (y : X) → Among y xs → Later s a y
     later_lines xs c y i = held_along (follow f s a) xs c (inl refl) y i

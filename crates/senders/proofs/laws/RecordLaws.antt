@@ -182,3 +182,6 @@ module _ {classes literals d refs scopes name : List ℕ} {at number : ℕ} {fla
                 (q ∙ ap (λ (c : List ℕ). place c s.senders) (sym n)) (z ∙ sym m)
                 (follows.is text offsets lengths b print s h k n (m ∙ sym z) q stand);
           }
+
+-- a line that does not move the state on
+pub ruleset settled_early = (settled_resent, settled_absent, settled_out_of_turn, settled_other)

@@ -82,6 +82,8 @@ same_given_equal (some a) (some b) s t h =
     let (j, x) = s a refl in
     let (k, y) = t b refl in
     ap some (identical_same j k a b x y (is_true (identical a b) h))
+same_given_equal none (some b) s t h = elim h [ ]
+same_given_equal (some a) none s t h = elim h [ ]
 
 -- compared by their bytes
 pub given_compared : (o p : Option Value) → Held o → Held p → same_bytes (input_bytes o) (input_bytes p) ≡ same_given o p

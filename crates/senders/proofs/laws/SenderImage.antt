@@ -346,6 +346,7 @@ at_least_one k h = go (eqb k 0) refl h
   where
     go : (b : Bool) → eqb k 0 ≡ b → T (not b) → 1 ≤ k
     go false e t = let d = eqb-false k 0 e in omega arith
+    go true e t = elim t [ ]
 
 pub part_passes : (f : File) (m : List ℕ) → is_sender_part f m ≡ true → PartPasses f m
 unfolding is_sender_part is_sender_head

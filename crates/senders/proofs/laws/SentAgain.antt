@@ -37,6 +37,11 @@ unfolding same_presence
 same_presence_on none none q h g = g
 same_presence_on (some false) (some false) q h g = g
 same_presence_on (some true) (some true) q h g = g
+same_presence_on none (some _) q h g = elim h [ ]
+same_presence_on (some false) none q h g = elim h [ ]
+same_presence_on (some false) (some true) q h g = elim h [ ]
+same_presence_on (some true) none q h g = elim h [ ]
+same_presence_on (some true) (some false) q h g = elim h [ ]
 
 -- identical values, of any kinds, compare alike with every value
 identical_alike : (a b : Value) → T (identical a b) → (c : Value) → identical a c ≡ identical b c
@@ -50,6 +55,9 @@ same_given_on : (o p q : Option Value) → T (same_given o p) → T (same_given 
 unfolding same_given
 same_given_on none none q h g = g
 same_given_on (some a) (some b) (some c) h g = subst T (sym (identical_alike a b h c)) g
+same_given_on none (some b) q h g = elim h [ ]
+same_given_on (some a) none q h g = elim h [ ]
+same_given_on (some a) (some b) none h g = elim g [ ]
 
 module _ (f : File) where
   abbrev presences : Inputs → Inputs → Bool

@@ -233,3 +233,6 @@ module _ (classes literals d refs scopes columns : List ℕ) (count : ℕ) (valu
                 subst (λ (q : Answer Accepted). Moves print f s q state new_state j)
                 (sym (line_said f names values cs p x all (ap is_sender m ∙ well) s (told_room b print s h x m ∙ lt-ltb at 8 room) i))
                 (settles.is text offsets lengths b print s h names values cs p x all is i m k (told_place b print s h) stand)
+
+-- a record that is refused before its place is sought
+pub ruleset sent_refused = (sent_impossible, sent_too_many, sent_ill_formed)

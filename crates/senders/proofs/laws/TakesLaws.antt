@@ -185,6 +185,7 @@ number_among_inputs (j ∷ js) i (Memᴰ.tail m) = go (eqb (input_number i) (inp
     go : (b : Bool) → is_number_among (input_number i) (map input_number js) ≡ true → (b || is_number_among (input_number i) (map input_number js)) ≡ true
     go true h = refl
     go false h = h
+number_among_inputs [] i x' = elim x' [ ]
 
 pub given_at : (is : List Input) → ApartInputs is → (i : Input) → Memᴰ i is → (p : Spot) → i.column.event ≡ some p
     → given_in is i.column.entity p.member ≡ i.says
@@ -215,6 +216,7 @@ given_at (j ∷ js) (b, a, h) i (Memᴰ.tail m) p q =
     by_entity false n o g k = k
     by_entity true n none g k = k
     by_entity true n (some r) g k = by_member r (eqb-true j.column.entity i.column.entity n) g (eqb r.member p.member) refl k
+given_at [] _ i x4 p q = elim x4 [ ]
 
 -- ---- the test of every cell
 

@@ -5,51 +5,12 @@ use mathlib.Core.List.{List, [], ◌∷◌}
 use Prim.Native.Nat.{ℕ, ◌+◌, ◌≤◌, ◌<◌}
 use native.Mathlib.Numerals.{add-one}
 use native.Mathlib.Omega.{arith}
-use lib.Dec.{leb}
 use lib.ListN.{length, get_or, drop, drop_of_length-le}
 use lib.Seq.{drop-cons}
-use borrow.Author.Tests.{leb-false, le-leb, lt-leb, ne_eqb}
-use Rattle.text.specs.definitions.Bytes.{between, is_letter, is_digit, is_name_byte}
+use borrow.Author.Tests.{le-leb, lt-leb}
+use Rattle.text.specs.definitions.Bytes.{is_letter, is_name_byte}
 use Rattle.cycles.specs.definitions.Spots.{every}
 use Rattle.senders.specs.definitions.Sender.{starts_with_letter, is_sender}
-
--- ---- letters, and a name's bytes
-
-module _ (b : ℕ) where
-  pub small_letter : 97 ≤ b → leb b 122 ≡ is_letter b
-  unfolding is_letter between
-  small_letter h = go (leb b 122) refl
-    where
-      go : (t : Bool) → leb b 122 ≡ t → leb b 122 ≡ is_letter b
-      go true e = rw (e, le-leb 97 b h)
-      go false e =
-          let g = leb-false b 122 e in
-          rw (e, le-leb 97 b h, le-leb 65 b (omega arith), lt-leb b 90 (omega arith))
-
-  pub capital : b < 97 → 65 ≤ b → leb b 90 ≡ is_letter b
-  unfolding is_letter between
-  capital g h = rw (lt-leb 97 b g, le-leb 65 b h)
-
-  pub no_letter : b < 97 → b < 65 → false ≡ is_letter b
-  unfolding is_letter between
-  no_letter g h = rw (lt-leb 97 b g, lt-leb 65 b h)
-
-  pub letter_in_name : is_letter b ≡ true → true ≡ is_name_byte b
-  unfolding is_name_byte
-  letter_in_name e = rw e
-
-  module _ (e : is_letter b ≡ false) (d : b ≡ 95 → ⊥) where
-    pub below_digits : b < 48 → false ≡ is_name_byte b
-    unfolding is_name_byte is_digit between
-    below_digits h = rw (e, lt-leb 48 b h, ne_eqb b 95 d)
-
-    pub digit_in_name : 48 ≤ b → leb b 57 ≡ is_name_byte b
-    unfolding is_name_byte is_digit between
-    digit_in_name h = go (leb b 57) refl
-      where
-        go : (t : Bool) → leb b 57 ≡ t → leb b 57 ≡ is_name_byte b
-        go true q = rw (e, le-leb 48 b h, q)
-        go false q = rw (e, le-leb 48 b h, q, ne_eqb b 95 d)
 
 -- ---- names
 
@@ -99,3 +60,6 @@ module _ (x : List ℕ) (i : ℕ) where
   pub bytes_end : length x ≤ i → true ≡ every is_name_byte (drop i x)
   unfolding every
   bytes_end h = rw (drop_of_length-le x h)
+
+-- what each test of a name says
+pub ruleset name_read = (too_long, no_name, no_first_letter, by_bytes, byte_fails, byte_passes, bytes_end)

@@ -1,12 +1,12 @@
 -- The senders' parts of a state image, as the code finds and tests them: one after another.
 use Prim.Native.Nat.{ℕ, suc, ◌+◌, ◌-◌, ◌*◌, ◌≤◌, ◌<◌}
-use native.Mathlib.Nat.{suc-mul, mul-le-mul_right}
+use native.Mathlib.Nat.{suc-mul}
 use native.Mathlib.Omega.{arith}
 use mathlib.Core.Path.{◌≡◌, refl, sym, ap, ap₂, ◌∙◌}
 use mathlib.Core.Bool.{Bool, true, false, not, ◌&&◌}
 use mathlib.Core.List.{List}
 use lib.Dec.{eqb}
-use lib.ListN.{length, get_or, take, drop, length-take, length-drop}
+use lib.ListN.{length, get_or, drop, length-take, length-drop}
 use lib.Seq.{drop-drop}
 use borrow.Author.Tests.{le-leb, lt-leb, lt-ltb}
 use Rattle.values.specs.definitions.Bytes.{same_bytes, word_at}
@@ -37,30 +37,7 @@ use Rattle.senders.proofs.laws.SenderLaws.{below_known, last_unknown}
 use Rattle.senders.proofs.laws.SenderImage.{part_passes}
 use Rattle.senders.proofs.laws.StateLaws.{length_decoded}
 
--- ---- sizes
-
--- so many parts' bytes, at most
-pub part_bound : (n place : ℕ) → place ≤ 8 → place * (29 + 109 * n) ≤ 8 * (29 + 109 * n)
-part_bound n place h = mul-le-mul_right (29 + 109 * n) h
-
--- the parts' bytes by the count of entities that code read
-pub by_row : (count n k : ℕ) {l : ℕ} → n ≡ k → count * (29 + 109 * k) ≤ l → count * (29 + 109 * n) ≤ l
-by_row count n k e h = rw e h
-
 -- ---- names
-
--- the bytes that code lends for the name
-pub name_lent : (part : List ℕ) → get_or part 0 0 ≤ 24 → (length (take (get_or part 0 0 + 1 - 1) (drop 1 part)) ≤ 24)
-    × (get_or part 0 0 ≤ 24 → take (get_or part 0 0 + 1 - 1) (drop 1 part) ≡ part_name part)
-name_lent part h =
-    let k : get_or part 0 0 + 1 - 1 ≡ get_or part 0 0 = omega arith in
-    (rw (length-take (get_or part 0 0 + 1 - 1) (drop 1 part)) (omega arith), λ g. ap (λ (n : ℕ). take n (drop 1 part)) k)
-
-pub this_length : (part name : List ℕ) {r : Bool} → r ≡ same_bytes name (take (length name + 1 - 1) (drop 1 part)) → get_or part 0 0 ≡ length name
-    → r ≡ same_bytes name (part_name part)
-this_length part name h e =
-    let k : length name + 1 - 1 ≡ get_or part 0 0 = omega arith in
-    h ∙ ap (λ (n : ℕ). same_bytes name (take n (drop 1 part))) k
 
 -- another length, another name
 pub other_length : (part name : List ℕ) → 29 ≤ length part → length name ≤ 24 → (get_or part 0 0 ≡ length name → ⊥)
@@ -112,12 +89,6 @@ module _ {parts : List ℕ} {size count : ℕ} {name : List ℕ} where
     }
 
     module _ (h : i < count) where
-      pub part_fits : at + size ≤ count * size
-      part_fits =
-          let a = p.left in
-          let b = one_part (count - i) size (omega arith) in
-          omega arith
-
       module _ {r : Bool} (s : r ≡ same_bytes name (part_name (behind at parts))) where
         first_name : same_bytes name (part_name (drop at parts)) ≡ r
         first_name = ap (λ (l : List ℕ). same_bytes name (part_name l)) (sym (behind_all at parts)) ∙ sym s
@@ -287,3 +258,6 @@ module _ {classes d parts : List ℕ} {size count : ℕ} where
                 rw (first_part text offsets lengths w c, t, next_is text offsets lengths w c, unknown text offsets lengths w c same)
                 at (all_parts text offsets lengths w c n);
           }
+
+-- what each test of a part's head says
+pub ruleset head_read = (long_name, no_sender, not_padded, head_number)

@@ -1,40 +1,12 @@
 -- The fingerprint of a text, byte by byte and three bytes at once.
-use mathlib.Core.Path.{◌≡◌, refl, sym, ap, ◌∙◌}
+use mathlib.Core.Path.{◌≡◌, refl, ◌∙◌}
 use mathlib.Core.List.{List}
-use Prim.Native.Nat.{ℕ, ◌+◌, ◌*◌, ◌/◌, ◌%◌, ◌≤◌, ◌<◌}
-use native.Mathlib.Nat.{add-mul-mod_self_left}
+use Prim.Native.Nat.{ℕ, ◌+◌, ◌%◌, ◌≤◌, ◌<◌}
 use native.Mathlib.Numerals.{add-one}
 use native.Mathlib.Omega.{arith}
 use lib.ListN.{length, get_or, drop, drop_of_length-le}
 use lib.Seq.{drop-cons}
 use Rattle.senders.specs.definitions.Fingerprint.{PRIME, next_fingerprint, fingerprint_from, fingerprint}
-
--- ---- remainders
-
--- a byte more may come before the remainder is taken
-next_of_left : (x b : ℕ) → next_fingerprint (x % PRIME) b ≡ next_fingerprint x b
-next_of_left x b =
-    let e : x * 257 + b + 1 ≡ (x % PRIME * 257 + b + 1) + PRIME * (x / PRIME * 257) = omega arith in
-    sym (ap (λ (k : ℕ). k % PRIME) e ∙ add-mul-mod_self_left (x % PRIME * 257 + b + 1) PRIME (x / PRIME * 257))
-
--- 2 ^ 32 leaves 5
-pub halves_left : (x : ℕ) → (x / 4294967296 * 5 + x % 4294967296) % PRIME ≡ x % PRIME
-halves_left x =
-    let low = x / 4294967296 * 5 + x % 4294967296 in
-    let e : x ≡ low + PRIME * (x / 4294967296) = omega arith in
-    sym (ap (λ (k : ℕ). k % PRIME) e ∙ add-mul-mod_self_left low PRIME (x / 4294967296))
-
-pub three_left : (print a b c : ℕ) {sum : ℕ} → sum ≡ print * 16974593 + (a * 66049 + b * 257 + c + 66307)
-    → sum % PRIME ≡ next_fingerprint (next_fingerprint (next_fingerprint (print % PRIME) a) b) c
-three_left print a b c {sum} e =
-    ap (λ (k : ℕ). k % PRIME) together
-    ∙ sym
-    (ap (λ (k : ℕ). next_fingerprint (next_fingerprint k b) c) (next_of_left print a)
-    ∙ ap (λ (k : ℕ). next_fingerprint k c) (next_of_left (print * 257 + a + 1) b)
-    ∙ next_of_left ((print * 257 + a + 1) * 257 + b + 1) c)
-  where
-    together : sum ≡ ((print * 257 + a + 1) * 257 + b + 1) * 257 + c + 1
-    together = omega arith
 
 -- ---- a text
 

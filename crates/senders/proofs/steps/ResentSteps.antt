@@ -1,44 +1,27 @@
 -- The last number of the sender at a place of a state in memory, and whether a line is the one that was sent last.
 use Prim.Native.Nat.{ℕ, ◌+◌, ◌≤◌, ◌<◌}
-use native.Mathlib.Nat.{mul-le-mul}
 use native.Mathlib.Omega.{arith}
 use mathlib.Core.Path.{◌≡◌, sym, ap, ◌∙◌}
 use mathlib.Core.Bool.{Bool, true, false}
 use mathlib.Core.List.{List}
 use lib.Dec.{eqb}
 use lib.Ieee.Bits.{is_true}
-use lib.ListN.{length, get_or, drop}
+use lib.ListN.{get_or, drop}
 use lib.Seq.{drop-drop}
 use borrow.Author.Tests.{eq-eqb, ne_eqb}
 use Rattle.values.specs.definitions.Bytes.{word_at}
 use Rattle.text.specs.definitions.Syntax.{File}
-use Rattle.cycles.specs.definitions.Planes.{MOST_CELL_BYTES, entity_count}
+use Rattle.cycles.specs.definitions.Planes.{entity_count}
 use Rattle.cycles.proofs.laws.TableLaws.{word_drop}
 use Rattle.senders.specs.definitions.Sender.{Sender, State, Line, is_known_sender, unknown, kept}
 use Rattle.senders.specs.definitions.Line.{same_inputs, is_resent}
-use Rattle.senders.specs.definitions.StateImage.{sender_size, image_size, STATE, known_count, kept_plane, decode_inputs, decode_sender}
+use Rattle.senders.specs.definitions.StateImage.{image_size, known_count, kept_plane, decode_inputs, decode_sender}
 use Rattle.senders.specs.inner_contracts.SenderMemory.{place}
 use Rattle.senders.specs.inner_contracts.Judging.{SameRead}
 use Rattle.senders.specs.inner_contracts.Advancing.{LastRead, ResentRead}
 use Rattle.senders.proofs.laws.SenderLaws.{below_known, last_unknown}
 use Rattle.senders.proofs.laws.SenderImage.{part_passes}
-use Rattle.senders.proofs.laws.StateLaws.{part_room}
 use Rattle.senders.proofs.laws.StateCanonical.{known_is, sender_tested, kept_stands, unknown_stands}
-
--- a state's memory has room for the part at each place
-pub part_fits : (n at : ℕ) {from : ℕ} (m : List ℕ) → n ≤ 32 → at < 8 → STATE ≤ length m → from ≡ image_size n at → from + sender_size n ≤ length m
-part_fits n at m a b h e =
-    let r = part_room e a b in
-    omega arith
-
--- and behind its flags for the cells of as many entities as a file may have
-pub cells_fit : (n at : ℕ) {from : ℕ} (m : List ℕ) → n ≤ 32 → at < 8 → STATE ≤ length m → from ≡ image_size n at
-    → from + (29 + n) + MOST_CELL_BYTES ≤ length m
-cells_fit n at m a b h e =
-    let c : at ≤ 7 = omega arith in
-    let d : sender_size n ≤ sender_size 32 = omega arith in
-    let g = mul-le-mul c d in
-    omega arith
 
 -- ---- the last number
 

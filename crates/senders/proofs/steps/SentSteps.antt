@@ -1,5 +1,5 @@
--- Bounds that a record on a state needs: room for parts, a short name, a number that fits.
-use Prim.Native.Nat.{ℕ, ◌+◌, ◌*◌, ◌%◌, ◌≤◌}
+-- Bounds that a record on a state needs: a short name, a number that fits.
+use Prim.Native.Nat.{ℕ, ◌+◌, ◌%◌, ◌≤◌}
 use native.Mathlib.Omega.{arith}
 use mathlib.Core.Path.{◌≡◌, sym, ◌∙◌, subst}
 use mathlib.Core.Bool.{Bool, true, not, ◌&&◌, ◌||◌}
@@ -7,16 +7,11 @@ use mathlib.Core.List.{List}
 use lib.Dec.{T, leb, eqb, leb→le}
 use lib.Ieee.Fits.{and_l, and_r}
 use lib.ListN.{length}
-use Rattle.senders.specs.definitions.Sender.{MOST_NAME_BYTES, MOST_SENDERS, is_sender}
+use Rattle.senders.specs.definitions.Sender.{MOST_NAME_BYTES, is_sender}
 use Rattle.senders.specs.definitions.Line.{GREATEST_NUMBER, in_turn}
-use Rattle.senders.specs.definitions.StateImage.{STATE, image_size}
 use Rattle.senders.proofs.laws.SenderLaws.{name_short}
-use Rattle.senders.proofs.laws.StateLaws.{image_fits}
 
--- so many parts from the first on
-pub parts_room : (n known : ℕ) {from : ℕ} → from ≡ image_size n 0 → n ≤ 32 → known ≤ MOST_SENDERS → known * (29 + 109 * n) + from ≤ STATE
-parts_room n known e few most = let k = image_fits n known few most in omega arith
-
+-- a name that is tested
 pub sender_short : (name : List ℕ) {t : Bool} → t ≡ is_sender name → t ≡ true → length name ≤ MOST_NAME_BYTES
 sender_short name e q = name_short name (subst T (sym q ∙ e) tt)
 

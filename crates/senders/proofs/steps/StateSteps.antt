@@ -90,3 +90,6 @@ fresh_put print before {numbered} {part} long number stores = record {
       ∙ sym (append_assoc head all (drop (image_size n 0) before))
       ∙ ap (λ (l : List ℕ). l ++ drop (image_size n 0) before) (sym (append-nil (head ++ all)));
 }
+
+-- what each test of a state says
+pub ruleset state_read = (state_impossible, other_print, too_many, no_stores, senders_say)

@@ -1,5 +1,5 @@
--- The state after an accepted line by the total machine (TotalMachine of cycles), as `ref-follow`. For accepted files the two are equal
--- (`accepted-sound`), so nobody has to believe this one.
+-- The state after an accepted line by the total machine (TotalMachine of cycles), as `ref_follow`. For accepted files the two are equal
+-- (`accepted_sound`), so nobody has to believe this one.
 use Rattle.text.specs.definitions.Syntax.{File}
 use Rattle.cycles.specs.inner_contracts.TotalMachine.{cycle}
 use Rattle.senders.specs.definitions.Sender.{State}

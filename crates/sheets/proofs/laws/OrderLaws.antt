@@ -24,6 +24,7 @@ below_asym : (s : Bool) (a : ℕ) (t : Bool) (b : ℕ) → T (below s a t b) →
 below_asym false a false b h = let l = ltb→lt a b h in not_less b a (omega arith)
 below_asym true a false b h = tt
 below_asym true a true b h = let l = ltb→lt b a h in not_less a b (omega arith)
+below_asym false a true b h = elim h [ ]
 
 -- a < b ≤ c
 below_low : (s : Bool) (a : ℕ) (t : Bool) (b : ℕ) (u : Bool) (c : ℕ) → T (below s a t b) → T (not (below u c t b)) → T (below s a u c)
@@ -33,6 +34,7 @@ below_low true a false b false c p q = let x = ltb→lt 0 (a + b) p in let y = n
 below_low true a false b true c p q = let x = ltb→lt 0 (a + b) p in let y = nltb→le 0 (c + b) q in lt→ltb c a (omega arith)
 below_low true a true b false c p q = let x = ltb→lt b a p in lt→ltb 0 (a + c) (omega arith)
 below_low true a true b true c p q = let x = ltb→lt b a p in let y = nltb→le b c q in lt→ltb c a (omega arith)
+below_low false a true b u c p q = elim p [ ]
 
 -- c ≤ b < a
 below_high : (s : Bool) (a : ℕ) (t : Bool) (b : ℕ) (u : Bool) (c : ℕ) → T (below t b s a) → T (not (below t b u c)) → T (below u c s a)
@@ -42,6 +44,7 @@ below_high false a true b false c p q = let x = ltb→lt 0 (b + a) p in let y = 
 below_high false a true b true c p q = let x = ltb→lt 0 (b + a) p in let y = nltb→le c b q in lt→ltb 0 (c + a) (omega arith)
 below_high true a true b false c p q = let x = ltb→lt a b p in let y = nltb→le 0 (b + c) q in absurd (omega arith)
 below_high true a true b true c p q = let x = ltb→lt a b p in let y = nltb→le c b q in lt→ltb a c (omega arith)
+below_high true a false b u c p q = elim p [ ]
 
 -- ---- a common factor
 
@@ -120,6 +123,11 @@ lt_asym (inf true) (inf false) h = tt
 lt_asym (inf true) (fin t n d) h = tt
 lt_asym (fin s m e) (inf false) h = tt
 lt_asym (fin s m e) (fin t n d) h = below_asym s (m * up e * down d) t (n * up d * down e) h
+lt_asym nan y h = elim h [ ]
+lt_asym (inf true) nan h = elim h [ ]
+lt_asym (inf true) (inf true) h = elim h [ ]
+lt_asym (fin s m e) nan h = elim h [ ]
+lt_asym (fin s m e) (inf true) h = elim h [ ]
 
 -- x < y ≤ z
 pub lt_low : (x y z : Float) → T (not (is_nan z)) → T (lt x y) → T (not (lt z y)) → T (lt x z)
@@ -132,6 +140,21 @@ lt_low (fin s m e) (inf false) (inf false) r p q = tt
 lt_low (fin s m e) (fin t n d) (inf false) r p q = tt
 lt_low (fin s m e) (fin t n d) (fin u o g) r p q =
     fractions_low s t u (m * up e) (n * up d) (o * up g) (down e) (down d) (down g) (down_pos e) (down_pos d) (down_pos g) p q
+lt_low nan y z r p q = elim p [ ]
+lt_low (inf true) nan z r p q = elim p [ ]
+lt_low (inf true) (inf false) nan r p q = elim r [ ]
+lt_low (inf true) (inf false) (inf true) r p q = elim q [ ]
+lt_low (inf true) (inf false) (fin u o g) r p q = elim q [ ]
+lt_low (inf true) (inf true) z r p q = elim p [ ]
+lt_low (inf true) (fin t n d) nan r p q = elim r [ ]
+lt_low (inf true) (fin t n d) (inf true) r p q = elim q [ ]
+lt_low (fin s m e) nan z r p q = elim p [ ]
+lt_low (fin s m e) (inf false) nan r p q = elim r [ ]
+lt_low (fin s m e) (inf false) (inf true) r p q = elim q [ ]
+lt_low (fin s m e) (inf false) (fin u o g) r p q = elim q [ ]
+lt_low (fin s m e) (inf true) z r p q = elim p [ ]
+lt_low (fin s m e) (fin t n d) nan r p q = elim r [ ]
+lt_low (fin s m e) (fin t n d) (inf true) r p q = elim q [ ]
 
 -- z ≤ y < x
 pub lt_high : (x y z : Float) → T (not (is_nan z)) → T (lt y x) → T (not (lt y z)) → T (lt z x)
@@ -145,3 +168,17 @@ lt_high (fin s m e) (inf true) (inf true) r p q = tt
 lt_high (fin s m e) (fin t n d) (inf true) r p q = tt
 lt_high (fin s m e) (fin t n d) (fin u o g) r p q =
     fractions_high s t u (m * up e) (n * up d) (o * up g) (down e) (down d) (down g) (down_pos e) (down_pos d) (down_pos g) p q
+lt_high (inf false) nan z r p q = elim p [ ]
+lt_high (inf false) (inf false) z r p q = elim p [ ]
+lt_high (inf false) (inf true) nan r p q = elim r [ ]
+lt_high (inf false) (inf true) (inf false) r p q = elim q [ ]
+lt_high (inf false) (inf true) (fin u o g) r p q = elim q [ ]
+lt_high (inf false) (fin t n d) nan r p q = elim r [ ]
+lt_high (inf false) (fin t n d) (inf false) r p q = elim q [ ]
+lt_high (fin s m e) nan z r p q = elim p [ ]
+lt_high (fin s m e) (inf false) z r p q = elim p [ ]
+lt_high (fin s m e) (inf true) nan r p q = elim r [ ]
+lt_high (fin s m e) (inf true) (inf false) r p q = elim q [ ]
+lt_high (fin s m e) (inf true) (fin u o g) r p q = elim q [ ]
+lt_high (fin s m e) (fin t n d) nan r p q = elim r [ ]
+lt_high (fin s m e) (fin t n d) (inf false) r p q = elim q [ ]

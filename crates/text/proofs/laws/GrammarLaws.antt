@@ -131,7 +131,7 @@ use Rattle.text.proofs.laws.LanguageLaws.{
   Follows,
   follows_avoids,
   follows_maybe,
-  look-ahead,
+  look_ahead,
 }
 use Rattle.text.proofs.laws.PredictiveLaws.{
   Parses,
@@ -151,8 +151,8 @@ use Rattle.text.proofs.laws.PredictiveLaws.{
 pub kind_parses : Parses kind_reader kind_language ∅
 unfolding kind_reader kind_language
 kind_parses =
-    if_next_parses WHOLE (search look-ahead) (search look-ahead) (expect_last _)
-    (if_next_parses BOOL (search look-ahead) (search look-ahead) (expect_last _)
+    if_next_parses WHOLE (search look_ahead) (search look_ahead) (expect_last _)
+    (if_next_parses BOOL (search look_ahead) (search look_ahead) (expect_last _)
     (expect_last _))
 
 -- after `attribute` or `event`
@@ -168,7 +168,7 @@ unfolding action_after
 action_after_parses start =
     expect_parses λ n.
     expect_parses λ o.
-    and_then_parses kind_parses (search look-ahead) λ k.
+    and_then_parses kind_parses (search look_ahead) λ k.
     expect_last _
 
 pub interface_after_parses : (start : Token) → Parses (interface_after start)
@@ -177,24 +177,24 @@ unfolding interface_after attribute_language event_language action_language
 interface_after_parses start =
     expect_parses λ n.
     expect_parses λ o.
-    and_then_parses (many_parses ATTRIBUTE refl (member_after_parses attribute)) (search look-ahead) λ attributes.
-    and_then_parses (many_parses EVENT refl (member_after_parses event)) (search look-ahead) λ events.
-    and_then_parses (many_parses ACTION refl action_after_parses) (search look-ahead) λ actions.
+    and_then_parses (many_parses ATTRIBUTE refl (member_after_parses attribute)) (search look_ahead) λ attributes.
+    and_then_parses (many_parses EVENT refl (member_after_parses event)) (search look_ahead) λ events.
+    and_then_parses (many_parses ACTION refl action_after_parses) (search look_ahead) λ actions.
     expect_last _
 
 pub number_parses : (negative : Bool) → Parses (number_reader negative) number_language ∅
 unfolding number_reader number_language
 number_parses negative =
-    if_next_parses WHOLE_NUMBER (search look-ahead) (search look-ahead) (expect_last _)
+    if_next_parses WHOLE_NUMBER (search look_ahead) (search look_ahead) (expect_last _)
     (expect_last _)
 
 pub literal_parses : Parses literal_reader literal_language ∅
 unfolding literal_reader literal_language number_language
 literal_parses =
-    if_next_parses TRUE (search look-ahead) (search look-ahead) (expect_last _)
-    (if_next_parses FALSE (search look-ahead) (search look-ahead) (expect_last _)
+    if_next_parses TRUE (search look_ahead) (search look_ahead) (expect_last _)
+    (if_next_parses FALSE (search look_ahead) (search look_ahead) (expect_last _)
     (parses_in to_maybe_then from_maybe_then
-    (if_next_parses MINUS (search look-ahead) (search look-ahead) (expect_parses λ t. number_parses true)
+    (if_next_parses MINUS (search look_ahead) (search look_ahead) (expect_parses λ t. number_parses true)
     (number_parses false))))
 
 -- after an attribute's name
@@ -212,7 +212,7 @@ entity_after_parses start =
     expect_parses λ t.
     expect_parses λ i.
     expect_parses λ o.
-    and_then_parses (many_parses NAME refl assignment_after_parses) (search look-ahead) λ set.
+    and_then_parses (many_parses NAME refl assignment_after_parses) (search look_ahead) λ set.
     expect_last _
 
 -- the classes that go on with a term, and with an expression
@@ -225,11 +225,11 @@ expression_goes_on = is_term_operator ∪ term_goes_on
 module _ {factor : Parser Expression} {F : Language} (q : Parses factor F ∅) where
   pub term_of_parses : Parses (term_of factor) (term_over F) term_goes_on
   unfolding term_of term_over is_factor_operator
-  term_of_parses = chain_parses apply_at (leads_either leads_only leads_only) (search look-ahead) q
+  term_of_parses = chain_parses apply_at (leads_either leads_only leads_only) (search look_ahead) q
 
   pub expression_of_parses : Parses (expression_of factor) (expression_over F) expression_goes_on
   unfolding expression_of expression_over is_term_operator is_factor_operator
-  expression_of_parses = chain_parses apply_at (leads_either leads_only leads_only) (search look-ahead) term_of_parses
+  expression_of_parses = chain_parses apply_at (leads_either leads_only leads_only) (search look_ahead) term_of_parses
 
 pub member_parses : Parses member_reader (Only NAME ⨾ Only DOT ⨾ Only NAME) ∅
 unfolding member_reader
@@ -286,11 +286,11 @@ module _ (otherwise : Parser Expression) {O : Language} (o : (c : ℕ) → simpl
   unfolding simple_begins simple_or number_reader if_next next_is pick expect expected shift give
   simple_or_parses =
       parses_in from_choices to_choices
-      (if_next_parses NAME (search look-ahead) (search look-ahead depth 8) member_parses
-      (if_next_parses TRUE (search look-ahead) (search look-ahead depth 8) (expect_last _)
-      (if_next_parses FALSE (search look-ahead) (search look-ahead depth 8) (expect_last _)
+      (if_next_parses NAME (search look_ahead) (search look_ahead depth 8) member_parses
+      (if_next_parses TRUE (search look_ahead) (search look_ahead depth 8) (expect_last _)
+      (if_next_parses FALSE (search look_ahead) (search look_ahead depth 8) (expect_last _)
       (parses_same (number_seen WHOLE_NUMBER (whole_number false) (λ t ts e. rw e) _)
-      (if_next_parses WHOLE_NUMBER (search look-ahead) (search look-ahead depth 8) (expect_last _)
+      (if_next_parses WHOLE_NUMBER (search look_ahead) (search look_ahead depth 8) (expect_last _)
       (parses_same (number_seen REAL_NUMBER (real_number false) (λ t ts e. rw e) _)
       q))))))
 
@@ -299,14 +299,14 @@ module _ {inside : Parser Expression} {F : Language} (q : Parses inside F ∅) w
       (Only REAL ⨾ Only ROUND_OPEN ⨾ expression_over F ⨾ Only ROUND_CLOSE or Only ROUND_OPEN ⨾ expression_over F ⨾ Only ROUND_CLOSE or Only MINUS ⨾ F) ∅
   unfolding opener_reader is_term_operator is_factor_operator
   opener_parses =
-      if_next_parses REAL (search look-ahead) (search look-ahead)
+      if_next_parses REAL (search look_ahead) (search look_ahead)
       (expect_parses λ r.
       expect_parses λ o.
-      and_then_parses (expression_of_parses q) (search look-ahead) λ e.
+      and_then_parses (expression_of_parses q) (search look_ahead) λ e.
       expect_last _)
-      (if_next_parses ROUND_OPEN (search look-ahead) (search look-ahead)
+      (if_next_parses ROUND_OPEN (search look_ahead) (search look_ahead)
       (expect_parses λ o.
-      and_then_parses (expression_of_parses q) (search look-ahead) λ e.
+      and_then_parses (expression_of_parses q) (search look_ahead) λ e.
       expect_last _)
       (expect_parses λ m.
       and_then_last _ q))
@@ -318,8 +318,8 @@ factor_parses zero =
     parses_in either_never in_first (simple_or_parses halt (λ c e. avoids_never) (parses_in in_first either_never real))
 factor_parses (suc left) =
     let openers = opener_parses (factor_parses left) in
-    simple_or_parses (opener_reader (factor_reader left)) (λ c e. avoids_one {p = simple_begins} c e (search look-ahead))
-    (if_next_parses REAL_NUMBER (search look-ahead) (search look-ahead) (expect_last _) openers)
+    simple_or_parses (opener_reader (factor_reader left)) (λ c e. avoids_one {p = simple_begins} c e (search look_ahead))
+    (if_next_parses REAL_NUMBER (search look_ahead) (search look_ahead) (expect_last _) openers)
 
 pub term_parses : (left : ℕ) → Parses (term_reader left) (term_over (factor_language left)) term_goes_on
 unfolding term_reader
@@ -333,7 +333,7 @@ pub target_parses : Parses target_reader target_language (is COLON)
 unfolding target_reader target_language
 target_parses =
     expect_parses λ n.
-    maybe_parses COLON _ (search look-ahead) among_self
+    maybe_parses COLON _ (search look_ahead) among_self
     (expect_parses λ t.
     expect_last _)
 
@@ -344,7 +344,7 @@ filter_goes_on = is WITH ∪ expression_goes_on
 pub filter_parses : (left : ℕ) → Parses (filter_reader left) (filter_language left) filter_goes_on
 unfolding filter_reader filter_language
 filter_parses left =
-    maybe_parses WITH _ (search look-ahead) (among_left (is WITH) expression_goes_on)
+    maybe_parses WITH _ (search look_ahead) (among_left (is WITH) expression_goes_on)
     (expect_parses λ t.
     expect_parses λ n.
     expect_parses λ q.
@@ -354,7 +354,7 @@ filter_parses left =
 pub test_parses : (left : ℕ) → Parses (test_reader left) (Only CHANGED or Only EQUALS ⨾ expression_language left) expression_goes_on
 unfolding test_reader
 test_parses left =
-    if_next_parses CHANGED (search look-ahead) (search look-ahead) (expect_last _)
+    if_next_parses CHANGED (search look_ahead) (search look_ahead) (expect_last _)
     (expect_parses λ q.
     and_then_last _ (expression_parses left))
 
@@ -364,8 +364,8 @@ clause_parses left =
     expect_parses λ start.
     expect_parses λ n.
     expect_parses λ t.
-    and_then_parses target_parses (search look-ahead) λ p.
-    and_then_parses (filter_parses left) (search look-ahead) λ f.
+    and_then_parses target_parses (search look_ahead) λ p.
+    and_then_parses (filter_parses left) (search look_ahead) λ f.
     expect_parses λ v.
     and_then_last _ (test_parses left)
 
@@ -379,11 +379,11 @@ condition_goes_on = is_or ∪ conjunction_goes_on
 module _ {atom : Parser Condition} {A : Language} (q : Parses atom A expression_goes_on) where
   pub conjunction_of_parses : Parses (conjunction_of atom) (conjunction_over A) conjunction_goes_on
   unfolding conjunction_of conjunction_over is_and is_term_operator is_factor_operator
-  conjunction_of_parses = chain_parses both_at leads_only (search look-ahead) q
+  conjunction_of_parses = chain_parses both_at leads_only (search look_ahead) q
 
   pub condition_of_parses : Parses (condition_of atom) (condition_over A) condition_goes_on
   unfolding condition_of condition_over is_or is_and is_term_operator is_factor_operator
-  condition_of_parses = chain_parses either_at leads_only (search look-ahead) conjunction_of_parses
+  condition_of_parses = chain_parses either_at leads_only (search look_ahead) conjunction_of_parses
 
 pub atom_parses : (left : ℕ) → Parses (atom_reader left) (atom_language left) expression_goes_on
 unfolding atom_reader atom_language clause_language is_or is_and is_term_operator is_factor_operator
@@ -391,9 +391,9 @@ atom_parses zero = clause_parses zero
 atom_parses (suc left) =
     let inside = condition_of_parses (atom_parses left) in
     parses_in either_swap either_swap
-    (if_next_parses ROUND_OPEN (search look-ahead) (search look-ahead)
+    (if_next_parses ROUND_OPEN (search look_ahead) (search look_ahead)
     (expect_parses λ o.
-    and_then_parses inside (search look-ahead) λ c.
+    and_then_parses inside (search look_ahead) λ c.
     expect_last _)
     (clause_parses (suc left)))
 
@@ -411,7 +411,7 @@ call_goes_on = is COLON ∪ filter_goes_on
 
 filter_follows : (left : ℕ) → Follows (is COLON) call_goes_on (filter_language left)
 unfolding filter_language
-filter_follows left = follows_maybe (search look-ahead) (among_left (is COLON) filter_goes_on)
+filter_follows left = follows_maybe (search look_ahead) (among_left (is COLON) filter_goes_on)
 
 pub call_parses : Parses call_reader call_language call_goes_on
 unfolding call_reader call_language is_term_operator is_factor_operator
@@ -419,7 +419,7 @@ call_parses =
     expect_parses λ start.
     expect_parses λ n.
     expect_parses λ o.
-    and_then_parses (expression_parses OPENERS) (search look-ahead) λ e.
+    and_then_parses (expression_parses OPENERS) (search look_ahead) λ e.
     expect_parses λ t.
     expect_parses λ u.
     and_then_parses target_parses (filter_follows OPENERS) λ p.
@@ -428,15 +428,15 @@ call_parses =
 pub priority_parses : Parses priority_reader priority_language (is RANK)
 unfolding priority_reader priority_language
 priority_parses =
-    maybe_parses RANK _ (search look-ahead) among_self
+    maybe_parses RANK _ (search look_ahead) among_self
     (expect_parses λ t.
     expect_last _)
 
 -- no condition begins with `rank`
 condition_avoids : (left : ℕ) → Avoids (is RANK) (condition_over (atom_language left))
 unfolding condition_over conjunction_over atom_language clause_language
-condition_avoids zero = search look-ahead
-condition_avoids (suc left) = search look-ahead
+condition_avoids zero = search look_ahead
+condition_avoids (suc left) = search look_ahead
 
 -- after `when`
 pub rule_after_parses : (start : Token) → Parses (rule_after start)
@@ -444,17 +444,17 @@ pub rule_after_parses : (start : Token) → Parses (rule_after start)
 unfolding rule_after call_after is_or is_and is_term_operator is_factor_operator
 rule_after_parses start =
     and_then_parses priority_parses (follows_avoids (avoids_then (condition_avoids OPENERS))) λ k.
-    and_then_parses (condition_parses OPENERS) (search look-ahead) λ c.
+    and_then_parses (condition_parses OPENERS) (search look_ahead) λ c.
     expect_parses λ t.
-    and_then_parses call_parses (search look-ahead) λ call.
-    and_then_parses (many_parses COMMA refl (λ comma. call_parses)) (search look-ahead) λ others.
+    and_then_parses call_parses (search look_ahead) λ call.
+    and_then_parses (many_parses COMMA refl (λ comma. call_parses)) (search look_ahead) λ others.
     expect_last _
 
 pub file_parses : Parses file_reader file_language ∅
 unfolding file_reader file_language interface_language entity_language rule_language
 file_parses =
-    and_then_parses (many_parses INTERFACE refl interface_after_parses) (search look-ahead) λ interfaces.
-    and_then_parses (many_parses ENTITY refl entity_after_parses) (search look-ahead) λ entities.
+    and_then_parses (many_parses INTERFACE refl interface_after_parses) (search look_ahead) λ interfaces.
+    and_then_parses (many_parses ENTITY refl entity_after_parses) (search look_ahead) λ entities.
     expect_parses λ t.
-    and_then_parses (many_parses WHEN refl rule_after_parses) (search look-ahead) λ rules.
+    and_then_parses (many_parses WHEN refl rule_after_parses) (search look_ahead) λ rules.
     expect_last _

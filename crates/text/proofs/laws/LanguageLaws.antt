@@ -39,6 +39,7 @@ module _ {L : Language} where
     where
       go : {cs : List ℕ} → (L or Never) cs → L cs
       go (first l) = l
+      go {cs = cs} (second x'') = elim x'' [ ]
 
   pub drop_empty : L ⨾ Empty ⊆ L
   drop_empty = record { holds = go }

@@ -53,6 +53,7 @@ module _ {A B : Type 0} where
   unfolding flat_map
   flatMap_empty f (x ∷ xs) h (Memᴰ.head e) = let p : (f x ≡ []) × (flat_map f xs ≡ []) = both_empty h in ap f e ∙ p.0
   flatMap_empty f (x ∷ xs) h (Memᴰ.tail m) = let p : (f x ≡ []) × (flat_map f xs ≡ []) = both_empty h in flatMap_empty f xs p.1 m
+  flatMap_empty f [] h x4 = elim x4 [ ]
 
   pub mapped_empty : (f : A → B) (xs : List A) → map f xs ≡ [] → xs ≡ []
   mapped_empty f [] h = refl
@@ -98,6 +99,7 @@ module _ {A B : Type 0} where
   unfolding flat_map
   flatMap_member f (x ∷ xs) {y = y} (Memᴰ.head e) m = Memᴰ.append_left (flat_map f xs) (rw e at m)
   flatMap_member f (x ∷ xs) (Memᴰ.tail n) m = Memᴰ.append_right (f x) (flatMap_member f xs n m)
+  flatMap_member f [] {y = y} x4 m = elim x4 [ ]
 
   pub member_flatMap : (f : A → List B) (xs : List A) {y : B} → Memᴰ y (flat_map f xs) → (x : A) × Memᴰ x xs × Memᴰ y (f x)
   unfolding flat_map

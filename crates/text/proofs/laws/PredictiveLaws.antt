@@ -120,6 +120,7 @@ module _ {A : Type 0} where
   give_reads : (a : A) (xs rest : List Token) → Empty (classes xs) → Reads (give a) xs rest
   unfolding give
   give_reads a [] rest w = record { tree = a; reads = refl }
+  give_reads a (_ ∷ _) rest w = elim w [ ]
 
   pub give_parses : {p : ℕ → Bool} (a : A) → Parses (give a) Empty p
   unfolding give count Fits

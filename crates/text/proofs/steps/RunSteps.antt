@@ -2,10 +2,9 @@
 use Prim.Native.Nat.{ℕ, ◌+◌, ◌<◌, ◌≤◌}
 use mathlib.Core.Path.{◌≡◌, refl, sym, ◌∙◌}
 use mathlib.Core.List.{List}
-use mathlib.Core.Bool.{Bool, true, false, not}
+use mathlib.Core.Bool.{Bool, true, false}
 use native.Mathlib.Omega.{arith}
 use lib.ListN.{length, get_or, drop}
-use borrow.Author.Tests.{not-true, not-false}
 use Rattle.text.specs.definitions.Bytes.{run}
 use Rattle.text.proofs.laws.RunLaws.{run_stop, run_step}
 
@@ -18,8 +17,8 @@ pub running_start : {test : ℕ → Bool} {text : List ℕ} {at : ℕ} → at �
 running_start h = record { inside = h; same = refl }
 
 module _ {test : ℕ → Bool} {text : List ℕ} {at i : ℕ} (g : Running test text at i) (h : i < length text) {b : Bool} (e : b ≡ test (get_or text i 0)) where
-  pub runs_further : not b ≡ false → Running test text at (i + 1)
-  runs_further n = record { inside = omega arith; same = run_step test text i h (sym e ∙ not-false b n) ∙ g.same }
+  pub runs_further : b ≡ true → Running test text at (i + 1)
+  runs_further n = record { inside = omega arith; same = run_step test text i h (sym e ∙ n) ∙ g.same }
 
-  pub run_ends : not b ≡ true → (i ≡ at + length (run test (drop at text))) × (i ≤ length text)
-  run_ends n = (run_stop test text i h (sym e ∙ not-true b n) ∙ g.same, g.inside)
+  pub run_ends : b ≡ false → (i ≡ at + length (run test (drop at text))) × (i ≤ length text)
+  run_ends n = (run_stop test text i h (sym e ∙ n) ∙ g.same, g.inside)

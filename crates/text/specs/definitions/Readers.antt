@@ -76,7 +76,7 @@ module _ {A : Type 0} where
   turned true a step go ts = stepped (step ts) go
 
   -- as long as the next token's class passes the test, one step more; the first `skip` tokens still belong to the last step, a count by which
-  -- the recursion is seen to end (`loop-equation` in proofs/theorems/SkipLaws is the equation without it)
+  -- the recursion is seen to end (`loop_equation` in proofs/theorems/SkipLaws is the equation without it)
   unfoldable pub loop : (ℕ → Bool) → (A → Token → Parser A) → A → ℕ → Parser A
   unfolding turned shift
   loop test step a skip [] = read a skip

@@ -225,7 +225,7 @@ taken (found c v more) at b bs others = add_token (record { class = c; at = at; 
 taken bad at b bs others = no_token_at at
 
 -- "Words are taken one after another from the text": the first `skip` bytes still belong to the last item, a count by which the recursion is
--- seen to end (`tokens-equation` in proofs/theorems/SkipLaws is the equation without it)
+-- seen to end (`tokens_equation` in proofs/theorems/SkipLaws is the equation without it)
 unfoldable pub tokens_from : ℕ → ℕ → List ℕ → Lexing
 unfolding item taken
 tokens_from skip at [] = tokens []

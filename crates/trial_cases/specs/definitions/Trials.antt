@@ -5,18 +5,7 @@ use Rattle.text.specs.definitions.Bytes.{ascii}
 use Rattle.checking.specs.definitions.EntitySpan.{entity_span}
 use Rattle.senders.specs.definitions.StateImage.{STATE}
 use Rattle.engine.specs.definitions.BenchImage.{BENCH}
-use Rattle.engine.specs.definitions.Calls.{
-  ROW,
-  check_call,
-  fresh_call,
-  header_call,
-  row_call,
-  AfterCheck,
-  AfterFresh,
-  AfterLine,
-  AfterRow,
-  span_answer,
-}
+use Rattle.engine.specs.definitions.Calls.{ROW, check_call, fresh_call, header_call, row_call, AfterLine, span_answer}
 use Rattle.engine.specs.definitions.Runs.{Request, replies}
 
 -- "Pedal bench (P)"

@@ -1,22 +1,21 @@
 -- Digits one by one: how they are put, how they are read, and how a number may begin.
-use mathlib.Core.Path.{◌≡◌, refl, sym, ap, ◌∙◌, subst}
+use mathlib.Core.Path.{◌≡◌, refl, ap, ◌∙◌, subst}
 use mathlib.Core.List.{List, [], ◌∷◌, ◌++◌}
 use mathlib.Core.Bool.{Bool, true, false, not, true≢false}
 use Prim.Native.Nat.{ℕ, zero, suc, ◌+◌, ◌-◌, ◌*◌, ◌/◌, ◌%◌, ◌^◌, ◌≤◌, ◌<◌, zero-le}
-use native.Mathlib.Nat.{zero-add, add-zero, lt_of_lt_of_le, mul-le-mul_left}
+use native.Mathlib.Nat.{add-zero, lt_of_lt_of_le, mul-le-mul_left}
 use native.Mathlib.Numerals.{sub-one, add-one}
 use native.Mathlib.Omega.{arith}
-use lib.Dec.{T, ltb, eqb}
-use lib.ListN.{length, get_or, set, drop, length-append}
+use lib.Dec.{ltb, eqb}
+use lib.ListN.{length, get_or, drop, length-append}
 use lib.Seq.{drop-cons, get_or-drop}
 use lib.Pow.{pow-add, pow_mono}
 use lib.Arith.{digits_lt}
-use lib.IntN.{ℤ, pos, negsuc, nat_abs, ◌-ℤ◌}
-use lib.Signed.{lt_z, non_neg}
+use lib.IntN.{ℤ, pos, negsuc, nat_abs}
+use lib.Signed.{lt_z}
 use borrow.Author.Tests.{lt-ltb, le-ltb, le-leb, lt-leb, ne_eqb}
 use Rattle.values.specs.declared.Number.TheVariants.{Not}
 use Rattle.values.specs.declared.Field.TheVariants.{Malformed}
-use Rattle.values.specs.definitions.Bytes.{overwritten}
 use Rattle.values.specs.definitions.Forms.{digit_byte, digit_of, decimal_digits, hexadecimal, scanned, led, decimal, whole_field, whole_text}
 use Rattle.values.proofs.laws.WholeLaws.{none_below}
 use Rattle.values.proofs.laws.ByteLaws.{overwritten_append}
@@ -63,13 +62,8 @@ unfolding hexadecimal
 hexadecimal_length zero n = refl
 hexadecimal_length (suc k) n = rw (length_snoc (hexadecimal k (n / 16)) (digit_byte (n % 16)), hexadecimal_length k (n / 16)) (omega arith)
 
--- ds put at an offset: room for the last digit g after the others xs, and what is in memory once it is put
-module _ {ds : List ℕ} (xs : List ℕ) (g : ℕ) (d : ds ≡ xs ++ (g ∷ [])) (l : List ℕ) (at : ℕ) where
-  pub last_room : at + length ds ≤ length l → at + length xs + 1 ≤ length l
-  last_room h = let k = rw (d, length_snoc xs g) at h in omega arith
-
-  pub last_put : {p : ℕ} {m : List ℕ} → p ≡ at + length xs → m ≡ overwritten l at xs → (p + 1 ≡ at + length ds) × (set m p g ≡ overwritten l at ds)
-  last_put e f = rw (d, length_snoc xs g, e, f) (omega arith, sym (overwritten_append l at xs (g ∷ [])))
+-- what code that puts digits one by one needs
+pub ruleset digits_put = (decimal_none, decimal_last, decimal_more, hexadecimal_none, hexadecimal_more, length_snoc, overwritten_append)
 
 -- a whole's text, by its sign
 pub text_negative : (z : ℤ) → lt_z z (pos 0) ≡ true → whole_text z ≡ 45 ∷ decimal (nat_abs z)
@@ -79,14 +73,6 @@ text_negative (negsuc n) h = refl
 pub text_unsigned : (z : ℤ) → lt_z z (pos 0) ≡ false → whole_text z ≡ decimal (nat_abs z)
 text_unsigned (pos n) h = refl
 text_unsigned (negsuc n) h = absurd (true≢false h)
-
-pub zero_minus : (z : ℤ) → lt_z z (pos 0) ≡ true → pos 0 -ℤ z ≡ pos (nat_abs z)
-zero_minus (pos n) h = absurd (none_below n h)
-zero_minus (negsuc n) h = ap pos (zero-add (suc n))
-
-pub not_negative : (z : ℤ) → lt_z z (pos 0) ≡ false → T (non_neg z)
-not_negative (pos n) h = tt
-not_negative (negsuc n) h = true≢false h
 
 -- ---- read
 
@@ -109,6 +95,9 @@ scan_bound acc base d from i h p q r =
 pub scan_fits : (acc base d from i : ℕ) → from ≤ i → i < from + 16 → acc < 2 ^ (4 * (i - from)) → base ≤ 16 → d < base → acc * base + d < 2 ^ 64
 scan_fits acc base d from i h k p q r = lt_of_lt_of_le (scan_bound acc base d from i h p q r) (pow_mono {i = 4 * (i + 1 - from)} {j = 64} (omega arith))
 
+-- what code that reads digits one by one needs
+pub ruleset digits_read = (scan_step, scan_stop, scan_bound, scan_fits)
+
 -- ---- how a number may begin
 
 pub led_one : (l : List ℕ) → length l ≡ 1 → led l ≡ true
@@ -125,9 +114,6 @@ led_by l b k m e = rw (le-leb 1 (length l) (omega arith), le-leb (length l) 10 m
 
 pub first_left : (l : List ℕ) (from : ℕ) → get_or (drop from l) 0 0 ≡ get_or l from 0
 first_left l from = get_or-drop from l 0 0 ∙ ap (λ (k : ℕ). get_or l k 0) (add-zero from)
-
-pub two_left : (n from : ℕ) → from < n → (n - from ≡ 1 → ⊥) → 2 ≤ n - from
-two_left n from h o = omega (arith, h, o)
 
 pub empty_malformed : (l : List ℕ) → length l ≡ 0 → whole_field l ≡ Malformed
 unfolding led

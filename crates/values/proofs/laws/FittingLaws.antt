@@ -33,6 +33,12 @@ unfolding same_kind
 same_kind_eq Wholes Wholes h = refl
 same_kind_eq Bools Bools h = refl
 same_kind_eq Reals Reals h = refl
+same_kind_eq Wholes Bools h = elim h [ ]
+same_kind_eq Wholes Reals h = elim h [ ]
+same_kind_eq Bools Wholes h = elim h [ ]
+same_kind_eq Bools Reals h = elim h [ ]
+same_kind_eq Reals Wholes h = elim h [ ]
+same_kind_eq Reals Bools h = elim h [ ]
 
 -- ---- values of one kind fit
 
@@ -47,6 +53,12 @@ held Wholes (Whole x) h = of_cell
 held Bools (Truth x) h = of_cell
 held Reals (Real x) h = of_cell
 held k Unset h = unset
+held Bools (Whole x) h = elim h [ ]
+held Reals (Whole x) h = elim h [ ]
+held Wholes (Truth x) h = elim h [ ]
+held Reals (Truth x) h = elim h [ ]
+held Wholes (Real x) h = elim h [ ]
+held Bools (Real x) h = elim h [ ]
 
 operated_alike : (k : Kind) → T (has_kind (number_kind k)) → has_kind (operated_kind k k) ≡ true
 unfolding operated_kind
@@ -94,11 +106,17 @@ small_finite n h = go (of_int binary64 (pos n)) (positive_back binary64 31 n (rw
   where
     go : (x : Float) → T (Ieee.in_signed binary64 31 x) → T (is_finite x)
     go (fin s m e) t = tt
+    go Ieee.nan t = elim t [ ]
+    go (Ieee.inf _) t = elim t [ ]
 
 pub settled_set : (x : Float) → T (is_finite x) → T (is_set (settled x))
 unfolding settled
 settled_set (fin s m e) h = tt
+settled_set Ieee.nan h = elim h [ ]
+settled_set (Ieee.inf _) h = elim h [ ]
 
 pub neg_finite : (x : Float) → T (is_finite x) → T (is_finite (Ieee.neg x))
 unfolding Ieee.neg
 neg_finite (fin s m e) h = tt
+neg_finite Ieee.nan h = elim h [ ]
+neg_finite (Ieee.inf _) h = elim h [ ]

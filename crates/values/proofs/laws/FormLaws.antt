@@ -214,6 +214,14 @@ value_back Wholes (Whole z) h = whole_back z (ltb→lt (mag z) (2 ^ 31) h)
 value_back Bools (Truth b) h = truth_back b
 value_back Reals (Real (fin s m e)) h = real_back (fin s m e) tt h
 value_back k Unset h = unset_back k
+value_back Bools (Whole z) h = elim h [ ]
+value_back Reals (Whole z) h = elim h [ ]
+value_back Wholes (Truth b) h = elim h [ ]
+value_back Reals (Truth b) h = elim h [ ]
+value_back Wholes (Real _) h = elim h [ ]
+value_back Bools (Real _) h = elim h [ ]
+value_back Reals (Real nan) h = elim h [ ]
+value_back Reals (Real (inf _)) h = elim h [ ]
 
 -- ---- lengths of texts
 

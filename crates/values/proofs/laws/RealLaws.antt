@@ -1,4 +1,4 @@
--- Reals: a NaN is what differs from itself, and bits are a finite real's exactly where they pass `finite-bits`.
+-- Reals: a NaN is what differs from itself, and bits are a finite real's exactly where they pass `finite_bits`.
 use mathlib.Core.Path.{◌≡◌, refl, sym, ap, ◌∙◌, subst}
 use mathlib.Core.Bool.{Bool, true, false, not, cond, true≢false}
 use Prim.Native.Nat.{ℕ, zero, suc, ◌+◌, ◌/◌, ◌%◌, ◌≤◌, ◌<◌}
@@ -8,7 +8,7 @@ use lib.Dec.{T, leb, eqb, lit<}
 use lib.Ieee as Ieee
 use lib.Ieee.{Float, nan, inf, fin, binary64, of_bits, to_bits, is_nan, nan_bits, fits, ne}
 use lib.Ieee.Compare.{differs_from_itself}
-use lib.Ieee.Bits.{of_bits-to_bits, nan_bits_above}
+use lib.Ieee.Bits.{of_bits-to_bits, nan_bits_above, is_false}
 use borrow.Author.Tests.{ltb-true, ltb-false, le-ltb, eq-eqb, ne_eqb}
 use Rattle.values.specs.declared.Value.TheVariants.{Real, Unset}
 use Rattle.values.specs.definitions.Value.{is_finite, settled}
@@ -22,6 +22,16 @@ no_nan (fin s m e) h = tt
 
 pub nan_only : (x : Float) → ne x x ≡ true → x ≡ nan
 nan_only x h = differs_from_itself x (subst T (sym h) tt)
+
+pub nan_told : (x : Float) → ne x x ≡ true → is_nan x ≡ true
+unfolding is_nan
+nan_told x h = rw (nan_only x h)
+
+pub no_nan_told : (x : Float) → ne x x ≡ false → is_nan x ≡ false
+no_nan_told x h = is_false (is_nan x) (no_nan x h)
+
+-- what code that tells a NaN by comparing it with itself needs
+pub ruleset nans = (no_nan, nan_told, no_nan_told)
 
 -- ---- the float of a sign, an exponent's field and digits: not finite exactly at the highest field
 

@@ -150,13 +150,13 @@ module _ (a a' : Value) (p : plain a ≡ plain a') where
   module _ (b b' : Value) (q : plain b ≡ plain b') where
     pub operated_plain : (op : Operator) → plain (operated op a b) ≡ plain (operated op a' b')
     operated_plain op =
-        respects (λ v. plain (operated op v b)) (elim b [ Whole y ↦ λ s t e. refl | Truth y ↦ λ s t e. refl | Real y ↦ left_op op y | Unset ↦ λ s t e. refl ]) a a' p
-        ∙ respects (λ v. plain (operated op a' v)) (elim a' [ Whole x ↦ λ s t e. refl | Truth x ↦ λ s t e. refl | Real x ↦ right_op op x | Unset ↦ λ s t e. refl ]) b b' q
+        respects (λ v. plain (operated op v b)) (elim b as (λ b. Blind (λ x. plain (operated op (Real x) b))) [ Whole y ↦ λ s t e. refl | Truth y ↦ λ s t e. refl | Real y ↦ left_op op y | Unset ↦ λ s t e. refl ]) a a' p
+        ∙ respects (λ v. plain (operated op a' v)) (elim a' as (λ a. Blind (λ x. plain (operated op a (Real x)))) [ Whole x ↦ λ s t e. refl | Truth x ↦ λ s t e. refl | Real x ↦ right_op op x | Unset ↦ λ s t e. refl ]) b b' q
 
     pub equal_plain : equal a b ≡ equal a' b'
     equal_plain =
-        respects (λ v. equal v b) (elim b [ Whole y ↦ λ s t e. refl | Truth y ↦ λ s t e. refl | Real y ↦ left_eq y | Unset ↦ λ s t e. refl ]) a a' p
-        ∙ respects (λ v. equal a' v) (elim a' [ Whole x ↦ λ s t e. refl | Truth x ↦ λ s t e. refl | Real x ↦ right_eq x | Unset ↦ λ s t e. refl ]) b b' q
+        respects (λ v. equal v b) (elim b as (λ b. Blind (λ x. equal (Real x) b)) [ Whole y ↦ λ s t e. refl | Truth y ↦ λ s t e. refl | Real y ↦ left_eq y | Unset ↦ λ s t e. refl ]) a a' p
+        ∙ respects (λ v. equal a' v) (elim a' as (λ a. Blind (λ x. equal a (Real x))) [ Whole x ↦ λ s t e. refl | Truth x ↦ λ s t e. refl | Real x ↦ right_eq x | Unset ↦ λ s t e. refl ]) b b' q
 
 -- ---- storable values are the same exactly where they are one when plain
 
@@ -170,10 +170,18 @@ same_refl Bools (Truth false) h = refl
 same_refl Reals (Real (fin true m e)) h = let n = m * up e * down e in rw (eq-eqb n n refl)
 same_refl Reals (Real (fin false m e)) h = let n = m * up e * down e in rw (eq-eqb n n refl)
 same_refl k Unset h = refl
+same_refl Bools (Whole _) h = elim h [ ]
+same_refl Reals (Whole _) h = elim h [ ]
+same_refl Wholes (Truth _) h = elim h [ ]
+same_refl Reals (Truth _) h = elim h [ ]
+same_refl Wholes (Real _) h = elim h [ ]
+same_refl Bools (Real _) h = elim h [ ]
+same_refl Reals (Real nan) h = elim h [ ]
+same_refl Reals (Real (inf _)) h = elim h [ ]
 
 pub plain_same : (k : Kind) (v w : Value) → T (storable k v) → plain v ≡ plain w → same v w
 plain_same k v w h p =
-    respects (differ v) (elim v [ Whole x ↦ λ s t e. refl | Truth x ↦ λ s t e. refl | Real x ↦ λ s t e. ap not (right_eq x s t e) | Unset ↦ λ s t e. refl ]) w v (sym p)
+    respects (differ v) (elim v as (λ v. Blind (λ x. differ v (Real x))) [ Whole x ↦ λ s t e. refl | Truth x ↦ λ s t e. refl | Real x ↦ λ s t e. ap not (right_eq x s t e) | Unset ↦ λ s t e. refl ]) w v (sym p)
     ∙ same_refl k v h
 
 -- a real that a format holds has one form, and so one pattern of bits
@@ -208,10 +216,16 @@ one_real (fin s m e) (fin t n d) h g q =
     let z = eqb (m * up e * down d) (n * up d * down e) in
     let r = beq s t || eqb (m * up e * down d) 0 in
     one_sign s t m e d (and_r z r q) ∙ ap (λ x. plain (Real x)) (one_form binary64 t m n e d (eqb→eq _ _ (and_l z r q)) (turned_fits binary64 s t m e h) g)
+one_real nan y h g q = elim h [ ]
+one_real (inf _) y h g q = elim h [ ]
+one_real (fin s m e) nan h g q = elim g [ ]
+one_real (fin s m e) (inf _) h g q = elim g [ ]
 
 one_whole : (x y : ℤ) → T (same_whole x y) → x ≡ y
 one_whole (pos a) (pos b) h = ap pos (eqb→eq a b h)
 one_whole (negsuc a) (negsuc b) h = ap negsuc (eqb→eq a b h)
+one_whole (pos a) (negsuc b) h = elim h [ ]
+one_whole (negsuc a) (pos b) h = elim h [ ]
 
 pub same_plain : (k : Kind) (v w : Value) → T (storable k v) → T (storable k w) → same v w → plain v ≡ plain w
 unfolding storable
@@ -219,6 +233,7 @@ same_plain k v w h g e = go k v w h g (rw e tt)
   where
     test : (b : Bool) → T (not (not b)) → T b
     test true h = tt
+    test false h = elim h [ ]
 
     go : (k : Kind) (v w : Value) → T (storable k v) → T (storable k w) → T (not (differ v w)) → plain v ≡ plain w
     go Wholes (Whole x) (Whole y) h g q = ap Whole (one_whole x y (test (same_whole x y) q))
@@ -226,3 +241,26 @@ same_plain k v w h g e = go k v w h g (rw e tt)
     go Bools (Truth false) (Truth false) h g q = refl
     go Reals (Real x) (Real y) h g q = one_real x y h g (test (Ieee.eq x y) q)
     go k Unset Unset h g q = refl
+    go Wholes (Whole x) (Truth _) h g q = elim g [ ]
+    go Wholes (Whole x) (Real y) h g q = elim g [ ]
+    go Wholes (Whole x) Unset h g q = elim q [ ]
+    go Bools (Whole x) _ h g q = elim h [ ]
+    go Reals (Whole x) _ h g q = elim h [ ]
+    go Wholes (Truth _) _ h g q = elim h [ ]
+    go Bools (Truth false) (Whole y) h g q = elim g [ ]
+    go Bools (Truth false) (Truth true) h g q = elim q [ ]
+    go Bools (Truth false) (Real y) h g q = elim g [ ]
+    go Bools (Truth false) Unset h g q = elim q [ ]
+    go Bools (Truth true) (Whole y) h g q = elim g [ ]
+    go Bools (Truth true) (Truth false) h g q = elim q [ ]
+    go Bools (Truth true) (Real y) h g q = elim g [ ]
+    go Bools (Truth true) Unset h g q = elim q [ ]
+    go Reals (Truth _) _ h g q = elim h [ ]
+    go Wholes (Real x) _ h g q = elim h [ ]
+    go Bools (Real x) _ h g q = elim h [ ]
+    go Reals (Real x) (Whole y) h g q = elim g [ ]
+    go Reals (Real x) (Truth _) h g q = elim g [ ]
+    go Reals (Real x) Unset h g q = elim q [ ]
+    go k Unset (Whole y) h g q = elim q [ ]
+    go k Unset (Truth _) h g q = elim q [ ]
+    go k Unset (Real y) h g q = elim q [ ]

@@ -93,6 +93,15 @@ operated_storable Reals op (Real x) (Real y) n h g = real_op_storable op x y
 operated_storable Reals op (Real x) Unset n h g = tt
 operated_storable Wholes op Unset b n h g = tt
 operated_storable Reals op Unset b n h g = tt
+operated_storable Wholes op (Whole x) (Truth _) n h g = elim g [ ]
+operated_storable Wholes op (Whole x) (Real y) n h g = elim g [ ]
+operated_storable Wholes op (Truth _) b n h g = elim h [ ]
+operated_storable Wholes op (Real x) b n h g = elim h [ ]
+operated_storable Bools op a b n h g = elim n [ ]
+operated_storable Reals op (Whole x) b n h g = elim h [ ]
+operated_storable Reals op (Truth _) b n h g = elim h [ ]
+operated_storable Reals op (Real x) (Whole y) n h g = elim g [ ]
+operated_storable Reals op (Real x) (Truth _) n h g = elim g [ ]
 
 pub negated_storable : (k : Kind) (a : Value) → T (has_kind (number_kind k)) → T (storable k a) → T (storable k (negated a))
 unfolding storable has_kind number_kind
@@ -100,11 +109,18 @@ negated_storable Wholes (Whole x) n h = fitted_storable (neg_ℤ x)
 negated_storable Reals (Real x) n h = settled_storable (Ieee.neg x) (neg-fits binary64 x (and_r (is_finite x) (fits binary64 x) h))
 negated_storable Wholes Unset n h = tt
 negated_storable Reals Unset n h = tt
+negated_storable Wholes (Truth _) n h = elim h [ ]
+negated_storable Wholes (Real x) n h = elim h [ ]
+negated_storable Bools a n h = elim n [ ]
+negated_storable Reals (Whole x) n h = elim h [ ]
+negated_storable Reals (Truth _) n h = elim h [ ]
 
 pub as_real_storable : (a : Value) → T (storable Wholes a) → T (storable Reals (as_real a))
 unfolding storable
 as_real_storable (Whole x) h = settled_storable (Ieee.of_int binary64 x) (of_int-fits binary64 x)
 as_real_storable Unset h = tt
+as_real_storable (Truth _) h = elim h [ ]
+as_real_storable (Real _) h = elim h [ ]
 
 -- ---- the 9 bytes of a cell
 
@@ -150,6 +166,14 @@ payload_below Bools (Truth true) h = lit< tt
 payload_below Bools (Truth false) h = lit< tt
 payload_below Reals (Real (fin s m e)) h = to_bits-lt binary64 (fin s m e) h
 payload_below k Unset h = lit< tt
+payload_below Bools (Whole z) h = elim h [ ]
+payload_below Reals (Whole z) h = elim h [ ]
+payload_below Wholes (Truth _) h = elim h [ ]
+payload_below Reals (Truth _) h = elim h [ ]
+payload_below Wholes (Real _) h = elim h [ ]
+payload_below Bools (Real _) h = elim h [ ]
+payload_below Reals (Real nan) h = elim h [ ]
+payload_below Reals (Real (inf _)) h = elim h [ ]
 
 pub unpacked_packed : (k : Kind) (v : Value) → T (storable k v) → unpacked (tag v) (payload v) ≡ v
 unfolding storable unpacked is_nan
@@ -160,6 +184,14 @@ unpacked_packed Bools (Truth true) h = refl
 unpacked_packed Bools (Truth false) h = refl
 unpacked_packed Reals (Real (fin s m e)) h = rw (finite_by_bits (fin s m e) h, of_bits-to_bits binary64 (fin s m e) h)
 unpacked_packed k Unset h = refl
+unpacked_packed Bools (Whole z) h = elim h [ ]
+unpacked_packed Reals (Whole z) h = elim h [ ]
+unpacked_packed Wholes (Truth _) h = elim h [ ]
+unpacked_packed Reals (Truth _) h = elim h [ ]
+unpacked_packed Wholes (Real _) h = elim h [ ]
+unpacked_packed Bools (Real _) h = elim h [ ]
+unpacked_packed Reals (Real nan) h = elim h [ ]
+unpacked_packed Reals (Real (inf _)) h = elim h [ ]
 
 pub length_cell_bytes : (v : Value) → length (cell_bytes v) ≡ 9
 length_cell_bytes v = ap suc (length_low_first 8 (payload v))

@@ -1,4 +1,4 @@
--- A value and a kind by their variants: what a `_` arm of a `match` knows of them; `of-kind` of unset; `differ` for a set and an unset value.
+-- A value and a kind by their variants: what a `_` arm of a `match` knows of them; `of_kind` of unset; `differ` for a set and an unset value.
 use mathlib.Core.Path.{◌≡◌, refl}
 use mathlib.Core.List.{List}
 use mathlib.Core.Bool.{Bool, true, false, not, true≢false, false≢true}

@@ -5,11 +5,11 @@ use mathlib.Core.Bool.{Bool, true, false, false≢true}
 use Prim.Native.Nat.{ℕ, zero, suc, ◌+◌, ◌-◌, ◌*◌, ◌^◌, ◌≤◌, ◌<◌, zero-le}
 use native.Mathlib.Nat.{mul-le-mul_left, mul-le-mul_right, le_trans, lt_trans, lt_of_le_of_lt, le_of_lt}
 use native.Mathlib.Omega.{arith}
-use lib.Dec.{T, ltb, eqb, lit<}
-use lib.IntN.{ℤ, pos, negsuc, neg_ℤ, nat_abs, sub_ℕ, ◌+ℤ◌, ◌-ℤ◌, ◌*ℤ◌, +ℤ_idl}
-use lib.Signed.{mag, lt_z, non_neg}
+use lib.Dec.{ltb, eqb, lit<}
+use lib.IntN.{ℤ, pos, negsuc, neg_ℤ, sub_ℕ, ◌+ℤ◌, ◌-ℤ◌, ◌*ℤ◌}
+use lib.Signed.{mag, lt_z}
 use mir.Syntax.{w32, w64}
-use mir.Val.{Fits, SFits, to_z, of_z}
+use mir.Val.{SFits, to_z, of_z}
 use mir.Facts.{to_z-of_z, to_z_pos, sfits_widen}
 use borrow.Author.Tests.{ltb-true, ltb-false, lt-ltb, le-ltb, eq-eqb, ne_eqb, eqb-true, eqb-false}
 use Rattle.values.specs.definitions.Division.{is_zero}
@@ -89,7 +89,7 @@ abbrev pub widened : ℤ → ℤ
 widened x = to_z w64 (of_z w64 (to_z w32 (of_z w32 x)))
 
 pub widened_is : {x : ℤ} → SFits w32 x → widened x ≡ x
-widened_is f = rw (to_z-of_z f) (to_z-of_z (sfits_widen tt f))
+widened_is f = rw (to_z-of_z f) (to_z-of_z {w = w64} (sfits_widen (tt {0}) f))
 
 pub widen_fits : {x : ℤ} → SFits w32 x → SFits w64 (to_z w32 (of_z w32 x))
 widen_fits f = rw (to_z-of_z f) (sfits_widen tt f)
@@ -116,18 +116,6 @@ module _ {z y : ℤ} (e : z ≡ y) (h : mag y < 2 ^ 31) where
 
   pub narrow_is : to_z w32 (of_z w32 (to_z w64 (of_z w64 z))) ≡ y
   narrow_is = rw (to_z-of_z narrow_wide, e) (to_z-of_z in_32)
-
--- ---- an `i64` that is not negative, as a `u64`
-
-module _ {z : ℤ} {n : ℕ} (e : z ≡ pos n) (h : n < 2 ^ 63) where
-  pub unsigned_wide : SFits w64 z
-  unsigned_wide = rw e (record { sfits = h })
-
-  pub unsigned_fits : T (non_neg (to_z w64 (of_z w64 z))) × Fits w64 (nat_abs (to_z w64 (of_z w64 z)))
-  unsigned_fits = rw (to_z-of_z unsigned_wide, e) (tt, record { fits = lt_trans h (lit< tt) })
-
-  pub unsigned_is : nat_abs (to_z w64 (of_z w64 z)) ≡ n
-  unsigned_is = rw (to_z-of_z unsigned_wide, e)
 
 -- ---- tests
 
@@ -201,6 +189,3 @@ lowered_raised (negsuc n) h = rw (lt-ltb (2147483648 - suc n) 2147483648 (omega 
 pub neg_small : (n : ℕ) → n ≤ 2147483648 → mag (neg_ℤ (pos n)) < 2 ^ 31
 neg_small zero h = lit< tt
 neg_small (suc n) h = h
-
-pub negative_is : (n : ℕ) → n ≤ 2147483648 → pos 0 -ℤ to_z w64 n ≡ neg_ℤ (pos n)
-negative_is n h = rw (to_z_pos w64 {n = n} (lt_of_le_of_lt h (lit< tt))) (+ℤ_idl (neg_ℤ (pos n)))

@@ -1,6 +1,5 @@
 -- A value in 9 bytes of memory: a tag, then a number in 8 bytes, the lowest first.
-use Rattle.std.specs.Prelude.{ℕ, ◌+◌, ◌-◌, ◌*◌, ◌%◌, suc, List, [], ◌∷◌, Bool, true, false, cond, ◌&&◌, ltb, eqb, ℤ, pos, negsuc, get_or, set, Float}
-use Rattle.std.proofs.Math.Option.{Option, none, some}
+use Rattle.std.specs.Prelude.{ℕ, ◌+◌, ◌-◌, ◌*◌, ◌%◌, suc, List, ◌∷◌, Bool, true, false, cond, ltb, eqb, ℤ, pos, negsuc, get_or, set}
 use Rattle.std.proofs.Math.IntN.{sub_ℕ}
 use Rattle.std.specs.Float.{binary64}
 use Rattle.std.specs.Float.Ieee.{of_bits, to_bits, is_nan}

@@ -1,5 +1,5 @@
 -- Which values a cell of a kind can hold.
-use Rattle.std.specs.Prelude.{ℕ, ◌^◌, Bool, true, ◌&&◌, ltb}
+use Rattle.std.specs.Prelude.{◌^◌, Bool, true, ◌&&◌, ltb}
 use Rattle.std.proofs.Math.Option.{some}
 use Rattle.std.specs.Int.Signed.{mag}
 use Rattle.std.specs.Float.{binary64}

@@ -1,0 +1,10 @@
+-- The items that the loop has passed are not called so.
+use Rattle.checking.proofs.laws.CalledLaws.{Passed}
+use Rattle.std.proofs.Common.{◌-◌}
+use Rattle.checking.proofs.called.first_called.Given as goal
+
+abbrev pub invariant-loop-k : goal.invariant-loop-k
+invariant-loop-k l = Passed l.text l.offsets l.lengths l.d l.base l.count l.most l.called l.k
+
+abbrev pub decreases-loop-k : goal.decreases-loop-k
+decreases-loop-k l = l.top - l.k

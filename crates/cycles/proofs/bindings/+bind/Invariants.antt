@@ -1,0 +1,15 @@
+-- The measure is how many variables may still get an entity; the loop keeps which writes are left.
+use Rattle.cycles.proofs.steps.BindingPuts.{TurnsLeft}
+use Rattle.std.proofs.Common.{◌-◌, ◌≤◌}
+use Rattle.cycles.proofs.bindings.+bind.Given as goal
+
+abbrev pub decreases-bind : goal.decreases-bind
+decreases-bind l = 3 - l.level
+
+abbrev pub invariant-loop-next : goal.invariant-loop-next
+invariant-loop-next l =
+    (l.first ≤ l.next)
+    × TurnsLeft l.classes l.values l.d l.refs l.scopes l.flags l.cells l.previous_flags l.previous_cells l.k l.level l.b l.fn.area l.next l.area
+
+abbrev pub decreases-loop-next : goal.decreases-loop-next
+decreases-loop-next l = l.end - l.next

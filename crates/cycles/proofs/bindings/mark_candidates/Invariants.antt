@@ -1,0 +1,10 @@
+-- The loop has marked the candidates before number e.
+use Rattle.cycles.specs.inner_contracts.Guards.{MarksSet}
+use Rattle.std.proofs.Common.{◌-◌, ◌≤◌}
+use Rattle.cycles.proofs.bindings.mark_candidates.Given as goal
+
+abbrev pub invariant-loop-e : goal.invariant-loop-e
+invariant-loop-e l = (l.first ≤ l.end → l.e ≤ l.end) × MarksSet l.d l.flags l.face l.first l.e l.marks
+
+abbrev pub decreases-loop-e : goal.decreases-loop-e
+decreases-loop-e l = l.end - l.e

@@ -1,0 +1,12 @@
+-- Of which rules the writes are left.
+use Rattle.cycles.proofs.steps.RulePuts.{RulesLeft}
+use Rattle.std.proofs.Common.{◌-◌, ◌≤◌}
+use Rattle.cycles.proofs.bindings.try_rules.Given as goal
+
+abbrev pub invariant-loop-next : goal.invariant-loop-next
+invariant-loop-next l =
+    (l.next ≤ l.n)
+    × RulesLeft l.classes l.values l.d l.refs l.scopes l.flags l.cells l.previous_flags l.previous_cells l.set l.fn.area l.next l.area
+
+abbrev pub decreases-loop-next : goal.decreases-loop-next
+decreases-loop-next l = l.n - l.next

@@ -1,0 +1,31 @@
+-- The measures of `atom`, `condition` and `conjunction`: each call leaves fewer openers to come, or as many and has a lower rank. And what the loops keep.
+use Rattle.cycles.specs.inner_contracts.Evaluation.{ConditionLoop}
+use Rattle.std.proofs.Common.{length, ◌*◌, ◌+◌, ◌-◌}
+use Rattle.text.specs.definitions.Grammar.{atom_reader, both_at, condition_reader, conjunction_reader, either_at, is_and, is_or}
+use Rattle.text.specs.definitions.Readers.{joined}
+use Rattle.cycles.proofs.conditions.+atom_condition_conjunction.Given as goal
+
+abbrev pub decreases-atom : goal.decreases-atom
+decreases-atom l = l.depth * 3
+
+abbrev pub decreases-condition : goal.decreases-condition
+decreases-condition l = l.depth * 3 + 2
+
+abbrev pub decreases-conjunction : goal.decreases-conjunction
+decreases-conjunction l = l.depth * 3 + 1
+
+abbrev pub invariant-condition-loop-b : goal.invariant-condition-loop-b
+invariant-condition-loop-b l =
+    ConditionLoop l.classes l.values l.refs l.b l.flags l.cells l.previous_flags l.previous_cells (condition_reader l.depth) is_or
+    (joined (conjunction_reader l.depth) either_at) l.at l.left l.i
+
+abbrev pub decreases-condition-loop-b : goal.decreases-condition-loop-b
+decreases-condition-loop-b l = length l.classes - l.i
+
+abbrev pub invariant-conjunction-loop-b : goal.invariant-conjunction-loop-b
+invariant-conjunction-loop-b l =
+    ConditionLoop l.classes l.values l.refs l.b l.flags l.cells l.previous_flags l.previous_cells (conjunction_reader l.depth) is_and
+    (joined (atom_reader l.depth) both_at) l.at l.left l.i
+
+abbrev pub decreases-conjunction-loop-b : goal.decreases-conjunction-loop-b
+decreases-conjunction-loop-b l = length l.classes - l.i

@@ -1,0 +1,14 @@
+-- The names of the cells before number i stand after `by n`.
+use Rattle.cycles.proofs.laws.RowPuts.{NamesSoFar}
+use Rattle.std.proofs.Common.{◌-◌, ◌≤◌}
+use Rattle.cycles.proofs.rows.put_row_header.Given as goal
+
+abbrev pub invariant-loop-i : goal.invariant-loop-i
+invariant-loop-i l =
+    record {
+      within : l.i ≤ l.end;
+      so_far : NamesSoFar l.text l.classes l.offsets l.lengths l.d l.initial.row l.initial.at l.i l.row l.at;
+    }
+
+abbrev pub decreases-loop-i : goal.decreases-loop-i
+decreases-loop-i l = l.end - l.i

@@ -1,0 +1,14 @@
+-- What the loop of `rules` keeps.
+use Rattle.std.proofs.Common.{length}
+use Rattle.text.proofs.laws.CodeReaderLaws.{Going}
+use Rattle.text.specs.definitions.Grammar.{rule_after}
+use Rattle.text.specs.definitions.Readers.{added}
+use Rattle.text.specs.definitions.Tokens.{WHEN}
+use Rattle.text.specs.inner_contracts.ParseAnswers.{classes_from, is_class, parsed_of}
+use Rattle.text.proofs.grammar.rules.Given as goal
+
+abbrev pub invariant-loop-p : goal.invariant-loop-p
+invariant-loop-p l = Going l.classes (is_class WHEN) (added rule_after) (parsed_of l.initial.p) (parsed_of l.p)
+
+abbrev pub decreases-loop-p : goal.decreases-loop-p
+decreases-loop-p l = length (classes_from l.classes (parsed_of l.p))
