@@ -43,15 +43,15 @@ def is_program(path: str) -> bool:
     return os.path.isfile(path) and os.access(path, os.X_OK)
 
 
-def run_rt(task: str, product: str, why: str) -> None:
+def build(name: str, product: str, why: str) -> None:
     from shutil import which  # only a build needs it
     if which('rt') is None:
         raise Failure('%s is %s, and there is no rt on the PATH to build it' % (product, why))
-    tell('building %s (rt %s)' % (product, task))
-    if not run_tool(['rt'] + task.split(), ROOT):
-        raise Failure('rt %s failed' % task)
+    tell('building %s (bin/build %s)' % (product, name))
+    if not run_tool([os.path.join(ROOT, 'bin', 'build'), name], ROOT):
+        raise Failure('bin/build %s failed' % name)
     if not os.path.isfile(product):
-        raise Failure('rt %s left no %s' % (task, product))
+        raise Failure('bin/build %s left no %s' % (name, product))
 
 
 def runner() -> str:
@@ -60,7 +60,7 @@ def runner() -> str:
     if named:
         return os.path.abspath(named) if '/' in named else named
     if not is_program(RUNNER):
-        run_rt('check bench', RUNNER, 'missing')
+        build('bench', RUNNER, 'missing')
     return RUNNER
 
 
@@ -86,7 +86,7 @@ def build_archive() -> None:
         made = modified(ARCHIVE)
         if not any(modified(path) > made for path in sources()):
             return
-    run_rt('staticlib engine', ARCHIVE, 'missing or old')
+    build('engine', ARCHIVE, 'missing or old')
 
 
 def build_caller(name: str) -> str:

@@ -71,8 +71,8 @@ Status: 0 all lines were taken; 1 the bench file, the cells or the state is refu
         4 the line of names or a line of readings was refused (of a sheet, the line of names alone).
         A missing file counts as an empty one.
 
-The program target/bin/bench is built first if it is missing (rt check bench); target/bin/sheet, resume
-and classes if they are missing or old (cc, on the archive that rt staticlib engine makes, which is made
+The program target/bin/bench is built first if it is missing (bin/build bench); target/bin/sheet, resume
+and classes if they are missing or old (cc, on the archive that bin/build engine makes, which is made
 too if it is missing or old). BENCH_PROGRAM, if set, names another program to run for the rows without a
 state; then nothing is built for them.
 """

@@ -13,8 +13,8 @@ from certlib.text import render_text
 
 USAGE = """Usage: bin/certificate [--build] [--gate]
 Writes what can be seen on this commit to target/certificate.txt and, as one printed page, to target/certificate.pdf.
-  --gate    runs .ci/run first: all proofs and tests, some half an hour; it begins by removing target/
-  --build   proves the engine and builds the archive (rt staticlib engine), unless it is the gate's on this commit
+  --gate    runs .ci/run first: all proofs and tests, which takes long
+  --build   proves the engine and builds the archive (bin/build engine), unless it is the gate's on this commit
 Status: 0 nothing is missing, 1 something is (it is told, and stands in the certificate), 2 bad usage, 3 it could not be written.
 """
 COMPLETE, INCOMPLETE, BAD_USAGE, NOT_WRITTEN = 0, 1, 2, 3
@@ -79,7 +79,7 @@ def certify(root: str, build: bool, gate: bool) -> int:
         ran([os.path.join(root, ".ci", "run")], root)
     facts = collect(root, False)
     if build and not is_gates_archive(facts):
-        facts = collect(root, ran(["rt", "staticlib", "engine"], root))
+        facts = collect(root, ran([os.path.join(root, "bin", "build"), "engine"], root))
     document = make_document(facts)
     write(os.path.join(root, TEXT), render_text(document).encode("utf-8", "replace"))
     page = render_page(document)

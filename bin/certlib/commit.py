@@ -1,12 +1,13 @@
 """The commit that stands here, and how many files differ from it. `python3 -m certlib.commit` says it in a line, for the gate."""
 import os
+import re
 import sys
 import tempfile
 from typing import Dict, NamedTuple
 
 from certlib.files import asked
 
-IGNORED = "!! target/"  # all that the project's .gitignore leaves out
+IGNORED = re.compile(r"!! (target|crates/[a-z0-9_]+/out)/")  # all that the project's .gitignore leaves out
 
 
 class Commit(NamedTuple):
@@ -42,13 +43,13 @@ def bare_settings(own: str, root: str, name: str, objects: str) -> Dict[str, str
 
 
 def compare(root: str, name: str, settings: Dict[str, str]) -> Commit:
-    """The commit, with the count of files that are not its files, byte by byte; ignored ones count, but for target/."""
+    """The commit, with the count of files that are not its files, byte by byte; ignored ones count, but for what is built."""
     new_index = asked(["git", "read-tree", name], root, settings)
     listed = asked(["git", "status", "--porcelain", "--untracked-files=all", "--ignored=matching"], root, settings)
     date = asked(["git", "show", "-s", "--date=format-local:%Y-%m-%d %H:%M UTC", "--format=%cd", name], root, settings)
     if new_index is None or listed is None or date is None:
         return NO_COMMIT
-    return Commit(name, date, len([line for line in listed.splitlines() if line != IGNORED]))
+    return Commit(name, date, len([line for line in listed.splitlines() if not IGNORED.fullmatch(line)]))
 
 
 def main() -> int:

@@ -4,10 +4,10 @@ from typing import List, NamedTuple, Tuple, Union
 
 from certlib.commit import Commit
 from certlib.seen import ARCHIVE, Archive, Digests, Gate, Toolchain
-from certlib.sources import ENTRY_POINTS, HEADER, THEOREMS, Call, Promise, WrongProgram
+from certlib.sources import ENTRY_POINTS, HEADER, REFUSALS, THEOREMS, Call, Promise, WrongProgram
 
 DEFINITIONS = "crates/*/specs/definitions"
-ENGINE = "crates/engine/"
+CRATES = "crates/"
 DEFINITIONS_COMMAND = "find crates/*/specs/definitions -type f | LC_ALL=C sort | xargs sha256sum | sha256sum"
 
 
@@ -95,7 +95,7 @@ def is_gates_archive(facts: Facts) -> bool:
 
 
 def is_gates_refusals(facts: Facts) -> bool:
-    """The logs of wrong programs are, byte by byte, those that the gate left on this commit, and not of a later try."""
+    """What rt ci said of wrong programs is, byte by byte, what the gate left on this commit, and not of a later try."""
     return facts.digests.refusals is not None and not facts.gate.fault and facts.gate.refusals == facts.digests.refusals
 
 
@@ -106,7 +106,7 @@ def without_changes(facts: Facts) -> str:
 
 def archive_origin(facts: Facts) -> str:
     if facts.digests.archive is None:
-        return "missing: rt staticlib engine"
+        return "missing: bin/build engine"
     if is_gates_archive(facts):
         return "as the gate built and tested it" + without_changes(facts)
     if facts.built_now and not facts.commit.changes and facts.commit.name:
@@ -143,15 +143,15 @@ def missing(facts: Facts) -> List[str]:
 def missing_refusals(facts: Facts) -> List[str]:
     unrefused = [wrong.name for wrong in facts.wrong_programs if not wrong.refused]
     if unrefused:
-        return ["logs of {} wrong programs in target/must-fail: .ci/run".format(len(unrefused))]
+        return ["what rt ci said of {} wrong programs ({}): .ci/run".format(len(unrefused), REFUSALS)]
     if facts.wrong_programs and not facts.gate.fault and not is_gates_refusals(facts):
-        return ["the gate's logs of wrong programs: those in target/must-fail are others: .ci/run"]
+        return ["what the gate's rt ci said of wrong programs: {} has something else: .ci/run".format(REFUSALS)]
     return []
 
 
 def missing_archive(facts: Facts) -> List[str]:
     if facts.digests.archive is None:
-        return ["the archive {}: rt staticlib engine, or bin/certificate --build".format(ARCHIVE)]
+        return ["the archive {}: bin/build engine, or bin/certificate --build".format(ARCHIVE)]
     told = []
     if not is_gates_archive(facts) and not facts.gate.fault:
         told.append("the gate's archive: what stands at {} is another one".format(ARCHIVE))
@@ -223,7 +223,7 @@ def checked(facts: Facts) -> str:
         return "The check accepted these proofs in the gate."
     if facts.built_now:
         gate = "the gate was not seen to pass" if facts.gate.fault else "the gate checked the commit, from which what stands here differs"
-        return "The check accepted these proofs when this was made (rt staticlib engine); {}.".format(gate)
+        return "The check accepted these proofs when this was made (bin/build engine); {}.".format(gate)
     if facts.gate.fault:
         return "Whether the check accepts these proofs was not seen here."
     return "The gate checked the commit; what stands here differs from it, and was not checked."
@@ -239,12 +239,12 @@ def promise_parts(facts: Facts) -> Section:
 
 
 def call_parts(facts: Facts) -> Section:
-    rows = [(call.name, below_engine(call.place), call.contract or "NO CONTRACT FOUND", below_engine(call.contract_place)) for call in facts.calls]
-    return Section("Calls, and the places of their contracts, below crates/engine", [Grid(rows)] if rows else [], True)
+    rows = [(call.name, below_crates(call.place), call.contract or "NO CONTRACT FOUND", below_crates(call.contract_place)) for call in facts.calls]
+    return Section("Calls, and the places of their contracts, below crates", [Grid(rows)] if rows else [], True)
 
 
-def below_engine(place: str) -> str:
-    return place[len(ENGINE):] if place.startswith(ENGINE) else place
+def below_crates(place: str) -> str:
+    return place[len(CRATES):] if place.startswith(CRATES) else place
 
 
 def refused_where(facts: Facts) -> str:
@@ -259,9 +259,9 @@ def wrong_parts(facts: Facts) -> Section:
     refused = sum(wrong.refused for wrong in facts.wrong_programs)
     some = 0 < refused < len(facts.wrong_programs)
     where = refused_where(facts)
-    logs = "{} of them were refused, by the logs in target/must-fail, {}.".format(refused, where) if refused else "No log of a refusal is here."
+    logs = "{} of them were refused, as rt ci says in {}, {}.".format(refused, REFUSALS, where) if refused else "No word of a refusal is here."
     told = "{} edits, in crates/*/must-fail, each make a wrong program. {}".format(len(facts.wrong_programs), logs)
-    rows = [(wrong.name, wrong.words + (" (no log)" if some and not wrong.refused else "")) for wrong in facts.wrong_programs]
+    rows = [(wrong.name, wrong.words + (" (not seen)" if some and not wrong.refused else "")) for wrong in facts.wrong_programs]
     return Section("Wrong programs that the check must refuse", [Note(told), Points(rows)], False)
 
 

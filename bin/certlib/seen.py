@@ -1,13 +1,12 @@
 """What was seen here: digests, the toolchain, the gate's record. Nothing is taken from anywhere else."""
 import glob
 import os
-import platform
 import re
 from typing import List, NamedTuple, Optional, Tuple
 
 from certlib.commit import Commit
 from certlib.files import asked, clean, digest, files_below, first_line, list_digest, read_text
-from certlib.sources import ENTRY_POINTS, HEADER, THEOREMS, archive_logic, exported_names
+from certlib.sources import ENTRY_POINTS, HEADER, REFUSALS, THEOREMS, archive_logic, exported_names
 
 ARCHIVE = "target/staticlib/libengine.a"
 GATE_RECORD = "target/gate.txt"
@@ -30,7 +29,7 @@ class Digests(NamedTuple):
     definition_files: int
     theorems: Optional[str]
     entry_points: Optional[str]
-    refusals: Optional[str]  # of all logs and results of wrong programs
+    refusals: Optional[str]  # of what rt ci said of wrong programs
 
 
 class Archive(NamedTuple):
@@ -72,8 +71,7 @@ def see_digests(root: str) -> Digests:
 
     folders = found("crates", "*", "specs", "definitions")
     files = [os.path.relpath(path, root) for folder in folders for path in files_below(os.path.join(root, folder))]
-    logs = found("target", "must-fail", "*", "*", ".log") + found("target", "must-fail", "*", "*.res")
-    return Digests(of(ARCHIVE), of(HEADER), list_digest(root, files), len(files), of(THEOREMS), of(ENTRY_POINTS), list_digest(root, logs))
+    return Digests(of(ARCHIVE), of(HEADER), list_digest(root, files), len(files), of(THEOREMS), of(ENTRY_POINTS), of(REFUSALS))
 
 
 def see_archive(root: str) -> Archive:
@@ -83,8 +81,7 @@ def see_archive(root: str) -> Archive:
 
 def see_toolchain(root: str) -> Toolchain:
     """`rt doc` leads to the kit's folder, where prover and back end stand; no path of the machine is kept."""
-    guide = first_line(asked(["rt", "doc"], root))
-    own = os.path.join(os.path.dirname(os.path.dirname(guide)), "on", platform.machine()) if guide else ""
+    own = os.path.dirname(first_line(asked(["rt", "doc"], root)))
 
     def version(*program: str) -> str:
         told = first_line(asked([os.path.join(own, *program), "--version"], root)) if own else ""

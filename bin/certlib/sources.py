@@ -6,11 +6,12 @@ from typing import List, NamedTuple, Optional, Tuple
 
 from certlib.files import clean, read_bytes, read_text
 
-ENTRY_POINTS = "crates/engine/src/lib.rt"
+ENTRY_POINTS = "crates/engine_c/src/lib.rt"
 THEOREMS = "crates/engine/proofs/theorems/Demands.antt"
 CONTRACTS = "crates/engine/specs/definitions"
 PROMISES = "docs/PROMISES.md"
 HEADER = "include/bench_engine.h"
+REFUSALS = "target/must-fail.txt"
 
 
 class Call(NamedTuple):
@@ -36,7 +37,7 @@ class Promise(NamedTuple):
 
 
 class WrongProgram(NamedTuple):
-    """A must-fail edit: its crate and name, what is wrong with the program, and whether a log says that it was refused."""
+    """A must-fail edit: its crate and name, what is wrong with the program, and whether rt ci said that it was refused."""
 
     name: str
     words: str
@@ -51,14 +52,14 @@ def find_calls(root: str) -> List[Call]:
     """The functions that the engine exports, in the order of the source."""
     text = read_text(os.path.join(root, ENTRY_POINTS)) or ""
     header = read_text(os.path.join(root, HEADER)) or ""
-    marks = list(re.finditer(r'^#\[no_mangle\]\s*\npub extern "C" fn ([A-Za-z_][A-Za-z0-9_]*)\b', text, re.M))
+    marks = list(re.finditer(r'^#\[unsafe\(no_mangle\)\]\s*\npub extern "C" fn ([A-Za-z_][A-Za-z0-9_]*)\b', text, re.M))
     ends = [mark.start() for mark in marks[1:]] + [len(text)]
     return [call_of(root, text, header, mark, end) for mark, end in zip(marks, ends)]
 
 
 def call_of(root: str, text: str, header: str, mark: "re.Match[str]", end: int) -> Call:
     name = mark.group(1)
-    contract = re.search(r"ensures\s*\{[^{}]*?\b([A-Z][A-Za-z-]*-contract)\b", text[mark.end():end])
+    contract = re.search(r"ensures\s*\{[^{}]*?\b([A-Z][A-Za-z]*Contract)\b", text[mark.end():end])
     called = contract.group(1) if contract else ""
     declared = re.search(r"\buint64_t\s+" + re.escape(name) + r"\s*\(", header) is not None
     place = "{}:{}".format(ENTRY_POINTS, line_at(text, mark.start(1)))
@@ -114,7 +115,7 @@ def promised_words(root: str) -> List[Tuple[str, str]]:
 def find_promises(root: str) -> List[Promise]:
     """Each promise with the record of the same place in the order of the theorem page."""
     text = read_text(os.path.join(root, THEOREMS)) or ""
-    records = list(re.finditer(r"^pub record (Demand-[a-z]+) :.*\n((?:[ ].*\n|\n)*)", text, re.M))
+    records = list(re.finditer(r"^pub record (Demand[A-Z][a-z]+) :.*\n((?:[ ].*\n|\n)*)", text, re.M))
     words = promised_words(root)
     if len(words) != len(records):
         return []
@@ -123,8 +124,8 @@ def find_promises(root: str) -> List[Promise]:
 
 def promise_of(text: str, title: str, words: str, record: "re.Match[str]") -> Promise:
     name = record.group(1)
-    claims = re.findall(r"^  pub ([A-Za-z-]+) :", record.group(2), re.M)
-    proof = re.search(r"^pub ([a-z-]+) : " + re.escape(name) + r"$", text, re.M)
+    claims = re.findall(r"^  pub ([A-Za-z_]+) :", record.group(2), re.M)
+    proof = re.search(r"^pub ([a-z_]+) : " + re.escape(name) + r"$", text, re.M)
     if not proof or not re.search("^" + re.escape(proof.group(1)) + " = ", text, re.M):
         return Promise(title, words, name, place_of(text, record), "", "", claims)
     return Promise(title, words, name, place_of(text, record), proof.group(1), place_of(text, proof), claims)
@@ -135,11 +136,12 @@ def place_of(text: str, found: "re.Match[str]") -> str:
 
 
 def find_wrong_programs(root: str) -> List[WrongProgram]:
+    said = (read_text(os.path.join(root, REFUSALS)) or "").splitlines()
     found = []
     for path in sorted(glob.glob(os.path.join(glob.escape(root), "crates", "*", "must-fail", "*.edit"))):
         crate = os.path.basename(os.path.dirname(os.path.dirname(path)))
-        name = os.path.basename(path)[: -len(".edit")]
-        found.append(WrongProgram(crate + "/" + name, wrong_words(read_text(path) or ""), is_refused(root, crate, name)))
+        name = crate + "/" + os.path.basename(path)[: -len(".edit")]
+        found.append(WrongProgram(name, wrong_words(read_text(path) or ""), is_refused(said, name)))
     return found
 
 
@@ -152,10 +154,9 @@ def wrong_words(edit: str) -> str:
     return "`{}` becomes `{}`".format(clean(old.group(1)), clean(new.group(1))) if old and new else "(no words)"
 
 
-def is_refused(root: str, crate: str, name: str) -> bool:
-    """Whether the last try of this edit left a log with an error, and the word that it was refused."""
-    where = os.path.join(root, "target", "must-fail", crate, name)
-    return ": error" in (read_text(os.path.join(where, ".log")) or "") and (read_text(where + ".res") or "").strip() == "refused"
+def is_refused(said: List[str], name: str) -> bool:
+    """Whether rt ci said of this edit that it was refused, and for what."""
+    return any(re.match(re.escape(name) + r"\.edit: refused, as it must be: .", line) for line in said)
 
 
 def exported_names(archive: str) -> Optional[List[str]]:

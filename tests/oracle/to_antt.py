@@ -15,43 +15,43 @@ HERE = Path(__file__).resolve().parent
 CRATES = HERE.parent.parent / "crates"
 
 TEXTS = """-- Bench texts, accepted and refused by each code. Made by tests/oracle/to_antt.py from tests/oracle/cases.json.
-use Prim.Native.Nat.{_+_, _*_}
-use mathlib.Core.Path.{_≡_, refl}
-use Rattle·text.specs.definitions.Bytes.{ascii}
-use Rattle·checking.specs.definitions.Verdict.{verdict, verdict-answer}
+use Prim.Native.Nat.{◌+◌, ◌*◌}
+use mathlib.Core.Path.{◌≡◌, refl}
+use Rattle.text.specs.definitions.Bytes.{ascii}
+use Rattle.checking.specs.definitions.Verdict.{verdict, verdict_answer}
 """
 
 CLASSES = """-- The class of each byte. Made by tests/oracle/to_antt.py from tests/oracle/classes.txt.
-use mathlib.Core.Path.{_≡_, refl}
-use mathlib.Core.List.{[], _∷_}
-use Rattle·text.specs.definitions.ByteClass.{byte-class}
-use Rattle·text.specs.contracts.ByteTables.{tabulate, at-bytes}
+use mathlib.Core.Path.{◌≡◌, refl}
+use mathlib.Core.List.{[], ◌∷◌}
+use Rattle.text.specs.definitions.ByteClass.{byte_class}
+use Rattle.text.specs.inner_contracts.ByteTables.{tabulate, at_bytes}
 """
 
 LINES = """-- Readings, and all that is printed for them. Made by tests/oracle/to_antt.py from tests/oracle/cases.json.
-use mathlib.Core.Path.{_≡_, refl}
+use mathlib.Core.Path.{◌≡◌, refl}
 use lib.Ieee as Ieee
-use Rattle·text.specs.definitions.Bytes.{ascii}
-use Rattle·replay.specs.definitions.Replay.{replay}
+use Rattle.text.specs.definitions.Bytes.{ascii}
+use Rattle.replay.specs.definitions.Replay.{replay}
 """
 
 SHEETS = """-- Day sheets. Made by tests/oracle/to_antt.py from tests/oracle/sheets.json.
-use mathlib.Core.Path.{_≡_, refl}
+use mathlib.Core.Path.{◌≡◌, refl}
 use lib.Ieee as Ieee
-use Rattle·text.specs.definitions.Bytes.{ascii}
-use Rattle·senders.specs.definitions.Answer.{refused, accepted}
-use Rattle·sheet_cases·specs.specs.definitions.SheetOf.{sheet-of}
+use Rattle.text.specs.definitions.Bytes.{ascii}
+use Rattle.senders.specs.definitions.Answer.{refused, accepted}
+use Rattle.sheet_cases.specs.definitions.SheetOf.{sheet_of}
 """
 
 TRIED = """-- Readings, and for each line that starts a cycle the rules that it tries. Made by tests/oracle/to_antt.py from tests/oracle/tried.json.
-use mathlib.Core.Path.{_≡_, refl}
-use mathlib.Core.List.{[], _∷_}
+use mathlib.Core.Path.{◌≡◌, refl}
+use mathlib.Core.List.{[], ◌∷◌}
 use lib.Ieee as Ieee
-use Rattle·text.specs.definitions.Bytes.{ascii}
-use Rattle·tried_cases·specs.specs.definitions.TriedOf.{tried-of}
+use Rattle.text.specs.definitions.Bytes.{ascii}
+use Rattle.tried_cases.specs.definitions.TriedOf.{tried_of}
 """
 
-REALS = "Ieee.add Ieee.sub Ieee.mul Ieee.div Ieee.neg Ieee.eq Ieee.ofInt Ieee.ofBits Ieee.toBits Ieee.isNan"
+REALS = "Ieee.add Ieee.sub Ieee.mul Ieee.div Ieee.neg Ieee.eq Ieee.of_int Ieee.of_bits Ieee.to_bits Ieee.is_nan"
 
 # what else is not printed is written by its number
 ESCAPES = {"\\": "\\\\", '"': '\\"', "\n": "\\n", "\t": "\\t", "\r": "\\r", "\0": "\\0"}
@@ -68,7 +68,7 @@ def quoted(text: str) -> str:
 
 def of_text(case: dict) -> str:
     code, place = case["check"]
-    return f"verdict-answer (verdict (ascii {quoted(case['bench'])})) ≡ {code} + 256 * {place}"
+    return f"verdict_answer (verdict (ascii {quoted(case['bench'])})) ≡ {code} + 256 * {place}"
 
 
 def of_readings(case: dict) -> str:
@@ -78,7 +78,7 @@ def of_readings(case: dict) -> str:
 def of_sheet(case: dict) -> str:
     texts = " ".join(f"(ascii {quoted(case[name])})" for name in ("bench", "before", "readings", "cells"))
     answer = f"refused {case['number']}" if case["number"] else f"accepted (ascii {quoted(case['sheet'])})"
-    return f"sheet-of {texts} ≡ {answer}"
+    return f"sheet_of {texts} ≡ {answer}"
 
 
 def listed(items: list) -> str:
@@ -88,7 +88,7 @@ def listed(items: list) -> str:
 
 def of_tried(case: dict) -> str:
     tried = listed([listed(rules) for rules in case["tried"]])
-    return f"tried-of (ascii {quoted(case['bench'])}) (ascii {quoted(case['readings'])}) ≡ {tried}"
+    return f"tried_of (ascii {quoted(case['bench'])}) (ascii {quoted(case['readings'])}) ≡ {tried}"
 
 
 def file_of_classes(lines: list) -> str:
@@ -96,11 +96,16 @@ def file_of_classes(lines: list) -> str:
     if [line.split(" ")[0] for line in lines] != [str(byte) for byte in range(256)]:
         raise SystemExit("classes.txt has not one line for each byte")
     table = " ∷ ".join(line.split(" ")[1] for line in lines)
-    return f"{CLASSES}\npub byte-classes : at-bytes byte-class ≡ {table} ∷ []\nunfolding tabulate byte-class\nbyte-classes = refl\n"
+    return f"{CLASSES}\npub byte_classes : at_bytes byte_class ≡ {table} ∷ []\nunfolding tabulate byte_class\nbyte_classes = refl\n"
+
+
+def named(case: dict) -> str:
+    """The case's name as antt's lemmas are named."""
+    return case["name"].replace("-", "_")
 
 
 def file_of(imports: str, cases: list, statement, opened: str) -> str:
-    parts = [f"pub {case['name']} : {statement(case)}\nunfolding {opened}\n{case['name']} = refl\n" for case in cases]
+    parts = [f"pub {named(case)} : {statement(case)}\nunfolding {opened}\n{named(case)} = refl\n" for case in cases]
     return "\n".join([imports, *parts])
 
 
@@ -120,10 +125,10 @@ def main() -> int:
     classes = (HERE / "classes.txt").read_text().splitlines()
     files = {
         "stored_texts/proofs/theorems/StoredClasses.antt": file_of_classes(classes),
-        "stored_texts/proofs/theorems/StoredTexts.antt": file_of(TEXTS, texts, of_text, "verdict verdict-answer ascii"),
+        "stored_texts/proofs/theorems/StoredTexts.antt": file_of(TEXTS, texts, of_text, "verdict verdict_answer ascii"),
         "replay_cases/proofs/theorems/StoredLines.antt": file_of(LINES, runs, of_readings, "replay ascii\n    " + REALS),
-        "sheet_cases/proofs/theorems/StoredSheets.antt": file_of(SHEETS, sheets, of_sheet, "sheet-of ascii Ieee.lt\n    " + REALS),
-        "tried_cases/proofs/theorems/StoredTried.antt": file_of(TRIED, tried, of_tried, "tried-of ascii\n    " + REALS),
+        "sheet_cases/proofs/theorems/StoredSheets.antt": file_of(SHEETS, sheets, of_sheet, "sheet_of ascii Ieee.lt\n    " + REALS),
+        "tried_cases/proofs/theorems/StoredTried.antt": file_of(TRIED, tried, of_tried, "tried_of ascii\n    " + REALS),
     }
     for name, text in files.items():
         path = CRATES / name
