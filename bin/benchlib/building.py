@@ -5,6 +5,7 @@ import re
 import subprocess
 from typing import Iterable, List, Optional
 
+from .interrupts import starting
 from .output import STDERR, Failure, reason, remove, tell
 
 ROOT = os.path.dirname(os.path.dirname(os.path.dirname(os.path.realpath(__file__))))
@@ -16,15 +17,17 @@ TOOL_SECONDS = 5.0  # for one that is interrupted to end by itself
 
 def run_tool(words: List[str], folder: Optional[str] = None) -> bool:
     """Standard output is kept for the rows: what a tool says goes to standard error."""
+    tool = None
     try:
-        tool = subprocess.Popen(words, cwd=folder, stdin=subprocess.DEVNULL, stdout=STDERR)
+        with starting():
+            tool = subprocess.Popen(words, cwd=folder, stdin=subprocess.DEVNULL, stdout=STDERR)
+        return tool.wait() == 0
     except OSError as error:
         tell('%s: %s' % (words[0], reason(error)))
         return False
-    try:
-        return tool.wait() == 0
     finally:
-        end_tool(tool)
+        if tool is not None:
+            end_tool(tool)
 
 
 def end_tool(tool: subprocess.Popen) -> None:

@@ -1,8 +1,12 @@
 """Signals that end a run: at once, with what is open closed, or in good order for one that follows its readings."""
 import os
 import signal
+from contextlib import contextmanager
+from typing import Iterator, List, Optional
 
 ENDING = (signal.SIGINT, signal.SIGTERM, signal.SIGHUP)
+
+_waiting: Optional[List[int]] = None  # signals that came while a program is started; None while none is
 
 
 class Interrupted(BaseException):
@@ -14,9 +18,26 @@ class Interrupted(BaseException):
 
 
 def _raise(number, _frame) -> None:
+    if _waiting is not None:
+        _waiting.append(number)
+        return
     for each in ENDING:  # what is closed now is not to be interrupted again
         signal.signal(each, signal.SIG_IGN)
     raise Interrupted(number)
+
+
+@contextmanager
+def starting() -> Iterator[None]:
+    """A signal waits until this is left. A program that is started here is known by then to whoever ends it; it would else run on, and tell of
+    a reader who is gone."""
+    global _waiting
+    _waiting = []
+    try:
+        yield
+    finally:
+        came, _waiting = _waiting, None
+        if came:
+            _raise(came[0], None)
 
 
 def end_at_once() -> None:

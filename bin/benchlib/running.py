@@ -5,7 +5,7 @@ import subprocess
 from typing import List, Optional, Sequence, Tuple
 
 from .folders import BENCH_TEXT_MOST
-from .interrupts import GoodOrder, ignore_in_child
+from .interrupts import GoodOrder, ignore_in_child, starting
 from .output import STDOUT, Failure, ReaderGone, is_pipe, reason, remove, say, write_rows
 from .report import Report
 from .source import CHUNK, Source, SourceFault
@@ -58,6 +58,13 @@ def start(words: Sequence[str], **options) -> subprocess.Popen:
         raise Failure('%s could not be run: %s' % (words[0], reason(error))) from None
 
 
+def end(process: subprocess.Popen) -> None:
+    """Its output is closed last: it is not to find its reader gone."""
+    process.kill()
+    process.wait()
+    process.stdout.close()
+
+
 def status_of(process: subprocess.Popen) -> int:
     code = process.wait()
     return code if code >= 0 else KILLED - code
@@ -85,8 +92,9 @@ class Run:
         process = None
         try:
             workplace.make(text)
-            process = start(words, cwd=workplace.path, stdin=subprocess.PIPE, pass_fds=tuple(descriptors),
-                            preexec_fn=ignore_in_child if self.follow else None)
+            with starting():
+                process = start(words, cwd=workplace.path, stdin=subprocess.PIPE, pass_fds=tuple(descriptors),
+                                preexec_fn=ignore_in_child if self.follow else None)
             self._workplace = workplace
             self._rows = process.stdout.fileno()
             self._stdin = process.stdin
@@ -97,9 +105,7 @@ class Run:
         finally:
             if process is not None:
                 self._close_feed()
-                process.kill()
-                process.wait()
-                process.stdout.close()
+                end(process)
             workplace.remove()
 
     def _pass_all(self) -> None:
@@ -223,9 +229,11 @@ class Run:
 
 def pass_on(words: Sequence[str], folder: str) -> Tuple[bytes, int]:
     """Runs a program in the folder and passes its output on as it comes. Gives the beginning of what it printed, and its status."""
-    process = start(words, cwd=folder)
+    process = None
     beginning = b''
     try:
+        with starting():
+            process = start(words, cwd=folder)
         while True:
             chunk = os.read(process.stdout.fileno(), CHUNK)
             if not chunk:
@@ -233,6 +241,5 @@ def pass_on(words: Sequence[str], folder: str) -> Tuple[bytes, int]:
             beginning = beginning or chunk
             write_rows(chunk)
     finally:
-        process.kill()
-        process.wait()
-        process.stdout.close()
+        if process is not None:
+            end(process)

@@ -53,7 +53,8 @@ class Tests:
         options.setdefault('stdin', subprocess.DEVNULL)
         options.setdefault('stdout', subprocess.PIPE)
         options.setdefault('stderr', subprocess.PIPE)
-        return Watched(subprocess.Popen([BENCH] + list(words), env=self.environment(), bufsize=0, **options))
+        options.setdefault('env', self.environment())
+        return Watched(subprocess.Popen([BENCH] + list(words), bufsize=0, **options))
 
     def run(self, *words, data=None, **options):
         """The status, the rows, the words."""

@@ -100,6 +100,27 @@ def at_once():
         tests.check('signal %d while it tells something' % number, status == -number and b'Traceback' not in words, status, words[-600:])
 
 
+SIGNAL_ON_START = '''
+import os, subprocess
+plain = subprocess.Popen.__init__
+def start(self, *words, **options):
+    plain(self, *words, **options)
+    os.kill(os.getpid(), int(os.environ['SIGNAL_ON_START']))
+subprocess.Popen.__init__ = start
+'''
+
+
+def while_starting():
+    """A signal may come when the program runs and bin/bench does not know of it yet: it ends the program first, which so says nothing."""
+    hook = tests.folder('signal-on-start')
+    write(os.path.join(hook, 'sitecustomize.py'), SIGNAL_ON_START.encode())
+    folder = tests.folder('starting', PEDAL, NAMES + b'a 1 true 5\n')
+    for number in (signal.SIGINT, signal.SIGTERM, signal.SIGHUP):
+        for option in ([], ['-f']):
+            run = tests.start(*option, folder, env=dict(tests.environment(), PYTHONPATH=hook, SIGNAL_ON_START=str(int(number))))
+            tests.equal('signal %d while the program is started %s' % (number, option), run.end(), (-number, b'', b''))
+
+
 def changed_file():
     """A file that is cut, replaced or removed is no longer the one that is followed."""
     def cut(path):
@@ -266,7 +287,7 @@ def odd_bytes():
         tests.check('odd readings %d' % turn, good and all(byte >= 32 or byte == 10 for byte in words), text, rows, wanted, status, words)
 
 
-for test in (growing, growing_refused, unfinished_names, to_the_group, at_once, changed_file, named_pipes, standard_input, refused_early,
-             reader_leaves, closed_descriptors, long_lines, slow_reader, odd_bytes):
+for test in (growing, growing_refused, unfinished_names, to_the_group, at_once, while_starting, changed_file, named_pipes, standard_input,
+             refused_early, reader_leaves, closed_descriptors, long_lines, slow_reader, odd_bytes):
     test()
 sys.exit(tests.end())
