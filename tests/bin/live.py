@@ -100,7 +100,7 @@ def at_once():
         tests.check('signal %d while it tells something' % number, status == -number and b'Traceback' not in words, status, words[-600:])
 
 
-SIGNAL_ON_START = '''
+SIGNAL_ON_START = b'''
 import os, subprocess
 plain = subprocess.Popen.__init__
 def start(self, *words, **options):
@@ -108,16 +108,26 @@ def start(self, *words, **options):
     os.kill(os.getpid(), int(os.environ['SIGNAL_ON_START']))
 subprocess.Popen.__init__ = start
 '''
+# Once its readings end it waits until whoever left it behind is gone.
+LEFT_BEHIND = b'''#!/bin/sh
+trap '' PIPE
+cat >/dev/null
+sleep 0.5
+echo by n 2>/dev/null || echo left behind >&2
+'''
 
 
 def while_starting():
-    """A signal may come when the program runs and bin/bench does not know of it yet: it ends the program first, which so says nothing."""
+    """A signal may come when the program runs and bin/bench does not know of it yet: the program is ended, and not left without a reader."""
     hook = tests.folder('signal-on-start')
-    write(os.path.join(hook, 'sitecustomize.py'), SIGNAL_ON_START.encode())
-    folder = tests.folder('starting', PEDAL, NAMES + b'a 1 true 5\n')
+    write(os.path.join(hook, 'sitecustomize.py'), SIGNAL_ON_START)
+    program = os.path.join(hook, 'program')
+    write(program, LEFT_BEHIND)
+    os.chmod(program, 0o755)
+    folder = tests.folder('starting', PEDAL, NAMES)
     for number in (signal.SIGINT, signal.SIGTERM, signal.SIGHUP):
         for option in ([], ['-f']):
-            run = tests.start(*option, folder, env=dict(tests.environment(), PYTHONPATH=hook, SIGNAL_ON_START=str(int(number))))
+            run = tests.start(*option, folder, env=dict(tests.environment(), PYTHONPATH=hook, SIGNAL_ON_START=str(int(number)), BENCH_PROGRAM=program))
             tests.equal('signal %d while the program is started %s' % (number, option), run.end(), (-number, b'', b''))
 
 
