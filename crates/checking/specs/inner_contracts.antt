@@ -1,5 +1,6 @@
 -- What inner functions promise, and the forms of their memory: nobody has to believe these.
 pub mod Directory
+pub mod OfColumns
 pub mod FoundFaults
 pub mod DirectoryReads
 pub mod CountScan

@@ -5,7 +5,9 @@ ghost use Rattle.checking.specs.inner_contracts.FoundFaults.{found_as};
 ghost use Rattle.checking.specs.inner_contracts.FileWalk.{RulesFound, FileFound, or_else, Judged};
 ghost use Rattle.checking.specs.inner_contracts.CheckedBench.{Checks};
 ghost use Rattle.checking.specs.inner_contracts.CheckSteps.{concluded, Refuses, Settles};
+ghost use Rattle.checking.specs.inner_contracts.OfColumns.{of_file};
 
+use crate::columns::Columns;
 use crate::counts::count_fault;
 use crate::directory::build;
 use crate::entities::{entity_faults, link_entities};
@@ -14,7 +16,6 @@ use crate::interfaces::interface_faults;
 use crate::layout::{DIRECTORY, MOST_BYTES, MOST_RULES, RULE_COUNT_ROW, RULE_ROWS};
 use crate::priorities::priority_fault;
 use crate::rules::rule_faults;
-use crate::table::row;
 use text::{Syntax, read};
 
 // What a text is: accepted, with so many tokens in the columns; refused with a code, and the offset; or there is too little room in
@@ -30,10 +31,10 @@ pub enum Checked {
 
 // The earliest faults of the rules: of the names in them, and of their kinds.
 #[tactic(auto, using(crate::proofs::steps::RulesLaws::ruled_all))]
-fn rules_faults(text: &[u8], classes: &[u8], offsets: &[u16], lengths: &[u8], d: &[u16]) -> Faulted
-    ensures { RulesFound text.now classes.now offsets.now lengths.now d.now result }
+fn rules_faults(columns: &Columns<'_>) -> Faulted
+    ensures { of_file RulesFound columns.now result }
 {
-    let count = row(d, RULE_COUNT_ROW);
+    let count = columns.row(RULE_COUNT_ROW);
     let mut names = Found::Nothing;
     let mut kinds = Found::Nothing;
     let mut k = 0;
@@ -41,8 +42,8 @@ fn rules_faults(text: &[u8], classes: &[u8], offsets: &[u16], lengths: &[u8], d:
         if count <= k {
             return Faulted { names, kinds };
         }
-        let at = row(d, RULE_ROWS + k);
-        let one = rule_faults(text, classes, offsets, lengths, d, at);
+        let at = columns.row(RULE_ROWS + k);
+        let one = rule_faults(columns, at);
         let one_names = one.names;
         let one_kinds = one.kinds;
         names = earlier(names, one_names);
@@ -54,12 +55,12 @@ fn rules_faults(text: &[u8], classes: &[u8], offsets: &[u16], lengths: &[u8], d:
 
 // The earliest faults of a file within the counts: of its names, and of its kinds.
 #[tactic(auto, using(crate::proofs::steps::RulesLaws::file_told))]
-fn file_faults(text: &[u8], classes: &[u8], offsets: &[u16], lengths: &[u8], d: &[u16]) -> Faulted
-    ensures { FileFound text.now classes.now offsets.now lengths.now d.now result }
+fn file_faults(columns: &Columns<'_>) -> Faulted
+    ensures { of_file FileFound columns.now result }
 {
-    let interfaces = interface_faults(text, offsets, lengths, d);
-    let entities = entity_faults(text, classes, offsets, lengths, d);
-    let rules = rules_faults(text, classes, offsets, lengths, d);
+    let interfaces = interface_faults(columns);
+    let entities = entity_faults(columns);
+    let rules = rules_faults(columns);
     let entity_names = entities.names;
     let entity_kinds = entities.kinds;
     let rule_names = rules.names;
@@ -96,8 +97,15 @@ fn judged(
     let priorities = priority_fault(classes, offsets, values);
     let counts = count_fault(classes, offsets);
     build(classes, d);
-    link_entities(text, offsets, lengths, d);
-    let found = file_faults(text, classes, offsets, lengths, d);
+    link_entities(text, classes, offsets, lengths, d);
+    let columns = Columns {
+        text,
+        classes,
+        offsets,
+        lengths,
+        d,
+    };
+    let found = file_faults(&columns);
     let names = found.names;
     let kinds = found.kinds;
     otherwise(priorities, otherwise(counts, otherwise(names, kinds)))

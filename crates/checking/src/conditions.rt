@@ -5,13 +5,15 @@ ghost use Rattle.text.specs.definitions.Grammar.{target_reader, filter_reader, t
 ghost use Rattle.text.specs.definitions.Grammar.{call_reader, call_after};
 ghost use Rattle.checking.specs.inner_contracts.RuleParts.{NothingFound, Matched, After, Joined, PlaceWalk, FilterWalk, TestWalk, ConditionWalk};
 ghost use Rattle.checking.specs.inner_contracts.RuleParts.{CallWalk, CallsWalk};
+ghost use Rattle.checking.specs.inner_contracts.OfColumns.{of_file};
 
+use crate::columns::Columns;
 use crate::expressions::{Kinded, expression, kinds_fit};
 use crate::faults::{Found, earlier, unless};
-use crate::meanings::{cell_of, declared, meaning_of, offset};
+use crate::meanings::{cell_of, declared, meaning_of};
 use text::classes::{ACTION, AND, ATTRIBUTE, CHANGED, COLON, COMMA, EVENT, OR, ROUND_OPEN, WITH};
 use text::grammar::OPENERS;
-use text::walks::{class_at, skip};
+use text::walks::skip;
 
 // A part of a rule up to token number `next`: its earliest faults.
 #[derive(Clone, Copy)]
@@ -83,30 +85,22 @@ pub fn joined(p: Part, q: Part) -> Part
 }
 
 // `name`, or `name : interface`, which declares a variable.
-fn target_place(
-    text: &[u8],
-    classes: &[u8],
-    offsets: &[u16],
-    lengths: &[u8],
-    d: &[u16],
-    start: usize,
-    at: usize,
-) -> Place
-    ensures { PlaceWalk text.now classes.now offsets.now lengths.now d.now start
+fn target_place(columns: &Columns<'_>, start: usize, at: usize) -> Place
+    ensures { of_file PlaceWalk columns.now start
         target_reader at result }
 {
-    let size = classes.len();
-    let owner = meaning_of(text, classes, offsets, lengths, d, start, at);
+    let size = columns.classes.len();
+    let owner = meaning_of(columns, start, at);
     let colon = skip(at, size);
-    if class_at(classes, colon) != COLON {
+    if columns.class_at(colon) != COLON {
         return Place {
             next: colon,
             face: owner.face,
-            names: unless(owner.known, 16, offset(offsets, at)),
+            names: unless(owner.known, 16, columns.offset(at)),
         };
     }
     let name = skip(colon, size);
-    let names = declared(text, offsets, lengths, d, at, name);
+    let names = declared(columns, at, name);
     Place {
         next: skip(name, size),
         face: owner.face,
@@ -115,132 +109,67 @@ fn target_place(
 }
 
 // After a target: nothing, or `with attribute = expression`.
-fn filter(
-    text: &[u8],
-    classes: &[u8],
-    offsets: &[u16],
-    lengths: &[u8],
-    d: &[u16],
-    start: usize,
-    target: Place,
-    depth: u32,
-) -> Part
-    ensures { FilterWalk text.now classes.now offsets.now lengths.now d.now start
+fn filter(columns: &Columns<'_>, start: usize, target: Place, depth: u32) -> Part
+    ensures { of_file FilterWalk columns.now start
         target.face (filter_reader depth) target.next result }
 {
     let at = target.next;
-    if class_at(classes, at) != WITH {
+    if columns.class_at(at) != WITH {
         return nothing(at);
     }
-    let size = classes.len();
+    let size = columns.classes.len();
     let name = skip(at, size);
     let equals = skip(name, size);
     let face = target.face;
-    let found = cell_of(text, classes, offsets, lengths, d, face, ATTRIBUTE, name);
+    let found = cell_of(columns, face, ATTRIBUTE, name);
     let wrong = found.names;
-    let e = expression(
-        text,
-        classes,
-        offsets,
-        lengths,
-        d,
-        start,
-        skip(equals, size),
-        depth,
-    );
-    after(wrong, matched(found.kind, offset(offsets, equals), e))
+    let e = expression(columns, start, skip(equals, size), depth);
+    after(wrong, matched(found.kind, columns.offset(equals), e))
 }
 
 // After `value`: `changed`, or `= expression` beside an event of some kind.
-fn test(
-    text: &[u8],
-    classes: &[u8],
-    offsets: &[u16],
-    lengths: &[u8],
-    d: &[u16],
-    start: usize,
-    kind: u8,
-    at: usize,
-    depth: u32,
-) -> Part
-    ensures { TestWalk text.now classes.now offsets.now lengths.now d.now start
+fn test(columns: &Columns<'_>, start: usize, kind: u8, at: usize, depth: u32) -> Part
+    ensures { of_file TestWalk columns.now start
         kind (test_reader depth) at result }
 {
-    let inside = skip(at, classes.len());
-    if class_at(classes, at) == CHANGED {
+    let inside = skip(at, columns.classes.len());
+    if columns.class_at(at) == CHANGED {
         return nothing(inside);
     }
-    let e = expression(text, classes, offsets, lengths, d, start, inside, depth);
-    matched(kind, offset(offsets, at), e)
+    let e = expression(columns, start, inside, depth);
+    matched(kind, columns.offset(at), e)
 }
 
-fn clause(
-    text: &[u8],
-    classes: &[u8],
-    offsets: &[u16],
-    lengths: &[u8],
-    d: &[u16],
-    start: usize,
-    at: usize,
-    depth: u32,
-) -> Part
-    ensures { ConditionWalk text.now classes.now offsets.now lengths.now d.now start
+fn clause(columns: &Columns<'_>, start: usize, at: usize, depth: u32) -> Part
+    ensures { of_file ConditionWalk columns.now start
         (clause_reader depth) at result }
 {
-    let size = classes.len();
+    let size = columns.classes.len();
     let name = skip(at, size);
     let from = skip(name, size);
-    let target = target_place(text, classes, offsets, lengths, d, start, skip(from, size));
+    let target = target_place(columns, start, skip(from, size));
     let face = target.face;
     let names = target.names;
-    let found = cell_of(text, classes, offsets, lengths, d, face, EVENT, name);
+    let found = cell_of(columns, face, EVENT, name);
     let wrong = found.names;
-    let f = filter(text, classes, offsets, lengths, d, start, target, depth);
-    let t = test(
-        text,
-        classes,
-        offsets,
-        lengths,
-        d,
-        start,
-        found.kind,
-        skip(f.next, size),
-        depth,
-    );
+    let f = filter(columns, start, target, depth);
+    let t = test(columns, start, found.kind, skip(f.next, size), depth);
     after(wrong, after(names, joined(f, t)))
 }
 
 #[cycle(atom_condition_conjunction)]
-fn atom(
-    text: &[u8],
-    classes: &[u8],
-    offsets: &[u16],
-    lengths: &[u8],
-    d: &[u16],
-    start: usize,
-    at: usize,
-    depth: u32,
-) -> Part
-    ensures { ConditionWalk text.now classes.now offsets.now lengths.now d.now start
+fn atom(columns: &Columns<'_>, start: usize, at: usize, depth: u32) -> Part
+    ensures { of_file ConditionWalk columns.now start
         (atom_reader depth) at result }
 {
     if depth == 0 {
-        return clause(text, classes, offsets, lengths, d, start, at, depth);
+        return clause(columns, start, at, depth);
     }
-    if class_at(classes, at) != ROUND_OPEN {
-        return clause(text, classes, offsets, lengths, d, start, at, depth);
+    if columns.class_at(at) != ROUND_OPEN {
+        return clause(columns, start, at, depth);
     }
-    let size = classes.len();
-    let inside = condition(
-        text,
-        classes,
-        offsets,
-        lengths,
-        d,
-        start,
-        skip(at, size),
-        depth - 1,
-    );
+    let size = columns.classes.len();
+    let inside = condition(columns, start, skip(at, size), depth - 1);
     let names = inside.names;
     let kinds = inside.kinds;
     Part {
@@ -251,29 +180,16 @@ fn atom(
 }
 
 #[cycle(atom_condition_conjunction)]
-fn conjunction(
-    text: &[u8],
-    classes: &[u8],
-    offsets: &[u16],
-    lengths: &[u8],
-    d: &[u16],
-    start: usize,
-    at: usize,
-    depth: u32,
-) -> Part
-    ensures { ConditionWalk text.now classes.now offsets.now lengths.now d.now start
+fn conjunction(columns: &Columns<'_>, start: usize, at: usize, depth: u32) -> Part
+    ensures { of_file ConditionWalk columns.now start
         (conjunction_reader depth) at result }
 {
-    let mut left = atom(text, classes, offsets, lengths, d, start, at, depth);
-    while class_at(classes, left.next) == AND {
+    let mut left = atom(columns, start, at, depth);
+    while columns.class_at(left.next) == AND {
         let right = atom(
-            text,
-            classes,
-            offsets,
-            lengths,
-            d,
+            columns,
             start,
-            skip(left.next, classes.len()),
+            skip(left.next, columns.classes.len()),
             depth,
         );
         left = joined(left, right);
@@ -282,29 +198,16 @@ fn conjunction(
 }
 
 #[cycle(atom_condition_conjunction)]
-pub fn condition(
-    text: &[u8],
-    classes: &[u8],
-    offsets: &[u16],
-    lengths: &[u8],
-    d: &[u16],
-    start: usize,
-    at: usize,
-    depth: u32,
-) -> Part
-    ensures { ConditionWalk text.now classes.now offsets.now lengths.now d.now start
+pub fn condition(columns: &Columns<'_>, start: usize, at: usize, depth: u32) -> Part
+    ensures { of_file ConditionWalk columns.now start
         (condition_reader depth) at result }
 {
-    let mut left = conjunction(text, classes, offsets, lengths, d, start, at, depth);
-    while class_at(classes, left.next) == OR {
+    let mut left = conjunction(columns, start, at, depth);
+    while columns.class_at(left.next) == OR {
         let right = conjunction(
-            text,
-            classes,
-            offsets,
-            lengths,
-            d,
+            columns,
             start,
-            skip(left.next, classes.len()),
+            skip(left.next, columns.classes.len()),
             depth,
         );
         left = joined(left, right);
@@ -312,66 +215,33 @@ pub fn condition(
     left
 }
 
-pub fn call(
-    text: &[u8],
-    classes: &[u8],
-    offsets: &[u16],
-    lengths: &[u8],
-    d: &[u16],
-    start: usize,
-    at: usize,
-) -> Part
-    ensures { CallWalk text.now classes.now offsets.now lengths.now d.now start
+pub fn call(columns: &Columns<'_>, start: usize, at: usize) -> Part
+    ensures { of_file CallWalk columns.now start
         call_reader at result }
 {
-    let size = classes.len();
+    let size = columns.classes.len();
     let name = skip(at, size);
     let open = skip(name, size);
-    let e = expression(
-        text,
-        classes,
-        offsets,
-        lengths,
-        d,
-        start,
-        skip(open, size),
-        OPENERS,
-    );
+    let e = expression(columns, start, skip(open, size), OPENERS);
     let close = skip(e.next, size);
-    let target = target_place(text, classes, offsets, lengths, d, start, skip(close, size));
+    let target = target_place(columns, start, skip(close, size));
     let face = target.face;
     let names = target.names;
-    let found = cell_of(text, classes, offsets, lengths, d, face, ACTION, name);
+    let found = cell_of(columns, face, ACTION, name);
     let wrong = found.names;
-    let f = filter(text, classes, offsets, lengths, d, start, target, OPENERS);
-    let first = matched(found.kind, offset(offsets, open), e);
+    let f = filter(columns, start, target, OPENERS);
+    let first = matched(found.kind, columns.offset(open), e);
     after(wrong, joined(first, after(names, f)))
 }
 
 // The calls after the first, each after a `,`.
-pub fn further_calls(
-    text: &[u8],
-    classes: &[u8],
-    offsets: &[u16],
-    lengths: &[u8],
-    d: &[u16],
-    start: usize,
-    at: usize,
-) -> Part
-    ensures { CallsWalk text.now classes.now offsets.now lengths.now d.now start
+pub fn further_calls(columns: &Columns<'_>, start: usize, at: usize) -> Part
+    ensures { of_file CallsWalk columns.now start
         (many Tokens.COMMA call_after) at result }
 {
     let mut before = nothing(at);
-    while class_at(classes, before.next) == COMMA {
-        let c = call(
-            text,
-            classes,
-            offsets,
-            lengths,
-            d,
-            start,
-            skip(before.next, classes.len()),
-        );
+    while columns.class_at(before.next) == COMMA {
+        let c = call(columns, start, skip(before.next, columns.classes.len()));
         before = joined(before, c);
     }
     before

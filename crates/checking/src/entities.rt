@@ -3,7 +3,9 @@ ghost use Rattle.std.specs.Prelude.{◌≡◌};
 ghost use Rattle.checking.specs.inner_contracts.DeclarationWalk.{EntitiesLinked, literal_class, AssignmentEnd, Sets, AttributeMember};
 ghost use Rattle.checking.specs.inner_contracts.DeclarationWalk.{AttributeFound, KindFound, AssignmentsFound, UnsetFound, EntityFound};
 ghost use Rattle.checking.specs.inner_contracts.DeclarationWalk.{EntitiesFound};
+ghost use Rattle.checking.specs.inner_contracts.OfColumns.{of_file, of_tokens};
 
+use crate::columns::Columns;
 use crate::faults::{Faulted, Found, earlier, unless};
 use crate::interfaces::repeated;
 use crate::layout::{
@@ -11,15 +13,13 @@ use crate::layout::{
     INTERFACE_COUNT_ROW, INTERFACE_ROWS_32, MEMBER_COUNT_ROWS, MOST_ENTITIES, MOST_ENTITIES_8,
     MOST_INTERFACES_8, MOST_MEMBERS, NO_INTERFACE, NO_MEMBER,
 };
-use crate::table::{
-    first_named, member_at, member_kind, member_number, member_sort, row, same_name,
-};
+use crate::table::row;
 use text::classes;
 use text::walks::class_at;
 
 // Writes the interface of each entity into the directory, by its number; NO_INTERFACE if the file has none of that name.
 #[tactic(auto, using(crate::proofs::steps::LinkLaws::not_linked, crate::proofs::steps::LinkLaws::linking_none))]
-pub fn link_entities(text: &[u8], offsets: &[u16], lengths: &[u8], d: &mut [u16])
+pub fn link_entities(text: &[u8], classes: &[u8], offsets: &[u16], lengths: &[u8], d: &mut [u16])
     ensures { EntitiesLinked text.now offsets.now lengths.now d.old d.new }
 {
     if d.len() < DIRECTORY {
@@ -33,16 +33,14 @@ pub fn link_entities(text: &[u8], offsets: &[u16], lengths: &[u8], d: &mut [u16]
             return;
         }
         let i = row(d, ENTITY_ROWS + e) + 3;
-        let face = first_named(
+        let columns = Columns {
             text,
+            classes,
             offsets,
             lengths,
             d,
-            INTERFACE_ROWS_32,
-            interfaces,
-            MOST_INTERFACES_8,
-            i,
-        );
+        };
+        let face = columns.first_named(INTERFACE_ROWS_32, interfaces, MOST_INTERFACES_8, i);
         d[ENTITY_INTERFACE_ROWS + e] = face as u16;
         e += 1;
     }
@@ -94,101 +92,70 @@ pub fn assignment_end(classes: &[u8], q: usize) -> usize
 
 // Does an assignment from token number `from` up to number `to` set the name of token number i?
 #[tactic(auto, using(crate::proofs::laws::AssignmentLaws::looking_turns))]
-fn sets(
-    text: &[u8],
-    classes: &[u8],
-    offsets: &[u16],
-    lengths: &[u8],
-    from: usize,
-    to: usize,
-    i: usize,
-) -> bool
-    ensures { Sets text.now classes.now offsets.now lengths.now from to i result }
+fn sets(columns: &Columns<'_>, from: usize, to: usize, i: usize) -> bool
+    ensures { of_tokens Sets columns.now from to i result }
 {
     let mut q = from;
     while q < to {
-        if classes.len() <= q {
+        if columns.classes.len() <= q {
             return false;
         }
-        if same_name(text, offsets, lengths, i, q) {
+        if columns.same_name(i, q) {
             return true;
         }
-        q = assignment_end(classes, q) + 1;
+        q = assignment_end(columns.classes, q) + 1;
     }
     false
 }
 
 // Is member number m of interface number `face` an attribute?
 #[tactic(auto, using(crate::proofs::laws::AssignmentLaws::no_attribute, crate::proofs::laws::AssignmentLaws::attribute_told))]
-fn is_attribute(classes: &[u8], d: &[u16], face: usize, m: usize) -> bool
-    ensures { AttributeMember classes.now d.now face m result }
+fn is_attribute(columns: &Columns<'_>, face: usize, m: usize) -> bool
+    ensures { AttributeMember columns.now.classes.now columns.now.d.now face m result }
 {
     if NO_MEMBER <= m {
         return false;
     }
-    member_sort(classes, d, face, m) == classes::ATTRIBUTE
+    columns.member_sort(face, m) == classes::ATTRIBUTE
 }
 
 // The fault of the name at token number q, member number m, if it is no attribute of interface number `face`.
 #[tactic(auto, using(crate::proofs::laws::AssignmentLaws::attribute_unasked, crate::proofs::laws::AssignmentLaws::attribute_asked), unfolding(crate::specs::inner_contracts::FoundFaults::found_as))]
-fn attribute_fault(
-    classes: &[u8],
-    offsets: &[u16],
-    d: &[u16],
-    face: usize,
-    m: usize,
-    q: usize,
-) -> Found
-    ensures { AttributeFound classes.now offsets.now d.now face m q result }
+fn attribute_fault(columns: &Columns<'_>, face: usize, m: usize, q: usize) -> Found
+    ensures { AttributeFound columns.now.classes.now columns.now.offsets.now columns.now.d.now face m q result }
 {
-    if row(d, INTERFACE_COUNT_ROW) <= face {
+    if columns.row(INTERFACE_COUNT_ROW) <= face {
         return Found::Nothing;
     }
-    let at = row(offsets, q) as u32;
-    unless(is_attribute(classes, d, face, m), 16, at)
+    let at = columns.offset(q);
+    unless(is_attribute(columns, face, m), 16, at)
 }
 
 // The fault at the `=` of an assignment to member number m, if its literal, which ends at token number `last`, has another kind.
 #[tactic(auto, using(crate::proofs::laws::AssignmentLaws::kind_unasked, crate::proofs::laws::AssignmentLaws::kind_asked), unfolding(crate::specs::inner_contracts::FoundFaults::found_as))]
-fn kind_fault(
-    classes: &[u8],
-    offsets: &[u16],
-    d: &[u16],
-    face: usize,
-    m: usize,
-    equals: usize,
-    last: usize,
-) -> Found
-    ensures { KindFound classes.now offsets.now d.now face m equals last result }
+fn kind_fault(columns: &Columns<'_>, face: usize, m: usize, equals: usize, last: usize) -> Found
+    ensures { KindFound columns.now.classes.now columns.now.offsets.now columns.now.d.now face m equals last result }
 {
     if NO_MEMBER <= m {
         return Found::Nothing;
     }
-    let kind = member_kind(classes, d, face, m);
-    let given = literal_kind(class_at(classes, last));
-    let at = row(offsets, equals) as u32;
+    let kind = columns.member_kind(face, m);
+    let given = literal_kind(columns.class_at(last));
+    let at = columns.offset(equals);
     unless(kind == given, 18, at)
 }
 
 // The assignments from token number `from` on, of an entity with interface number `face`.
 #[tactic(auto, using(crate::proofs::steps::BodyLaws::assigning_turns), unfolding(crate::specs::inner_contracts::FoundFaults::found_as))]
-fn assignment_faults(
-    text: &[u8],
-    classes: &[u8],
-    offsets: &[u16],
-    lengths: &[u8],
-    d: &[u16],
-    face: usize,
-    from: usize,
-) -> Assigned
-    ensures { AssignmentsFound text.now classes.now offsets.now lengths.now d.now face from result }
+fn assignment_faults(columns: &Columns<'_>, face: usize, from: usize) -> Assigned
+    ensures { of_file AssignmentsFound columns.now face from result }
 {
     let mut again = Found::Nothing;
     let mut members = Found::Nothing;
     let mut kinds = Found::Nothing;
     let mut q = from;
-    while q < classes.len() {
-        if class_at(classes, q) != classes::NAME {
+    while q < columns.classes.len() {
+        if columns.class_at(q) != classes::NAME {
             return Assigned {
                 again,
                 members,
@@ -196,13 +163,13 @@ fn assignment_faults(
                 end: q,
             };
         }
-        let at = row(offsets, q) as u32;
-        let before = sets(text, classes, offsets, lengths, from, q, q);
+        let at = columns.offset(q);
+        let before = sets(columns, from, q, q);
         again = earlier(again, unless(!before, 15, at));
-        let m = member_number(text, offsets, lengths, d, face, q);
-        members = earlier(members, attribute_fault(classes, offsets, d, face, m, q));
-        let last = assignment_end(classes, q);
-        kinds = earlier(kinds, kind_fault(classes, offsets, d, face, m, q + 1, last));
+        let m = columns.member_number(face, q);
+        members = earlier(members, attribute_fault(columns, face, m, q));
+        let last = assignment_end(columns.classes, q);
+        kinds = earlier(kinds, kind_fault(columns, face, m, q + 1, last));
         q = last + 1;
     }
     Assigned {
@@ -215,22 +182,13 @@ fn assignment_faults(
 
 // The fault at the `}`, token number `to`, of an entity that leaves out an attribute of interface number `face`.
 #[tactic(auto, using(crate::proofs::steps::UnsetLaws::settled_turns), unfolding(crate::specs::inner_contracts::FoundFaults::found_as))]
-fn unset_fault(
-    text: &[u8],
-    classes: &[u8],
-    offsets: &[u16],
-    lengths: &[u8],
-    d: &[u16],
-    face: usize,
-    from: usize,
-    to: usize,
-) -> Found
-    ensures { UnsetFound text.now classes.now offsets.now lengths.now d.now face from to result }
+fn unset_fault(columns: &Columns<'_>, face: usize, from: usize, to: usize) -> Found
+    ensures { of_file UnsetFound columns.now face from to result }
 {
-    if row(d, INTERFACE_COUNT_ROW) <= face {
+    if columns.row(INTERFACE_COUNT_ROW) <= face {
         return Found::Nothing;
     }
-    let count = row(d, MEMBER_COUNT_ROWS + face);
+    let count = columns.row(MEMBER_COUNT_ROWS + face);
     let mut j = 0;
     while j < MOST_MEMBERS {
         if count <= j {
@@ -238,14 +196,14 @@ fn unset_fault(
         }
         let m = j;
         j += 1;
-        if !is_attribute(classes, d, face, m) {
+        if !is_attribute(columns, face, m) {
             continue;
         }
-        let i = member_at(d, face, m) + 1;
-        if !sets(text, classes, offsets, lengths, from, to, i) {
+        let i = columns.member_at(face, m) + 1;
+        if !sets(columns, from, to, i) {
             return Found::Fault {
                 code: 17,
-                at: row(offsets, to) as u32,
+                at: columns.offset(to),
             };
         }
     }
@@ -256,15 +214,8 @@ fn unset_fault(
 
 // The faults of entity number e.
 #[tactic(auto, using(crate::proofs::steps::EntityLaws::entity_beyond, crate::proofs::steps::EntityLaws::entity_told))]
-fn faults_of(
-    text: &[u8],
-    classes: &[u8],
-    offsets: &[u16],
-    lengths: &[u8],
-    d: &[u16],
-    e: usize,
-) -> Faulted
-    ensures { EntityFound text.now classes.now offsets.now lengths.now d.now e result }
+fn faults_of(columns: &Columns<'_>, e: usize) -> Faulted
+    ensures { of_file EntityFound columns.now e result }
 {
     if MOST_ENTITIES <= e {
         return Faulted {
@@ -272,13 +223,13 @@ fn faults_of(
             kinds: Found::Nothing,
         };
     }
-    let p = row(d, ENTITY_ROWS + e);
-    let face = row(d, ENTITY_INTERFACE_ROWS + e);
+    let p = columns.row(ENTITY_ROWS + e);
+    let face = columns.row(ENTITY_INTERFACE_ROWS + e);
     let from = p + 5;
-    let set = assignment_faults(text, classes, offsets, lengths, d, face, from);
-    let at = row(offsets, p + 3) as u32;
+    let set = assignment_faults(columns, face, from);
+    let at = columns.offset(p + 3);
     let known = unless(face < NO_INTERFACE, 16, at);
-    let unset = unset_fault(text, classes, offsets, lengths, d, face, from, set.end);
+    let unset = unset_fault(columns, face, from, set.end);
     let again = set.again;
     let members = set.members;
     let kinds = set.kinds;
@@ -288,32 +239,18 @@ fn faults_of(
 
 // The earliest faults of the entities: of their names and of the names in them, and of their kinds.
 #[tactic(auto, using(crate::proofs::steps::EntityLaws::walked_all))]
-pub fn entity_faults(
-    text: &[u8],
-    classes: &[u8],
-    offsets: &[u16],
-    lengths: &[u8],
-    d: &[u16],
-) -> Faulted
-    ensures { EntitiesFound text.now classes.now offsets.now lengths.now d.now result }
+pub fn entity_faults(columns: &Columns<'_>) -> Faulted
+    ensures { of_file EntitiesFound columns.now result }
 {
-    let count = row(d, ENTITY_COUNT_ROW);
-    let mut names = repeated(
-        text,
-        offsets,
-        lengths,
-        d,
-        ENTITY_ROWS_32,
-        count,
-        MOST_ENTITIES_8,
-    );
+    let count = columns.row(ENTITY_COUNT_ROW);
+    let mut names = repeated(columns, ENTITY_ROWS_32, count, MOST_ENTITIES_8);
     let mut kinds = Found::Nothing;
     let mut e = 0;
     while e < MOST_ENTITIES {
         if count <= e {
             return Faulted { names, kinds };
         }
-        let one = faults_of(text, classes, offsets, lengths, d, e);
+        let one = faults_of(columns, e);
         let one_names = one.names;
         let one_kinds = one.kinds;
         names = earlier(names, one_names);

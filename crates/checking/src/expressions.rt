@@ -6,14 +6,16 @@ ghost use Rattle.text.specs.definitions.Grammar.{is_term_operator};
 ghost use Rattle.checking.specs.inner_contracts.RuleParts.{KindsFit, OperandsFit, OperatedKind, LiteralChecked, ClosedChecked, RealChecked};
 ghost use Rattle.checking.specs.inner_contracts.RuleParts.{NegatedChecked};
 ghost use Rattle.checking.specs.inner_contracts.RuleParts.{AppliedChecked, ExpressionWalk};
+ghost use Rattle.checking.specs.inner_contracts.OfColumns.{of_file};
 
+use crate::columns::Columns;
 use crate::faults::{Found, earlier, unless};
-use crate::meanings::{cell_of, meaning_of, offset};
+use crate::meanings::{cell_of, meaning_of};
 use text::classes::{
     BOOL, DIVIDE, FALSE, MINUS, NAME, PLUS, REAL, REAL_NUMBER, ROUND_OPEN, TIMES, TRUE, WHOLE,
     WHOLE_NUMBER,
 };
-use text::walks::{class_at, skip};
+use text::walks::skip;
 
 // An expression up to token number `next`: the class of its kind's word, 0 if it has none, and its earliest faults.
 #[derive(Clone, Copy)]
@@ -153,26 +155,18 @@ fn applied(offset: u32, x: Kinded, y: Kinded) -> Kinded
 }
 
 // `name . member`
-fn member(
-    text: &[u8],
-    classes: &[u8],
-    offsets: &[u16],
-    lengths: &[u8],
-    d: &[u16],
-    start: usize,
-    at: usize,
-) -> Kinded
-    ensures { ExpressionWalk text.now classes.now offsets.now lengths.now d.now start
+fn member(columns: &Columns<'_>, start: usize, at: usize) -> Kinded
+    ensures { of_file ExpressionWalk columns.now start
         member_reader at result }
 {
-    let size = classes.len();
+    let size = columns.classes.len();
     let dot = skip(at, size);
     let name = skip(dot, size);
-    let owner = meaning_of(text, classes, offsets, lengths, d, start, at);
+    let owner = meaning_of(columns, start, at);
     let face = owner.face;
-    let found = cell_of(text, classes, offsets, lengths, d, face, NAME, name);
+    let found = cell_of(columns, face, NAME, name);
     let wrong = found.names;
-    let unknown = unless(owner.known, 16, offset(offsets, at));
+    let unknown = unless(owner.known, 16, columns.offset(at));
     Kinded {
         next: skip(name, size),
         kind: found.kind,
@@ -182,25 +176,17 @@ fn member(
 }
 
 // What begins with no opener.
-fn leaf(
-    text: &[u8],
-    classes: &[u8],
-    offsets: &[u16],
-    lengths: &[u8],
-    d: &[u16],
-    start: usize,
-    at: usize,
-) -> Kinded
-    ensures { ExpressionWalk text.now classes.now offsets.now lengths.now d.now start
+fn leaf(columns: &Columns<'_>, start: usize, at: usize) -> Kinded
+    ensures { of_file ExpressionWalk columns.now start
         (simple_or halt) at result }
 {
-    let size = classes.len();
+    let size = columns.classes.len();
     if size <= at {
         return literal(at, 0);
     }
-    let class = class_at(classes, at);
+    let class = columns.class_at(at);
     if class == NAME {
-        return member(text, classes, offsets, lengths, d, start, at);
+        return member(columns, start, at);
     }
     let next = skip(at, size);
     if class == TRUE {
@@ -239,109 +225,55 @@ fn is_term_operator(class: u8) -> bool
 }
 
 #[cycle(expression_factor_term)]
-fn factor(
-    text: &[u8],
-    classes: &[u8],
-    offsets: &[u16],
-    lengths: &[u8],
-    d: &[u16],
-    start: usize,
-    at: usize,
-    depth: u32,
-) -> Kinded
-    ensures { ExpressionWalk text.now classes.now offsets.now lengths.now d.now start
+fn factor(columns: &Columns<'_>, start: usize, at: usize, depth: u32) -> Kinded
+    ensures { of_file ExpressionWalk columns.now start
         (factor_reader depth) at result }
 {
     if depth == 0 {
-        return leaf(text, classes, offsets, lengths, d, start, at);
+        return leaf(columns, start, at);
     }
-    let size = classes.len();
-    let class = class_at(classes, at);
+    let size = columns.classes.len();
+    let class = columns.class_at(at);
     let inside = skip(at, size);
     if class == REAL {
-        let x = expression(
-            text,
-            classes,
-            offsets,
-            lengths,
-            d,
-            start,
-            skip(inside, size),
-            depth - 1,
-        );
-        return made_real(offset(offsets, at), x, skip(x.next, size));
+        let x = expression(columns, start, skip(inside, size), depth - 1);
+        return made_real(columns.offset(at), x, skip(x.next, size));
     }
     if class == ROUND_OPEN {
-        let x = expression(text, classes, offsets, lengths, d, start, inside, depth - 1);
+        let x = expression(columns, start, inside, depth - 1);
         return closed(x, skip(x.next, size));
     }
     if class == MINUS {
-        let x = factor(text, classes, offsets, lengths, d, start, inside, depth - 1);
-        return negated(offset(offsets, at), x);
+        let x = factor(columns, start, inside, depth - 1);
+        return negated(columns.offset(at), x);
     }
-    leaf(text, classes, offsets, lengths, d, start, at)
+    leaf(columns, start, at)
 }
 
 #[cycle(expression_factor_term)]
-fn term(
-    text: &[u8],
-    classes: &[u8],
-    offsets: &[u16],
-    lengths: &[u8],
-    d: &[u16],
-    start: usize,
-    at: usize,
-    depth: u32,
-) -> Kinded
-    ensures { ExpressionWalk text.now classes.now offsets.now lengths.now d.now start
+fn term(columns: &Columns<'_>, start: usize, at: usize, depth: u32) -> Kinded
+    ensures { of_file ExpressionWalk columns.now start
         (term_reader depth) at result }
 {
-    let mut left = factor(text, classes, offsets, lengths, d, start, at, depth);
-    while is_factor_operator(class_at(classes, left.next)) {
+    let mut left = factor(columns, start, at, depth);
+    while is_factor_operator(columns.class_at(left.next)) {
         let i = left.next;
-        let right = factor(
-            text,
-            classes,
-            offsets,
-            lengths,
-            d,
-            start,
-            skip(i, classes.len()),
-            depth,
-        );
-        left = applied(offset(offsets, i), left, right);
+        let right = factor(columns, start, skip(i, columns.classes.len()), depth);
+        left = applied(columns.offset(i), left, right);
     }
     left
 }
 
 #[cycle(expression_factor_term)]
-pub fn expression(
-    text: &[u8],
-    classes: &[u8],
-    offsets: &[u16],
-    lengths: &[u8],
-    d: &[u16],
-    start: usize,
-    at: usize,
-    depth: u32,
-) -> Kinded
-    ensures { ExpressionWalk text.now classes.now offsets.now lengths.now d.now start
+pub fn expression(columns: &Columns<'_>, start: usize, at: usize, depth: u32) -> Kinded
+    ensures { of_file ExpressionWalk columns.now start
         (expression_reader depth) at result }
 {
-    let mut left = term(text, classes, offsets, lengths, d, start, at, depth);
-    while is_term_operator(class_at(classes, left.next)) {
+    let mut left = term(columns, start, at, depth);
+    while is_term_operator(columns.class_at(left.next)) {
         let i = left.next;
-        let right = term(
-            text,
-            classes,
-            offsets,
-            lengths,
-            d,
-            start,
-            skip(i, classes.len()),
-            depth,
-        );
-        left = applied(offset(offsets, i), left, right);
+        let right = term(columns, start, skip(i, columns.classes.len()), depth);
+        left = applied(columns.offset(i), left, right);
     }
     left
 }

@@ -1,8 +1,8 @@
 // Which bench files are accepted.
 #![tactic(auto)]
 
-pub mod called; // what a file declares, by the bytes of its name
 pub mod check; // the check of a text
+pub mod columns; // the columns and the directory, lent together
 pub mod conditions; // names and kinds of conditions and calls
 pub mod counts; // the counts of a file's items
 pub mod directory; // where a file's items begin
@@ -20,8 +20,8 @@ pub mod table; // what the columns and the directory say
 
 ghost use Rattle.std.specs.Prelude.{◌≡◌, ◌+◌, ◌*◌, ◌<◌};
 
-pub use called::{entity_called, interface_called, member_called};
 pub use check::Checked;
+pub use columns::Columns;
 pub use counts::count_fault;
 pub use directory::build;
 pub use entities::{entity_faults, link_entities};
@@ -30,10 +30,7 @@ pub use interfaces::interface_faults;
 pub use names::{Span, entity_name, entity_span};
 pub use resolver::resolve;
 pub use rules::rule_faults;
-pub use table::{
-    entity_number, first_of, interface_number, member_kind, member_number, member_sort, name, row,
-    same_name,
-};
+pub use table::{first_of, member_kind, member_sort, row};
 
 // A refusal's code and offset in one number.
 pub fn coded(code: u8, offset: u32) -> u64

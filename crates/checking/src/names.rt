@@ -3,10 +3,11 @@ ghost use Rattle.std.specs.Prelude.{◌≡◌};
 ghost use Rattle.checking.specs.definitions.Verdict.{entity_name};
 ghost use Rattle.checking.specs.definitions.EntitySpan.{entity_span};
 ghost use Rattle.checking.specs.inner_contracts.CheckSteps.{SpansEntity};
+ghost use Rattle.checking.specs.inner_contracts.OfColumns.{of_names};
 
 use crate::check::{Checked, check};
+use crate::columns::Columns;
 use crate::layout::{DIRECTORY, ENTITY_COUNT_ROW, ENTITY_ROWS, MOST_BYTES};
-use crate::table::{name, row};
 
 // A part of a text: the offset of its first byte, and how many it has.
 #[derive(Clone, Copy)]
@@ -17,26 +18,19 @@ pub struct Span {
 
 // Where the name of an entity stands, by the answer of the check.
 #[tactic(auto, using(crate::proofs::steps::EntitySpanLaws::spans_short))]
-fn span_checked(
-    text: &[u8],
-    offsets: &[u16],
-    lengths: &[u8],
-    d: &[u16],
-    checked: Checked,
-    number: usize,
-) -> Span
-    ensures { SpansEntity text.now offsets.now lengths.now d.now checked number result }
+fn span_checked(columns: &Columns<'_>, checked: Checked, number: usize) -> Span
+    ensures { of_names SpansEntity columns.now checked number result }
 {
     match checked {
         Checked::NoRoom => Span { at: 0, length: 0 },
         Checked::Refused { code: _, at: _ } => Span { at: 0, length: 0 },
         Checked::Accepted(_) => {
-            if row(d, ENTITY_COUNT_ROW) <= number {
+            if columns.row(ENTITY_COUNT_ROW) <= number {
                 return Span { at: 0, length: 0 };
             }
-            let i = row(d, ENTITY_ROWS + number) + 1;
-            let at = row(offsets, i);
-            let found = name(text, offsets, lengths, i);
+            let i = columns.row(ENTITY_ROWS + number) + 1;
+            let at = columns.offset(i) as usize;
+            let found = columns.name(i);
             let length = found.len();
             Span { at, length }
         }
@@ -60,7 +54,14 @@ pub fn entity_span(text: &[u8], number: usize) -> Span
         &mut values,
         &mut d,
     );
-    span_checked(text, &offsets, &lengths, &d, checked, number)
+    let columns = Columns {
+        text,
+        classes: &classes,
+        offsets: &offsets,
+        lengths: &lengths,
+        d: &d,
+    };
+    span_checked(&columns, checked, number)
 }
 
 // That part of the text.

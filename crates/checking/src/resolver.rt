@@ -4,13 +4,15 @@ ghost use Rattle.checking.specs.inner_contracts.Resolving.{VariableReference, Re
 ghost use Rattle.checking.specs.inner_contracts.Resolving.{DeclarationNumber, present, InterfaceAt, VariablesHeld, ScopesResolved};
 ghost use Rattle.checking.specs.inner_contracts.Resolution;
 ghost use Rattle.checking.specs.inner_contracts.Resolution.{scope_row, Resolves};
+ghost use Rattle.checking.specs.inner_contracts.OfColumns.{of_file, of_tokens};
 
+use crate::columns::Columns;
 use crate::layout::{
     FIRST_VARIABLE_16, MOST_MEMBERS_16, MOST_RULES_8, NO_ENTITY, RULE_COUNT_ROW, RULE_ROWS,
     SCOPE_ROWS,
 };
 use crate::meanings::{declares, meaning_of};
-use crate::table::{entity_number, first_of, interface_number, member_number, row};
+use crate::table::first_of;
 use text::classes::{ACTION, COLON, DOT, END, EVENT, NAME, ON, WHEN, WITH};
 use text::walks::{class_at, skip};
 
@@ -34,28 +36,21 @@ pub struct Variables {
 
 // The variable that token number i names in the rule that begins at `start`, by its reference; NO_REFERENCE if there is none, or for the 224th and later ones.
 #[tactic(auto, using(crate::proofs::steps::ReferenceLaws::referring_turns))]
-fn variable_reference(
-    text: &[u8],
-    classes: &[u8],
-    offsets: &[u16],
-    lengths: &[u8],
-    start: usize,
-    i: usize,
-) -> u16
-    ensures { VariableReference text.now classes.now offsets.now lengths.now start i result }
+fn variable_reference(columns: &Columns<'_>, start: usize, i: usize) -> u16
+    ensures { of_tokens VariableReference columns.now start i result }
 {
-    let size = classes.len();
+    let size = columns.classes.len();
     let mut k = FIRST_VARIABLE_16;
     let mut n = start;
     while n < size {
         if NO_REFERENCE <= k {
             return NO_REFERENCE;
         }
-        let class = class_at(classes, n + 1);
+        let class = columns.class_at(n + 1);
         if class == LAST {
             return NO_REFERENCE;
         }
-        if declares(text, offsets, lengths, class, n, i) {
+        if declares(columns, class, n, i) {
             return k;
         }
         n += 1;
@@ -68,22 +63,14 @@ fn variable_reference(
 }
 
 // What token number i refers to in the rule that begins at `start`: an entity comes before a variable of its name.
-fn reference(
-    text: &[u8],
-    classes: &[u8],
-    offsets: &[u16],
-    lengths: &[u8],
-    d: &[u16],
-    start: usize,
-    i: usize,
-) -> u16
-    ensures { Referred text.now classes.now offsets.now lengths.now d.now start i result }
+fn reference(columns: &Columns<'_>, start: usize, i: usize) -> u16
+    ensures { of_file Referred columns.now start i result }
 {
-    let e = entity_number(text, offsets, lengths, d, i);
+    let e = columns.entity_number(i);
     if e < NO_ENTITY {
         return e as u16;
     }
-    variable_reference(text, classes, offsets, lengths, start, i)
+    variable_reference(columns, start, i)
 }
 
 // The token that names what token number i is a member of, if the tokens around it say that it is one; else the count of tokens.
@@ -118,62 +105,38 @@ pub fn owner_of(classes: &[u8], i: usize) -> usize
 }
 
 // The member that token number i names of what token number `owner` means in the rule that begins at `start`; NO_MEMBER if there is none.
-fn member_of(
-    text: &[u8],
-    classes: &[u8],
-    offsets: &[u16],
-    lengths: &[u8],
-    d: &[u16],
-    start: usize,
-    owner: usize,
-    i: usize,
-) -> u16
-    ensures { MemberOf text.now classes.now offsets.now lengths.now d.now start owner i result }
+fn member_of(columns: &Columns<'_>, start: usize, owner: usize, i: usize) -> u16
+    ensures { of_file MemberOf columns.now start owner i result }
 {
-    let m = meaning_of(text, classes, offsets, lengths, d, start, owner);
+    let m = meaning_of(columns, start, owner);
     let face = m.face;
-    member_number(text, offsets, lengths, d, face, i) as u16
+    columns.member_number(face, i) as u16
 }
 
 // Row i of the column of references, in the rule that begins at `start`.
 #[tactic(auto, using(crate::proofs::steps::ReferenceLaws::row_alone, crate::proofs::steps::ReferenceLaws::row_with_member))]
-fn row_resolved(
-    text: &[u8],
-    classes: &[u8],
-    offsets: &[u16],
-    lengths: &[u8],
-    d: &[u16],
-    start: usize,
-    i: usize,
-) -> u16
-    ensures { RowResolved text.now classes.now offsets.now lengths.now d.now start i result }
+fn row_resolved(columns: &Columns<'_>, start: usize, i: usize) -> u16
+    ensures { of_file RowResolved columns.now start i result }
 {
-    let low = reference(text, classes, offsets, lengths, d, start, i);
-    let owner = owner_of(classes, i);
-    if classes.len() <= owner {
+    let low = reference(columns, start, i);
+    let owner = owner_of(columns.classes, i);
+    if columns.classes.len() <= owner {
         return NO_MEMBER_PART + low;
     }
-    member_of(text, classes, offsets, lengths, d, start, owner, i) * 256 + low
+    member_of(columns, start, owner, i) * 256 + low
 }
 
 // Fills the rows of all names from the first rule on; those before it are of no use.
 #[tactic(auto, using(crate::proofs::steps::ResolvedNames::naming_first))]
-pub fn resolve_names(
-    text: &[u8],
-    classes: &[u8],
-    offsets: &[u16],
-    lengths: &[u8],
-    d: &[u16],
-    refs: &mut [u16],
-)
-    requires { length classes.now ≤ length refs.old }
-    ensures { NamesResolved text.now classes.now offsets.now lengths.now d.now refs.old
+pub fn resolve_names(columns: &Columns<'_>, refs: &mut [u16])
+    requires { length columns.now.classes.now ≤ length refs.old }
+    ensures { of_file NamesResolved columns.now refs.old
         refs.new }
 {
     let mut start = 0;
-    let mut i = first_of(classes, WHEN, 0);
-    while i < classes.len() {
-        let class = class_at(classes, i);
+    let mut i = first_of(columns.classes, WHEN, 0);
+    while i < columns.classes.len() {
+        let class = columns.class_at(i);
         let here = i;
         i += 1;
         if class == WHEN {
@@ -183,7 +146,7 @@ pub fn resolve_names(
         if class != NAME {
             continue;
         }
-        refs[here] = row_resolved(text, classes, offsets, lengths, d, start, here);
+        refs[here] = row_resolved(columns, start, here);
     }
 }
 
@@ -214,19 +177,12 @@ fn declaration_number(classes: &[u8], start: usize, v: u8) -> usize
 }
 
 // The interface of the variable that token number n declares.
-fn interface_at(
-    text: &[u8],
-    classes: &[u8],
-    offsets: &[u16],
-    lengths: &[u8],
-    d: &[u16],
-    n: usize,
-) -> u8
-    ensures { InterfaceAt text.now classes.now offsets.now lengths.now d.now n result }
+fn interface_at(columns: &Columns<'_>, n: usize) -> u8
+    ensures { of_file InterfaceAt columns.now n result }
 {
-    let size = classes.len();
+    let size = columns.classes.len();
     let colon = skip(n, size);
-    interface_number(text, offsets, lengths, d, skip(colon, size)) as u8
+    columns.interface_number(skip(colon, size)) as u8
 }
 
 // How many of three declarations there are, of tokens that many.
@@ -248,24 +204,17 @@ fn present(a: usize, b: usize, c: usize, size: usize) -> u8
 
 // The variables of the rule that begins at `start`.
 #[tactic(auto, using(crate::proofs::steps::ScopeLaws::variables_held))]
-fn variables_of(
-    text: &[u8],
-    classes: &[u8],
-    offsets: &[u16],
-    lengths: &[u8],
-    d: &[u16],
-    start: usize,
-) -> Variables
-    ensures { VariablesHeld text.now classes.now offsets.now lengths.now d.now start result }
+fn variables_of(columns: &Columns<'_>, start: usize) -> Variables
+    ensures { of_file VariablesHeld columns.now start result }
 {
-    let a = declaration_number(classes, start, 0);
-    let b = declaration_number(classes, start, 1);
-    let c = declaration_number(classes, start, 2);
+    let a = declaration_number(columns.classes, start, 0);
+    let b = declaration_number(columns.classes, start, 1);
+    let c = declaration_number(columns.classes, start, 2);
     Variables {
-        count: present(a, b, c, classes.len()),
-        first: interface_at(text, classes, offsets, lengths, d, a),
-        second: interface_at(text, classes, offsets, lengths, d, b),
-        third: interface_at(text, classes, offsets, lengths, d, c),
+        count: present(a, b, c, columns.classes.len()),
+        first: interface_at(columns, a),
+        second: interface_at(columns, b),
+        third: interface_at(columns, c),
     }
 }
 
@@ -292,27 +241,20 @@ fn put_variables(scopes: &mut [u8], k: u8, v: Variables)
 
 // Fills the rows of all rules.
 #[tactic(auto, using(crate::proofs::steps::ScopeLaws::scoping_none))]
-pub fn resolve_scopes(
-    text: &[u8],
-    classes: &[u8],
-    offsets: &[u16],
-    lengths: &[u8],
-    d: &[u16],
-    scopes: &mut [u8],
-)
+pub fn resolve_scopes(columns: &Columns<'_>, scopes: &mut [u8])
     requires { Resolution.ALL_SCOPE_ROWS ≤ length scopes.old }
-    ensures { ScopesResolved text.now classes.now offsets.now lengths.now d.now
+    ensures { of_file ScopesResolved columns.now
         scopes.old scopes.new }
 {
-    let count = row(d, RULE_COUNT_ROW);
+    let count = columns.row(RULE_COUNT_ROW);
     let mut k: u8 = 0;
     while k < MOST_RULES_8 {
         let rule = k as usize;
         if count <= rule {
             return;
         }
-        let start = row(d, RULE_ROWS + rule);
-        let v = variables_of(text, classes, offsets, lengths, d, start);
+        let start = columns.row(RULE_ROWS + rule);
+        let v = variables_of(columns, start);
         put_variables(scopes, k, v);
         k += 1;
     }
@@ -320,19 +262,11 @@ pub fn resolve_scopes(
 
 // Resolves the names of all rules, and what variables each rule has.
 #[tactic(auto, using(crate::proofs::steps::ResolutionLaws::resolves))]
-pub fn resolve(
-    text: &[u8],
-    classes: &[u8],
-    offsets: &[u16],
-    lengths: &[u8],
-    d: &[u16],
-    refs: &mut [u16],
-    scopes: &mut [u8],
-)
-    requires { (length classes.now ≤ length refs.old) × (Resolution.ALL_SCOPE_ROWS ≤ length scopes.old) }
-    ensures { Resolves text.now classes.now offsets.now lengths.now d.now refs.old
+pub fn resolve(columns: &Columns<'_>, refs: &mut [u16], scopes: &mut [u8])
+    requires { (length columns.now.classes.now ≤ length refs.old) × (Resolution.ALL_SCOPE_ROWS ≤ length scopes.old) }
+    ensures { of_file Resolves columns.now refs.old
         scopes.old refs.new scopes.new }
 {
-    resolve_names(text, classes, offsets, lengths, d, refs);
-    resolve_scopes(text, classes, offsets, lengths, d, scopes);
+    resolve_names(columns, refs);
+    resolve_scopes(columns, scopes);
 }

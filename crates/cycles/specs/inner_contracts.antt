@@ -1,4 +1,5 @@
 -- What inner functions promise, and the forms of their memory: nobody has to believe these.
+pub mod Bundles
 pub mod TotalMachine
 pub mod Evaluation
 pub mod CellTokens

@@ -1,12 +1,13 @@
 // Whether a condition holds in a store and the one before it, by a walk over its tokens.
 ghost use Rattle.std.specs.Prelude.{◌≡◌, ◌&&◌, ◌||◌};
 ghost use Rattle.text.specs.definitions.Grammar.{filter_reader, test_reader, clause_reader, atom_reader, conjunction_reader, condition_reader};
-ghost use Rattle.cycles.specs.inner_contracts.Evaluation.{TargetWalk, FilterWalk, TestWalk, ConditionWalk};
+ghost use Rattle.cycles.specs.inner_contracts.Evaluation.{TargetWalk, Filters, Tests, Holds};
 
-use crate::evaluate::{Binding, bound, is_present_at, member, owner, read_cell};
+use crate::evaluate::{Binding, bound};
 use crate::expressions::expression;
+use crate::rules::Rules;
+use crate::store::{Store, Stores};
 use text::classes::{AND, CHANGED, COLON, OR, ROUND_OPEN, WITH};
-use text::walks::{class_at, skip};
 
 // Whether something holds, and the number of the token after what it was read from.
 #[derive(Clone, Copy)]
@@ -34,43 +35,38 @@ fn either(a: bool, b: bool) -> bool
 }
 
 // The number of the token after a target.
-pub fn target_end(classes: &[u8], at: usize) -> usize
-    ensures { TargetWalk classes.now at result }
+pub fn target_end(rules: &Rules<'_>, at: usize) -> usize
+    ensures { TargetWalk rules.now.classes at result }
 {
-    let size = classes.len();
-    let colon = skip(at, size);
-    if class_at(classes, colon) != COLON {
+    let colon = rules.skip(at);
+    if rules.class_at(colon) != COLON {
         return colon;
     }
-    skip(skip(colon, size), size)
+    rules.skip(rules.skip(colon))
 }
 
 // After a target, which is entity e: nothing, or `with attribute = expression`.
 pub fn filter(
-    classes: &[u8],
-    values: &[u32],
-    refs: &[u16],
+    rules: &Rules<'_>,
     b: Binding,
-    flags: &[u8],
-    cells: &[u8],
+    store: &Store<'_>,
     e: u8,
     at: usize,
     depth: u32,
 ) -> Holding
-    ensures { FilterWalk classes.now values.now refs.now b flags.now cells.now e
+    ensures { Filters rules.now b store.now e
         (filter_reader depth) at result.holds result.next }
 {
-    if class_at(classes, at) != WITH {
+    if rules.class_at(at) != WITH {
         return Holding {
             holds: true,
             next: at,
         };
     }
-    let size = classes.len();
-    let name = skip(at, size);
-    let inside = skip(skip(name, size), size);
-    let cell = read_cell(flags, cells, e, member(refs, name));
-    let x = expression(classes, values, refs, b, flags, cells, inside, depth);
+    let name = rules.skip(at);
+    let inside = rules.skip(rules.skip(name));
+    let cell = store.read_cell(e, rules.member(name));
+    let x = expression(rules, b, store, inside, depth);
     let v = x.value;
     Holding {
         holds: values::equal(cell, v),
@@ -80,32 +76,26 @@ pub fn filter(
 
 // After `value`: what is asked of member m of entity e.
 fn test(
-    classes: &[u8],
-    values: &[u32],
-    refs: &[u16],
+    rules: &Rules<'_>,
     b: Binding,
-    flags: &[u8],
-    cells: &[u8],
-    previous_flags: &[u8],
-    previous_cells: &[u8],
+    stores: &Stores<'_>,
     e: u8,
     m: u8,
     at: usize,
     depth: u32,
 ) -> Holding
-    ensures { TestWalk classes.now values.now refs.now b flags.now cells.now
-        previous_flags.now previous_cells.now e m (test_reader depth) at result.holds result.next }
+    ensures { Tests rules.now b stores.now.current stores.now.previous e m (test_reader depth) at result.holds result.next }
 {
-    let inside = skip(at, classes.len());
-    let cell = read_cell(flags, cells, e, m);
-    if class_at(classes, at) == CHANGED {
-        let earlier = read_cell(previous_flags, previous_cells, e, m);
+    let inside = rules.skip(at);
+    let cell = stores.current.read_cell(e, m);
+    if rules.class_at(at) == CHANGED {
+        let earlier = stores.previous.read_cell(e, m);
         return Holding {
             holds: values::differ(cell, earlier),
             next: inside,
         };
     }
-    let x = expression(classes, values, refs, b, flags, cells, inside, depth);
+    let x = expression(rules, b, &stores.current, inside, depth);
     let v = x.value;
     // The store before matters only where the values are equal now.
     if !values::equal(cell, v) {
@@ -114,17 +104,8 @@ fn test(
             next: x.next,
         };
     }
-    let earlier = read_cell(previous_flags, previous_cells, e, m);
-    let y = expression(
-        classes,
-        values,
-        refs,
-        b,
-        previous_flags,
-        previous_cells,
-        inside,
-        depth,
-    );
+    let earlier = stores.previous.read_cell(e, m);
+    let y = expression(rules, b, &stores.previous, inside, depth);
     let w = y.value;
     Holding {
         holds: !values::equal(earlier, w),
@@ -132,156 +113,50 @@ fn test(
     }
 }
 
-fn clause(
-    classes: &[u8],
-    values: &[u32],
-    refs: &[u16],
-    b: Binding,
-    flags: &[u8],
-    cells: &[u8],
-    previous_flags: &[u8],
-    previous_cells: &[u8],
-    at: usize,
-    depth: u32,
-) -> Holding
-    ensures { ConditionWalk classes.now values.now refs.now b flags.now cells.now
-        previous_flags.now previous_cells.now (clause_reader depth) at result.holds result.next }
+fn clause(rules: &Rules<'_>, b: Binding, stores: &Stores<'_>, at: usize, depth: u32) -> Holding
+    ensures { Holds rules.now b stores.now.current stores.now.previous (clause_reader depth) at result.holds result.next }
 {
-    let size = classes.len();
-    let name = skip(at, size);
-    let from = skip(name, size);
-    let target = skip(from, size);
-    let e = bound(b, owner(refs, target));
-    let m = member(refs, name);
-    let end = target_end(classes, target);
-    let f = filter(classes, values, refs, b, flags, cells, e, end, depth);
-    let t = test(
-        classes,
-        values,
-        refs,
-        b,
-        flags,
-        cells,
-        previous_flags,
-        previous_cells,
-        e,
-        m,
-        skip(f.next, size),
-        depth,
-    );
+    let name = rules.skip(at);
+    let from = rules.skip(name);
+    let target = rules.skip(from);
+    let e = bound(b, rules.owner(target));
+    let m = rules.member(name);
+    let end = target_end(rules, target);
+    let f = filter(rules, b, &stores.current, e, end, depth);
+    let t = test(rules, b, stores, e, m, rules.skip(f.next), depth);
     Holding {
-        holds: both(is_present_at(flags, e, m), both(f.holds, t.holds)),
+        holds: both(stores.current.is_present_at(e, m), both(f.holds, t.holds)),
         next: t.next,
     }
 }
 
 // `depth` openers may still come.
 #[cycle(atom_condition_conjunction)]
-pub fn atom(
-    classes: &[u8],
-    values: &[u32],
-    refs: &[u16],
-    b: Binding,
-    flags: &[u8],
-    cells: &[u8],
-    previous_flags: &[u8],
-    previous_cells: &[u8],
-    at: usize,
-    depth: u32,
-) -> Holding
-    ensures { ConditionWalk classes.now values.now refs.now b flags.now cells.now
-        previous_flags.now previous_cells.now (atom_reader depth) at result.holds result.next }
+pub fn atom(rules: &Rules<'_>, b: Binding, stores: &Stores<'_>, at: usize, depth: u32) -> Holding
+    ensures { Holds rules.now b stores.now.current stores.now.previous (atom_reader depth) at result.holds result.next }
 {
     if depth == 0 {
-        return clause(
-            classes,
-            values,
-            refs,
-            b,
-            flags,
-            cells,
-            previous_flags,
-            previous_cells,
-            at,
-            depth,
-        );
+        return clause(rules, b, stores, at, depth);
     }
-    if class_at(classes, at) != ROUND_OPEN {
-        return clause(
-            classes,
-            values,
-            refs,
-            b,
-            flags,
-            cells,
-            previous_flags,
-            previous_cells,
-            at,
-            depth,
-        );
+    if rules.class_at(at) != ROUND_OPEN {
+        return clause(rules, b, stores, at, depth);
     }
-    let size = classes.len();
-    let x = condition(
-        classes,
-        values,
-        refs,
-        b,
-        flags,
-        cells,
-        previous_flags,
-        previous_cells,
-        skip(at, size),
-        depth - 1,
-    );
+    let x = condition(rules, b, stores, rules.skip(at), depth - 1);
     Holding {
         holds: x.holds,
-        next: skip(x.next, size),
+        next: rules.skip(x.next),
     }
 }
 
 #[cycle(atom_condition_conjunction)]
-fn conjunction(
-    classes: &[u8],
-    values: &[u32],
-    refs: &[u16],
-    b: Binding,
-    flags: &[u8],
-    cells: &[u8],
-    previous_flags: &[u8],
-    previous_cells: &[u8],
-    at: usize,
-    depth: u32,
-) -> Holding
-    ensures { ConditionWalk classes.now values.now refs.now b flags.now cells.now
-        previous_flags.now previous_cells.now (conjunction_reader depth) at result.holds result.next }
+fn conjunction(rules: &Rules<'_>, b: Binding, stores: &Stores<'_>, at: usize, depth: u32) -> Holding
+    ensures { Holds rules.now b stores.now.current stores.now.previous (conjunction_reader depth) at result.holds result.next }
 {
-    let first = atom(
-        classes,
-        values,
-        refs,
-        b,
-        flags,
-        cells,
-        previous_flags,
-        previous_cells,
-        at,
-        depth,
-    );
+    let first = atom(rules, b, stores, at, depth);
     let mut left = first.holds;
     let mut i = first.next;
-    while class_at(classes, i) == AND {
-        let other = atom(
-            classes,
-            values,
-            refs,
-            b,
-            flags,
-            cells,
-            previous_flags,
-            previous_cells,
-            skip(i, classes.len()),
-            depth,
-        );
+    while rules.class_at(i) == AND {
+        let other = atom(rules, b, stores, rules.skip(i), depth);
         left = both(left, other.holds);
         i = other.next;
     }
@@ -293,47 +168,19 @@ fn conjunction(
 
 #[cycle(atom_condition_conjunction)]
 pub fn condition(
-    classes: &[u8],
-    values: &[u32],
-    refs: &[u16],
+    rules: &Rules<'_>,
     b: Binding,
-    flags: &[u8],
-    cells: &[u8],
-    previous_flags: &[u8],
-    previous_cells: &[u8],
+    stores: &Stores<'_>,
     at: usize,
     depth: u32,
 ) -> Holding
-    ensures { ConditionWalk classes.now values.now refs.now b flags.now cells.now
-        previous_flags.now previous_cells.now (condition_reader depth) at result.holds result.next }
+    ensures { Holds rules.now b stores.now.current stores.now.previous (condition_reader depth) at result.holds result.next }
 {
-    let first = conjunction(
-        classes,
-        values,
-        refs,
-        b,
-        flags,
-        cells,
-        previous_flags,
-        previous_cells,
-        at,
-        depth,
-    );
+    let first = conjunction(rules, b, stores, at, depth);
     let mut left = first.holds;
     let mut i = first.next;
-    while class_at(classes, i) == OR {
-        let other = conjunction(
-            classes,
-            values,
-            refs,
-            b,
-            flags,
-            cells,
-            previous_flags,
-            previous_cells,
-            skip(i, classes.len()),
-            depth,
-        );
+    while rules.class_at(i) == OR {
+        let other = conjunction(rules, b, stores, rules.skip(i), depth);
         left = either(left, other.holds);
         i = other.next;
     }

@@ -10,7 +10,9 @@ use crate::bindings::all_rules;
 use crate::layout::{
     CELL_BYTES, ENTITY_BYTES, ENTITY_CELLS, MOST_CELL_BYTES, MOST_PENDING_BYTES, NO_READING,
 };
-use crate::planes::{NO_TOKEN, cell_token, is_sort, put_stores};
+use crate::planes::{NO_TOKEN, put_stores};
+use crate::rules::Rules;
+use crate::store::{Inputs, Store, Stores};
 use checking::layout::{ENTITY_COUNT_ROW, MOST_ENTITIES};
 use text::classes::{ACTION, ATTRIBUTE};
 use values::{Value, cell, put_cell};
@@ -39,13 +41,13 @@ fn present_byte(present: u8, flag: u8) -> u8
 
 // Puts the flags of n entities after the line.
 #[tactic(auto, using(crate::proofs::laws::TableLaws::flag_fill), unfolding(crate::specs::definitions::Planes::table))]
-fn see_flags(n: usize, present: &[u8], flags: &[u8], seen: &mut [u8])
-    requires { (n ≤ length present.now) × (n ≤ length flags.now) × (n ≤ length seen.old) }
-    ensures { seen.new ≡ table (seen_flag present.now flags.now) 0 n ++ drop n seen.old }
+fn see_flags(n: usize, present: &[u8], inputs: &Inputs<'_>, seen: &mut [u8])
+    requires { (n ≤ length present.now) × (n ≤ length inputs.now.flags) × (n ≤ length seen.old) }
+    ensures { seen.new ≡ table (seen_flag present.now inputs.now.flags) 0 n ++ drop n seen.old }
 {
     let mut e = 0;
     while e < n {
-        seen[e] = present_byte(present[e], flags[e]);
+        seen[e] = present_byte(present[e], inputs.flags[e]);
         e += 1;
     }
 }
@@ -63,59 +65,56 @@ fn leaves(before: u8, after: u8) -> bool
 // Cell number i after the line: its reading, or what it was; unset if its entity leaves and it is no attribute.
 #[tactic(auto, using(crate::proofs::steps::SeenLaws::values_seen))]
 fn seen_value(
-    classes: &[u8],
-    d: &[u16],
-    present: &[u8],
+    rules: &Rules<'_>,
+    before: &Store<'_>,
     seen: &[u8],
-    cells: &[u8],
-    inputs: &[u8],
+    inputs: &Inputs<'_>,
     i: usize,
 ) -> Value
-    requires i_bound { (i < Planes.ENTITY_CELLS * length present.now) × (i < Planes.ENTITY_CELLS * length seen.now) }
-    requires i_in_bounds { (i * Planes.CELL_BYTES + Planes.CELL_BYTES ≤ length cells.now) × (i * Planes.CELL_BYTES + Planes.CELL_BYTES ≤ length inputs.now) }
-    ensures { ValueOf classes.now d.now
-        (seen_value present.now seen.now cells.now inputs.now) i result }
+    requires i_bound { (i < Planes.ENTITY_CELLS * length before.now.flags) × (i < Planes.ENTITY_CELLS * length seen.now) }
+    requires i_in_bounds { (i * Planes.CELL_BYTES + Planes.CELL_BYTES ≤ length before.now.cells) × (i * Planes.CELL_BYTES + Planes.CELL_BYTES ≤ length inputs.now.cells) }
+    ensures { ValueOf rules.now.classes rules.now.directory
+        (seen_value before.now.flags seen.now before.now.cells inputs.now.cells) i result }
 {
+    let Inputs { cells, .. } = inputs;
     let at = i * CELL_BYTES;
-    if inputs[at] != NO_READING {
-        return cell(inputs, i);
+    if cells[at] != NO_READING {
+        return cell(cells, i);
     }
     let e = i / ENTITY_CELLS;
-    if !leaves(present[e], seen[e]) {
-        return cell(cells, i);
+    if !leaves(before.flags[e], seen[e]) {
+        return cell(before.cells, i);
     }
-    if is_sort(classes, cell_token(d, i), ATTRIBUTE) {
-        return cell(cells, i);
+    if rules.is_sort(rules.cell_token(i), ATTRIBUTE) {
+        return cell(before.cells, i);
     }
     Value::Unset
 }
 
 // Puts the cells of n entities after the line over unset cells; a cell of no member stays unset.
 fn see_cells(
-    classes: &[u8],
-    d: &[u16],
+    rules: &Rules<'_>,
     n: usize,
-    present: &[u8],
+    before: &Store<'_>,
     seen: &[u8],
-    cells: &[u8],
-    inputs: &[u8],
+    inputs: &Inputs<'_>,
     out: &mut [u8],
 )
-    requires n_in_bounds { (n ≤ length present.now) × (n ≤ length seen.now) }
-    requires n_in_bounds_2 { (Planes.ENTITY_CELL_BYTES * n ≤ length cells.now) × (Planes.ENTITY_CELL_BYTES * n ≤ length inputs.now)
+    requires n_in_bounds { (n ≤ length before.now.flags) × (n ≤ length seen.now) }
+    requires n_in_bounds_2 { (Planes.ENTITY_CELL_BYTES * n ≤ length before.now.cells) × (Planes.ENTITY_CELL_BYTES * n ≤ length inputs.now.cells)
         × (Planes.ENTITY_CELL_BYTES * n ≤ length out.old) }
-    ensures { MembersPut classes.now d.now any_sort
-        (seen_value present.now seen.now cells.now inputs.now) (Planes.ENTITY_CELLS * n)
+    ensures { MembersPut rules.now.classes rules.now.directory any_sort
+        (seen_value before.now.flags seen.now before.now.cells inputs.now.cells) (Planes.ENTITY_CELLS * n)
         out.old out.new }
 {
     let end = ENTITY_CELLS * n;
     let mut i = 0;
     while i < end {
-        if NO_TOKEN <= cell_token(d, i) {
+        if NO_TOKEN <= rules.cell_token(i) {
             // its entity has no further member
             i = i - i % ENTITY_CELLS + ENTITY_CELLS;
         } else {
-            let v = seen_value(classes, d, present, seen, cells, inputs, i);
+            let v = seen_value(rules, before, seen, inputs, i);
             put_cell(out, i, v);
             i += 1;
         }
@@ -125,31 +124,31 @@ fn see_cells(
 // ---- what the cycle leaves
 
 // Puts what the rules saw in cell number i, unless the member whose first token has that number is an action: that stands as it was written.
-fn put_seen(classes: &[u8], token: usize, cells: &[u8], i: usize, area: &mut [u8])
+fn put_seen(rules: &Rules<'_>, token: usize, cells: &[u8], i: usize, area: &mut [u8])
     requires { (i * Planes.CELL_BYTES + Planes.CELL_BYTES ≤ length cells.now) × (i * Planes.CELL_BYTES + Planes.CELL_BYTES ≤ length area.old) }
-    ensures { SeenPut classes.now token cells.now i area.old area.new }
+    ensures { SeenPut rules.now.classes token cells.now i area.old area.new }
 {
-    if is_sort(classes, token, ACTION) {
+    if rules.is_sort(token, ACTION) {
         return;
     }
     put_cell(area, i, cell(cells, i));
 }
 
 // Makes of the area, which has the writes, the cells of n entities after the cycle. An action's stands as it was written, and a cell of no member is unset.
-fn put_next(classes: &[u8], d: &[u16], n: usize, cells: &[u8], area: &mut [u8])
+fn put_next(rules: &Rules<'_>, n: usize, cells: &[u8], area: &mut [u8])
     requires { (Planes.ENTITY_CELL_BYTES * n ≤ length cells.now) × (Planes.ENTITY_CELL_BYTES * n ≤ length area.old) }
-    ensures { MembersPut classes.now d.now no_action (next_value cells.now area.old) (Planes.ENTITY_CELLS * n)
+    ensures { MembersPut rules.now.classes rules.now.directory no_action (next_value cells.now area.old) (Planes.ENTITY_CELLS * n)
         area.old area.new }
 {
     let end = ENTITY_CELLS * n;
     let mut i = 0;
     while i < end {
-        let token = cell_token(d, i);
+        let token = rules.cell_token(i);
         if NO_TOKEN <= token {
             // its entity has no further member
             i = i - i % ENTITY_CELLS + ENTITY_CELLS;
         } else {
-            put_seen(classes, token, cells, i, area);
+            put_seen(rules, token, cells, i, area);
             i += 1;
         }
     }
@@ -157,22 +156,13 @@ fn put_next(classes: &[u8], d: &[u16], n: usize, cells: &[u8], area: &mut [u8])
 
 // The cycle of a line. The area of writes begins as unset cells to which nothing was written: bytes of 0.
 #[tactic(auto, using(crate::proofs::steps::CycleMemoryLaws::cycle_impossible))]
-pub fn cycle(
-    classes: &[u8],
-    values: &[u32],
-    d: &[u16],
-    refs: &[u16],
-    scopes: &[u8],
-    input_flags: &[u8],
-    input_cells: &[u8],
-    stores: &mut [u8],
-)
-    requires in_bounds { (CountFaults.MOST_ENTITIES ≤ length input_flags.now) × (Planes.MOST_CELL_BYTES ≤ length input_cells.now) }
+pub fn cycle(rules: &Rules<'_>, inputs: &Inputs<'_>, stores: &mut [u8])
+    requires in_bounds { (CountFaults.MOST_ENTITIES ≤ length inputs.now.flags) × (Planes.MOST_CELL_BYTES ≤ length inputs.now.cells) }
     requires in_bounds_2 { Planes.MOST_STORES_BYTES ≤ length stores.old }
-    ensures { Cycled classes.now values.now d.now refs.now scopes.now
-        input_flags.now input_cells.now stores.old stores.new }
+    ensures { Cycled rules.now.classes rules.now.values rules.now.directory rules.now.refs rules.now.scopes
+        inputs.now.flags inputs.now.cells stores.old stores.new }
 {
-    let n = checking::row(d, ENTITY_COUNT_ROW);
+    let n = rules.row(ENTITY_COUNT_ROW);
     if MOST_ENTITIES < n {
         return;
     }
@@ -181,30 +171,24 @@ pub fn cycle(
     let mut flags = [0u8; MOST_ENTITIES];
     let mut cells = [0u8; MOST_CELL_BYTES];
     let mut area = [0u8; MOST_PENDING_BYTES];
-    let before = &stores[..];
-    see_flags(n, before, input_flags, &mut flags);
-    see_cells(
-        classes,
-        d,
-        n,
-        before,
-        &flags,
-        &before[n..],
-        input_cells,
-        &mut cells,
-    );
-    all_rules(
-        classes,
-        values,
-        refs,
-        scopes,
-        d,
-        &flags,
-        &cells,
-        &before[previous..],
-        &before[previous_cells..],
-        &mut area,
-    );
-    put_next(classes, d, n, &cells, &mut area);
-    put_stores(d, &flags, &area, &cells, stores);
+    let memory = &stores[..];
+    let before = Store {
+        flags: memory,
+        cells: &memory[n..],
+    };
+    see_flags(n, memory, inputs, &mut flags);
+    see_cells(rules, n, &before, &flags, inputs, &mut cells);
+    let seen = Stores {
+        current: Store {
+            flags: &flags,
+            cells: &cells,
+        },
+        previous: Store {
+            flags: &memory[previous..],
+            cells: &memory[previous_cells..],
+        },
+    };
+    all_rules(rules, &seen, &mut area);
+    put_next(rules, n, &cells, &mut area);
+    put_stores(rules, &flags, &area, &cells, stores);
 }

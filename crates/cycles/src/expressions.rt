@@ -6,13 +6,14 @@ ghost use Rattle.values.specs.definitions.Value.{fitted, settled};
 ghost use Rattle.text.specs.definitions.Readers.{halt};
 ghost use Rattle.text.specs.definitions.Grammar.{operator_of, is_factor_operator, is_term_operator};
 ghost use Rattle.text.specs.definitions.Grammar.{member_reader, simple_or, factor_reader, term_reader, expression_reader};
-ghost use Rattle.cycles.specs.inner_contracts.Evaluation.{bound, CellRead, ExpressionWalk};
+ghost use Rattle.cycles.specs.inner_contracts.Evaluation.{bound, CellRead, Expresses};
 
-use crate::evaluate::{Binding, bound, member, owner, read_cell};
+use crate::evaluate::{Binding, bound};
+use crate::rules::Rules;
+use crate::store::Store;
 use text::classes::{
     DIVIDE, FALSE, MINUS, NAME, PLUS, REAL, REAL_NUMBER, ROUND_OPEN, TIMES, TRUE, WHOLE_NUMBER,
 };
-use text::walks::{class_at, skip, value_at};
 use values::{Operator, Value};
 
 // A value, and the number of the token after what it was read from.
@@ -72,45 +73,36 @@ fn is_term_operator(class: u8) -> bool
 
 // The member that token number `name` names, of the entity that token number `at` means.
 pub fn member_value(
-    refs: &[u16],
+    rules: &Rules<'_>,
     b: Binding,
-    flags: &[u8],
-    cells: &[u8],
+    store: &Store<'_>,
     at: usize,
     name: usize,
 ) -> Value
-    ensures { CellRead flags.now cells.now (bound b (get_or refs.now at 0 % 256)) (get_or refs.now name 0 / 256) result }
+    ensures { CellRead store.now.flags store.now.cells (bound b (get_or rules.now.refs at 0 % 256)) (get_or rules.now.refs name 0 / 256) result }
 {
-    read_cell(flags, cells, bound(b, owner(refs, at)), member(refs, name))
+    store.read_cell(bound(b, rules.owner(at)), rules.member(name))
 }
 
 // What begins with no opener.
-fn leaf(
-    classes: &[u8],
-    values: &[u32],
-    refs: &[u16],
-    b: Binding,
-    flags: &[u8],
-    cells: &[u8],
-    at: usize,
-) -> Valued
-    ensures { ExpressionWalk classes.now values.now refs.now b flags.now cells.now (simple_or halt)
+fn leaf(rules: &Rules<'_>, b: Binding, store: &Store<'_>, at: usize) -> Valued
+    ensures { Expresses rules.now b store.now (simple_or halt)
         at result.value result.next }
 {
-    let size = classes.len();
+    let size = rules.len();
     if size <= at {
         return Valued {
             value: Value::Unset,
             next: at,
         };
     }
-    let class = class_at(classes, at);
-    let next = skip(at, size);
+    let class = rules.class_at(at);
+    let next = rules.skip(at);
     if class == NAME {
-        let name = skip(next, size);
+        let name = rules.skip(next);
         return Valued {
-            value: member_value(refs, b, flags, cells, at, name),
-            next: skip(name, size),
+            value: member_value(rules, b, store, at, name),
+            next: rules.skip(name),
         };
     }
     if class == TRUE {
@@ -127,13 +119,13 @@ fn leaf(
     }
     if class == WHOLE_NUMBER {
         return Valued {
-            value: whole_literal(value_at(values, at)),
+            value: whole_literal(rules.value_at(at)),
             next,
         };
     }
     if class == REAL_NUMBER {
         return Valued {
-            value: real_literal(value_at(values, at)),
+            value: real_literal(rules.value_at(at)),
             next,
         };
     }
@@ -145,91 +137,54 @@ fn leaf(
 
 // `depth` openers may still come.
 #[cycle(factor_sum_term)]
-fn factor(
-    classes: &[u8],
-    values: &[u32],
-    refs: &[u16],
-    b: Binding,
-    flags: &[u8],
-    cells: &[u8],
-    at: usize,
-    depth: u32,
-) -> Valued
-    ensures { ExpressionWalk classes.now values.now refs.now b flags.now cells.now
+fn factor(rules: &Rules<'_>, b: Binding, store: &Store<'_>, at: usize, depth: u32) -> Valued
+    ensures { Expresses rules.now b store.now
         (factor_reader depth) at result.value result.next }
 {
     if depth == 0 {
-        return leaf(classes, values, refs, b, flags, cells, at);
+        return leaf(rules, b, store, at);
     }
-    let size = classes.len();
-    let class = class_at(classes, at);
-    let inside = skip(at, size);
+    let class = rules.class_at(at);
+    let inside = rules.skip(at);
     if class == REAL {
-        let x = sum(
-            classes,
-            values,
-            refs,
-            b,
-            flags,
-            cells,
-            skip(inside, size),
-            depth - 1,
-        );
+        let x = sum(rules, b, store, rules.skip(inside), depth - 1);
         let v = x.value;
         return Valued {
             value: values::as_real(v),
-            next: skip(x.next, size),
+            next: rules.skip(x.next),
         };
     }
     if class == ROUND_OPEN {
-        let x = sum(classes, values, refs, b, flags, cells, inside, depth - 1);
+        let x = sum(rules, b, store, inside, depth - 1);
         let v = x.value;
         return Valued {
             value: v,
-            next: skip(x.next, size),
+            next: rules.skip(x.next),
         };
     }
     if class == MINUS {
-        let x = factor(classes, values, refs, b, flags, cells, inside, depth - 1);
+        let x = factor(rules, b, store, inside, depth - 1);
         let v = x.value;
         return Valued {
             value: values::negate(v),
             next: x.next,
         };
     }
-    leaf(classes, values, refs, b, flags, cells, at)
+    leaf(rules, b, store, at)
 }
 
 // Factors under `*` and `/`.
 #[cycle(factor_sum_term)]
-fn term(
-    classes: &[u8],
-    values: &[u32],
-    refs: &[u16],
-    b: Binding,
-    flags: &[u8],
-    cells: &[u8],
-    at: usize,
-    depth: u32,
-) -> Valued
-    ensures { ExpressionWalk classes.now values.now refs.now b flags.now cells.now
+fn term(rules: &Rules<'_>, b: Binding, store: &Store<'_>, at: usize, depth: u32) -> Valued
+    ensures { Expresses rules.now b store.now
         (term_reader depth) at result.value result.next }
 {
-    let first = factor(classes, values, refs, b, flags, cells, at, depth);
+    let first = factor(rules, b, store, at, depth);
     let mut left = first.value;
     let mut i = first.next;
-    while is_factor_operator(class_at(classes, i)) {
-        let op = operator_of(class_at(classes, i));
-        let other = factor(
-            classes,
-            values,
-            refs,
-            b,
-            flags,
-            cells,
-            skip(i, classes.len()),
-            depth,
-        );
+    while is_factor_operator(rules.class_at(i)) {
+        let op = operator_of(rules.class_at(i));
+        let other = factor(rules, b, store, rules.skip(i), depth);
         let right = other.value;
         left = values::operate(op, left, right);
         i = other.next;
@@ -242,34 +197,16 @@ fn term(
 
 // Terms under `+` and `-`.
 #[cycle(factor_sum_term)]
-fn sum(
-    classes: &[u8],
-    values: &[u32],
-    refs: &[u16],
-    b: Binding,
-    flags: &[u8],
-    cells: &[u8],
-    at: usize,
-    depth: u32,
-) -> Valued
-    ensures { ExpressionWalk classes.now values.now refs.now b flags.now cells.now
+fn sum(rules: &Rules<'_>, b: Binding, store: &Store<'_>, at: usize, depth: u32) -> Valued
+    ensures { Expresses rules.now b store.now
         (expression_reader depth) at result.value result.next }
 {
-    let first = term(classes, values, refs, b, flags, cells, at, depth);
+    let first = term(rules, b, store, at, depth);
     let mut left = first.value;
     let mut i = first.next;
-    while is_term_operator(class_at(classes, i)) {
-        let op = operator_of(class_at(classes, i));
-        let other = term(
-            classes,
-            values,
-            refs,
-            b,
-            flags,
-            cells,
-            skip(i, classes.len()),
-            depth,
-        );
+    while is_term_operator(rules.class_at(i)) {
+        let op = operator_of(rules.class_at(i));
+        let other = term(rules, b, store, rules.skip(i), depth);
         let right = other.value;
         left = values::operate(op, left, right);
         i = other.next;
@@ -281,25 +218,16 @@ fn sum(
 }
 
 // Most expressions are one leaf. No opener has a class below that of `real`, and no operator one below that of `+`.
-pub fn expression(
-    classes: &[u8],
-    values: &[u32],
-    refs: &[u16],
-    b: Binding,
-    flags: &[u8],
-    cells: &[u8],
-    at: usize,
-    depth: u32,
-) -> Valued
-    ensures { ExpressionWalk classes.now values.now refs.now b flags.now cells.now
+pub fn expression(rules: &Rules<'_>, b: Binding, store: &Store<'_>, at: usize, depth: u32) -> Valued
+    ensures { Expresses rules.now b store.now
         (expression_reader depth) at result.value result.next }
 {
-    if REAL <= class_at(classes, at) {
-        return sum(classes, values, refs, b, flags, cells, at, depth);
+    if REAL <= rules.class_at(at) {
+        return sum(rules, b, store, at, depth);
     }
-    let x = leaf(classes, values, refs, b, flags, cells, at);
-    if PLUS <= class_at(classes, x.next) {
-        return sum(classes, values, refs, b, flags, cells, at, depth);
+    let x = leaf(rules, b, store, at);
+    if PLUS <= rules.class_at(x.next) {
+        return sum(rules, b, store, at, depth);
     }
     x
 }

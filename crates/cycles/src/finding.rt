@@ -1,5 +1,5 @@
 // Finds the guards of a rule by a walk over its tokens.
-ghost use Rattle.std.specs.Prelude.{◌+◌, ◌<◌, ◌≤◌, ◌≡◌, length};
+ghost use Rattle.std.specs.Prelude.{◌+◌, ◌<◌, ◌≤◌, ◌≡◌};
 ghost use Rattle.text.specs.definitions.Syntax;
 ghost use Rattle.text.specs.definitions.Grammar.{clause_reader, atom_reader, conjunction_reader};
 ghost use Rattle.checking.specs.definitions.CountFaults;
@@ -8,19 +8,22 @@ ghost use Rattle.cycles.specs.inner_contracts.Guards.{Covered, GuardsFound};
 ghost use Rattle.cycles.specs.inner_contracts.Finding.{GuardPut, PartPut, FilterGuardsWalk, TestGuardsWalk, ConditionGuardsWalk, CallGuarded};
 
 use crate::conditions::target_end;
-use crate::evaluate::owner;
+use crate::guards::Guards;
 use crate::layout::{
     CELL_CHANGES_8, EQUAL_NOW_8, GROUP_HOLDS_8, GUARD_ROWS, MOST_GUARDS, UNEQUAL_BEFORE_8,
 };
+use crate::rules::Rules;
 use checking::layout::{FIRST_VARIABLE_8, MOST_VARIABLES_8};
 use text::classes::{AND, CHANGED, COMMA, OR, ROUND_OPEN, WITH};
-use text::walks::{atom_end, class_at, expression_end, priority_end, skip};
 
-// How many guards stand in memory, and the number of the token after what was read.
+// What a guard is about: its kind, tokens number n and m, and those from number `at` up to `next`.
 #[derive(Clone, Copy)]
-pub struct Found {
-    pub count: usize,
-    pub next: usize,
+struct Part {
+    kind: u8,
+    n: usize,
+    m: usize,
+    at: usize,
+    next: usize,
 }
 
 // The references before and after those of variables.
@@ -40,10 +43,10 @@ fn greater(a: u8, b: u8) -> u8
 }
 
 // One more than the variable that token number i refers to, 0 if to none.
-fn level_at(refs: &[u16], i: usize) -> u8
-    ensures { Covered refs.now result i (i + 1) × (result ≤ CountFaults.MOST_VARIABLES) }
+fn level_at(rules: &Rules<'_>, i: usize) -> u8
+    ensures { Covered rules.now.refs result i (i + 1) × (result ≤ CountFaults.MOST_VARIABLES) }
 {
-    let r = owner(refs, i);
+    let r = rules.owner(i);
     if r < FIRST_VARIABLE_8 {
         return 0;
     }
@@ -54,13 +57,13 @@ fn level_at(refs: &[u16], i: usize) -> u8
 }
 
 // One more than the last variable that tokens number `from` up to `to` refer to.
-fn level_of(refs: &[u16], from: usize, to: usize) -> u8
-    ensures { Covered refs.now result from to × (result ≤ CountFaults.MOST_VARIABLES) }
+fn level_of(rules: &Rules<'_>, from: usize, to: usize) -> u8
+    ensures { Covered rules.now.refs result from to × (result ≤ CountFaults.MOST_VARIABLES) }
 {
     let mut level: u8 = 0;
     let mut i = from;
     while i < to {
-        level = greater(level, level_at(refs, i));
+        level = greater(level, level_at(rules, i));
         i += 1;
     }
     level
@@ -78,51 +81,31 @@ fn inner_of(kind: u8, level: u8) -> u8
 
 // ---- guards in memory, at most 16
 
-fn put_guard(
-    guards: &mut [usize],
-    count: usize,
-    kind: u8,
-    level: u8,
-    inner: u8,
-    n: usize,
-    m: usize,
-    at: usize,
-) -> usize
-    requires { Guards.ALL_GUARD_ROWS ≤ length guards.old }
-    ensures { GuardPut level inner kind n m at
-        (record { before = guards.old; count = count; after = guards.new; total = result }) }
+fn put_guard(guards: &mut Guards, level: u8, inner: u8, part: &Part)
+    ensures { GuardPut level inner part.now.kind part.now.n part.now.m part.now.at
+        (record { before = guards.old.rows; count = guards.old.count; after = guards.new.rows; total = guards.new.count }) }
 {
-    if MOST_GUARDS <= count {
-        return count;
+    if MOST_GUARDS <= guards.count {
+        return;
     }
-    let row = GUARD_ROWS * count;
-    guards[row] = (kind as usize) + 8 * (level as usize) + 32 * (inner as usize);
-    guards[row + 1] = n;
-    guards[row + 2] = m;
-    guards[row + 3] = at;
-    count + 1
+    let row = GUARD_ROWS * guards.count;
+    guards.rows[row] = (part.kind as usize) + 8 * (level as usize) + 32 * (inner as usize);
+    guards.rows[row + 1] = part.n;
+    guards.rows[row + 2] = part.m;
+    guards.rows[row + 3] = part.at;
+    guards.count += 1;
 }
 
 // A guard about tokens number n and m, and those from number `at` up to `next`.
 #[tactic(auto, using(crate::proofs::steps::GuardPuts::covered_more))]
-fn put_part(
-    refs: &[u16],
-    kind: u8,
-    n: usize,
-    m: usize,
-    at: usize,
-    next: usize,
-    guards: &mut [usize],
-    count: usize,
-) -> usize
-    requires { Guards.ALL_GUARD_ROWS ≤ length guards.old }
-    ensures { PartPut refs.now kind n m at next
-        (record { before = guards.old; count = count; after = guards.new; total = result }) }
+fn put_part(rules: &Rules<'_>, part: &Part, guards: &mut Guards)
+    ensures { PartPut rules.now.refs part.now.kind part.now.n part.now.m part.now.at part.now.next
+        (record { before = guards.old.rows; count = guards.old.count; after = guards.new.rows; total = guards.new.count }) }
 {
-    let inside = level_of(refs, at, next);
-    let own = greater(1, level_at(refs, n)); // without a variable it is tried with the first
+    let inside = level_of(rules, part.at, part.next);
+    let own = greater(1, level_at(rules, part.n)); // without a variable it is tried with the first
     let level = greater(own, inside);
-    put_guard(guards, count, kind, level, inner_of(kind, inside), n, m, at)
+    put_guard(guards, level, inner_of(part.kind, inside), part);
 }
 
 // Is what stands from number `at` up to `next` of more than three tokens, and so dear to try?
@@ -134,243 +117,165 @@ fn is_dear(at: usize, next: usize) -> bool {
 }
 
 // The same, if it is one of this pass: the guards that are dear to try stand after the others.
-fn put_in_pass(
-    refs: &[u16],
-    kind: u8,
-    n: usize,
-    m: usize,
-    at: usize,
-    next: usize,
-    guards: &mut [usize],
-    count: usize,
-    dear: bool,
-) -> usize
-    requires { Guards.ALL_GUARD_ROWS ≤ length guards.old }
-    ensures { PartPut refs.now kind n m at next
-        (record { before = guards.old; count = count; after = guards.new; total = result }) }
+fn put_in_pass(rules: &Rules<'_>, part: &Part, guards: &mut Guards, dear: bool)
+    ensures { PartPut rules.now.refs part.now.kind part.now.n part.now.m part.now.at part.now.next
+        (record { before = guards.old.rows; count = guards.old.count; after = guards.new.rows; total = guards.new.count }) }
 {
-    if is_dear(at, next) == dear {
-        return put_part(refs, kind, n, m, at, next, guards, count);
+    if is_dear(part.at, part.next) == dear {
+        put_part(rules, part, guards);
     }
-    count
 }
 
 // ---- conditions
 
 // After a clause's target, whose name is token number n: nothing, or `with attribute = expression`.
-fn filter_guard(
-    classes: &[u8],
-    refs: &[u16],
-    n: usize,
-    at: usize,
-    guards: &mut [usize],
-    count: usize,
-    dear: bool,
-) -> Found
-    requires { Guards.ALL_GUARD_ROWS ≤ length guards.old }
-    ensures { FilterGuardsWalk classes.now refs.now n at
-        (record { before = guards.old; count = count; after = guards.new; total = result.count }) result.next }
+fn filter_guard(rules: &Rules<'_>, n: usize, at: usize, guards: &mut Guards, dear: bool) -> usize
+    ensures { FilterGuardsWalk rules.now.classes rules.now.refs n at
+        (record { before = guards.old.rows; count = guards.old.count; after = guards.new.rows; total = guards.new.count }) result }
 {
-    if class_at(classes, at) != WITH {
-        return Found { count, next: at };
+    if rules.class_at(at) != WITH {
+        return at;
     }
-    let size = classes.len();
-    let name = skip(at, size);
-    let inside = skip(skip(name, size), size);
-    let next = expression_end(classes, inside);
-    Found {
-        count: put_in_pass(
-            refs,
-            EQUAL_NOW_8,
-            n,
-            name,
-            inside,
-            next,
-            guards,
-            count,
-            dear,
-        ),
+    let name = rules.skip(at);
+    let inside = rules.skip(rules.skip(name));
+    let next = rules.expression_end(inside);
+    let part = Part {
+        kind: EQUAL_NOW_8,
+        n,
+        m: name,
+        at: inside,
         next,
-    }
+    };
+    put_in_pass(rules, &part, guards, dear);
+    next
 }
 
 // After `value`: what is asked of the event that tokens number n and m name.
 fn test_guards(
-    classes: &[u8],
-    refs: &[u16],
+    rules: &Rules<'_>,
     n: usize,
     m: usize,
     at: usize,
-    guards: &mut [usize],
-    count: usize,
+    guards: &mut Guards,
     dear: bool,
-) -> Found
-    requires { Guards.ALL_GUARD_ROWS ≤ length guards.old }
-    ensures { TestGuardsWalk classes.now refs.now n m at
-        (record { before = guards.old; count = count; after = guards.new; total = result.count }) result.next }
+) -> usize
+    ensures { TestGuardsWalk rules.now.classes rules.now.refs n m at
+        (record { before = guards.old.rows; count = guards.old.count; after = guards.new.rows; total = guards.new.count }) result }
 {
-    let inside = skip(at, classes.len());
-    if class_at(classes, at) == CHANGED {
-        return Found {
-            count: put_in_pass(
-                refs,
-                CELL_CHANGES_8,
-                n,
-                m,
-                inside,
-                inside,
-                guards,
-                count,
-                dear,
-            ),
-            next: inside,
-        };
-    }
-    let next = expression_end(classes, inside);
-    let first = put_in_pass(refs, EQUAL_NOW_8, n, m, inside, next, guards, count, dear);
-    Found {
-        count: put_in_pass(
-            refs,
-            UNEQUAL_BEFORE_8,
+    let inside = rules.skip(at);
+    if rules.class_at(at) == CHANGED {
+        let part = Part {
+            kind: CELL_CHANGES_8,
             n,
             m,
-            inside,
-            next,
-            guards,
-            first,
-            dear,
-        ),
-        next,
+            at: inside,
+            next: inside,
+        };
+        put_in_pass(rules, &part, guards, dear);
+        return inside;
     }
+    let next = rules.expression_end(inside);
+    let now = Part {
+        kind: EQUAL_NOW_8,
+        n,
+        m,
+        at: inside,
+        next,
+    };
+    put_in_pass(rules, &now, guards, dear);
+    let before = Part {
+        kind: UNEQUAL_BEFORE_8,
+        n,
+        m,
+        at: inside,
+        next,
+    };
+    put_in_pass(rules, &before, guards, dear);
+    next
 }
 
-fn clause_guards(
-    classes: &[u8],
-    refs: &[u16],
-    at: usize,
-    guards: &mut [usize],
-    count: usize,
-    dear: bool,
-) -> Found
-    requires { Guards.ALL_GUARD_ROWS ≤ length guards.old }
-    ensures { ConditionGuardsWalk classes.now refs.now (clause_reader Syntax.OPENERS) at
-        (record { before = guards.old; count = count; after = guards.new; total = result.count }) result.next }
+fn clause_guards(rules: &Rules<'_>, at: usize, guards: &mut Guards, dear: bool) -> usize
+    ensures { ConditionGuardsWalk rules.now.classes rules.now.refs (clause_reader Syntax.OPENERS) at
+        (record { before = guards.old.rows; count = guards.old.count; after = guards.new.rows; total = guards.new.count }) result }
 {
-    let size = classes.len();
-    let name = skip(at, size);
-    let target = skip(skip(name, size), size);
-    let f = filter_guard(
-        classes,
-        refs,
-        target,
-        target_end(classes, target),
-        guards,
-        count,
-        dear,
-    );
-    test_guards(
-        classes,
-        refs,
-        target,
-        name,
-        skip(f.next, size),
-        guards,
-        f.count,
-        dear,
-    )
+    let name = rules.skip(at);
+    let target = rules.skip(rules.skip(name));
+    let next = filter_guard(rules, target, target_end(rules, target), guards, dear);
+    test_guards(rules, target, name, rules.skip(next), guards, dear)
 }
 
-fn atom_guards(
-    classes: &[u8],
-    refs: &[u16],
-    at: usize,
-    guards: &mut [usize],
-    count: usize,
-    dear: bool,
-) -> Found
-    requires { Guards.ALL_GUARD_ROWS ≤ length guards.old }
-    ensures { ConditionGuardsWalk classes.now refs.now (atom_reader Syntax.OPENERS) at
-        (record { before = guards.old; count = count; after = guards.new; total = result.count }) result.next }
+fn atom_guards(rules: &Rules<'_>, at: usize, guards: &mut Guards, dear: bool) -> usize
+    ensures { ConditionGuardsWalk rules.now.classes rules.now.refs (atom_reader Syntax.OPENERS) at
+        (record { before = guards.old.rows; count = guards.old.count; after = guards.new.rows; total = guards.new.count }) result }
 {
-    if class_at(classes, at) != ROUND_OPEN {
-        return clause_guards(classes, refs, at, guards, count, dear);
+    if rules.class_at(at) != ROUND_OPEN {
+        return clause_guards(rules, at, guards, dear);
     }
-    let next = atom_end(classes, at);
-    Found {
-        count: put_in_pass(refs, GROUP_HOLDS_8, at, at, at, next, guards, count, dear),
+    let next = rules.atom_end(at);
+    let part = Part {
+        kind: GROUP_HOLDS_8,
+        n: at,
+        m: at,
+        at,
         next,
-    }
+    };
+    put_in_pass(rules, &part, guards, dear);
+    next
 }
 
 // The conditions at number `at` with `and` between them.
-fn conjuncts(
-    classes: &[u8],
-    refs: &[u16],
-    at: usize,
-    guards: &mut [usize],
-    count: usize,
-    dear: bool,
-) -> Found
-    requires { Guards.ALL_GUARD_ROWS ≤ length guards.old }
-    ensures { ConditionGuardsWalk classes.now refs.now (conjunction_reader Syntax.OPENERS) at
-        (record { before = guards.old; count = count; after = guards.new; total = result.count }) result.next }
+fn conjuncts(rules: &Rules<'_>, at: usize, guards: &mut Guards, dear: bool) -> usize
+    ensures { ConditionGuardsWalk rules.now.classes rules.now.refs (conjunction_reader Syntax.OPENERS) at
+        (record { before = guards.old.rows; count = guards.old.count; after = guards.new.rows; total = guards.new.count }) result }
 {
-    let first = atom_guards(classes, refs, at, guards, count, dear);
-    let mut total = first.count;
-    let mut i = first.next;
-    while class_at(classes, i) == AND {
-        let other = atom_guards(classes, refs, skip(i, classes.len()), guards, total, dear);
-        total = other.count;
-        i = other.next;
+    let mut i = atom_guards(rules, at, guards, dear);
+    while rules.class_at(i) == AND {
+        i = atom_guards(rules, rules.skip(i), guards, dear);
     }
-    Found {
-        count: total,
-        next: i,
-    }
+    i
 }
 
 // ---- a rule
 
 // The `with` of the call at number `at`, if no other call follows.
-fn call_guard(classes: &[u8], refs: &[u16], at: usize, guards: &mut [usize], count: usize) -> usize
-    requires { Guards.ALL_GUARD_ROWS ≤ length guards.old }
-    ensures { CallGuarded classes.now refs.now at
-        (record { before = guards.old; count = count; after = guards.new; total = result }) }
+fn call_guard(rules: &Rules<'_>, at: usize, guards: &mut Guards)
+    ensures { CallGuarded rules.now.classes rules.now.refs at
+        (record { before = guards.old.rows; count = guards.old.count; after = guards.new.rows; total = guards.new.count }) }
 {
-    let size = classes.len();
-    let opener = skip(skip(at, size), size);
-    let on = skip(expression_end(classes, skip(opener, size)), size);
-    let target = skip(on, size);
-    let with = target_end(classes, target);
-    if class_at(classes, with) != WITH {
-        return count;
+    let opener = rules.skip(rules.skip(at));
+    let on = rules.skip(rules.expression_end(rules.skip(opener)));
+    let target = rules.skip(on);
+    let with = target_end(rules, target);
+    if rules.class_at(with) != WITH {
+        return;
     }
-    let name = skip(with, size);
-    let inside = skip(skip(name, size), size);
-    let next = expression_end(classes, inside);
-    if class_at(classes, next) == COMMA {
-        return count;
+    let name = rules.skip(with);
+    let inside = rules.skip(rules.skip(name));
+    let next = rules.expression_end(inside);
+    if rules.class_at(next) == COMMA {
+        return;
     }
-    put_part(refs, EQUAL_NOW_8, target, name, inside, next, guards, count)
+    let part = Part {
+        kind: EQUAL_NOW_8,
+        n: target,
+        m: name,
+        at: inside,
+        next,
+    };
+    put_part(rules, &part, guards);
 }
 
-// Finds the guards of the rule whose tokens after `when` begin at number `at`, and answers how many there are.
-pub fn find_guards(classes: &[u8], refs: &[u16], at: usize, guards: &mut [usize]) -> usize
-    requires { Guards.ALL_GUARD_ROWS ≤ length guards.old }
-    ensures { GuardsFound classes.now refs.now at guards.new result }
+// Finds the guards of the rule whose tokens after `when` begin at number `at`.
+pub fn find_guards(rules: &Rules<'_>, at: usize, guards: &mut Guards)
+    ensures { GuardsFound rules.now.classes rules.now.refs at guards.new.rows guards.new.count }
 {
-    let start = priority_end(classes, at);
-    let cheap = conjuncts(classes, refs, start, guards, 0, false);
-    if class_at(classes, cheap.next) == OR {
-        return 0;
+    guards.count = 0;
+    let start = rules.priority_end(at);
+    let next = conjuncts(rules, start, guards, false);
+    if rules.class_at(next) == OR {
+        guards.count = 0;
+        return;
     }
-    let called = call_guard(
-        classes,
-        refs,
-        skip(cheap.next, classes.len()),
-        guards,
-        cheap.count,
-    );
-    let dear = conjuncts(classes, refs, start, guards, called, true);
-    dear.count
+    call_guard(rules, rules.skip(next), guards);
+    conjuncts(rules, start, guards, true);
 }

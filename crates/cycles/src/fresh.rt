@@ -6,9 +6,11 @@ ghost use Rattle.cycles.specs.definitions.Planes;
 ghost use Rattle.values.specs.inner_contracts.Puts.{Put};
 ghost use Rattle.cycles.specs.inner_contracts.FreshMemory.{NumberAt, LiteralAt, AssignedValue, FreshCell, FreshCellsPut, flags_of, unset_cells};
 ghost use Rattle.cycles.specs.inner_contracts.FreshMemory.{FreshPut};
+ghost use Rattle.checking.specs.inner_contracts.OfColumns.{of_tokens};
 
 use crate::layout::{CELL_BYTES, ENTITY_CELLS};
 use crate::planes::{cell_token, is_sort};
+use checking::Columns;
 use checking::layout::{ENTITY_COUNT_ROW, ENTITY_ROWS, MOST_ENTITIES};
 use text::classes::{ATTRIBUTE, FALSE, MINUS, NAME, TRUE, WHOLE_NUMBER};
 use text::walks::value_at;
@@ -74,26 +76,18 @@ fn literal_value(classes: &[u8], values: &[u32], i: usize) -> Value
 
 // What the assignments from token number `from` on set the name of token number i to.
 #[tactic(auto, using(crate::proofs::steps::FreshValues::assigning_turns))]
-fn assigned_value(
-    text: &[u8],
-    classes: &[u8],
-    offsets: &[u16],
-    lengths: &[u8],
-    values: &[u32],
-    from: usize,
-    i: usize,
-) -> Value
-    ensures { AssignedValue text.now classes.now offsets.now lengths.now values.now from i result }
+fn assigned_value(columns: &Columns<'_>, values: &[u32], from: usize, i: usize) -> Value
+    ensures { of_tokens AssignedValue columns.now values.now from i result }
 {
     let mut q = from;
-    while q < classes.len() {
-        if classes[q] != NAME {
+    while q < columns.classes.len() {
+        if columns.classes[q] != NAME {
             return Value::Unset;
         }
-        if checking::same_name(text, offsets, lengths, i, q) {
-            return literal_value(classes, values, q + 2);
+        if columns.same_name(i, q) {
+            return literal_value(columns.classes, values, q + 2);
         }
-        q = checking::entities::assignment_end(classes, q) + 1;
+        q = checking::entities::assignment_end(columns.classes, q) + 1;
     }
     Value::Unset
 }
@@ -116,7 +110,14 @@ fn fresh_value(
         return Value::Unset;
     }
     let from = checking::row(d, ENTITY_ROWS + i / ENTITY_CELLS) + 5;
-    assigned_value(text, classes, offsets, lengths, values, from, token + 1)
+    let columns = Columns {
+        text,
+        classes,
+        offsets,
+        lengths,
+        d,
+    };
+    assigned_value(&columns, values, from, token + 1)
 }
 
 // ---- the parts of the stores, each put from `at` on; the answer is the offset after it

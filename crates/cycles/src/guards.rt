@@ -1,160 +1,167 @@
 // The guards of a rule, tried for all candidates of the next variable.
 ghost use Rattle.std.specs.Prelude.{◌+◌, ◌≤◌, ◌≡◌, length, get_or};
-ghost use Rattle.cycles.specs.inner_contracts.Guards.{Narrowed};
-ghost use Rattle.cycles.specs.inner_contracts.Failing.{MarksTaken, CellFails, ValueFails, Unchanged, GroupFails, GuardFails};
+ghost use Rattle.cycles.specs.inner_contracts.Guards.{Narrows};
+ghost use Rattle.cycles.specs.inner_contracts.Failing.{MarksTaken, CellFails, ComparisonFails, Unchanged, ConditionFails, Fails};
 
 use crate::conditions::atom;
-use crate::evaluate::{Binding, bound, member, owner, read_cell, with_entity};
+use crate::evaluate::{Binding, bound, with_entity};
 use crate::expressions::expression;
-use crate::layout::{CELL_CHANGES, EQUAL_NOW, GROUP_HOLDS, GUARD_ROWS, UNEQUAL_BEFORE};
+use crate::layout::{
+    ALL_GUARD_ROWS, CELL_CHANGES, EQUAL_NOW, GROUP_HOLDS, GUARD_ROWS, UNEQUAL_BEFORE,
+};
+use crate::rules::Rules;
+use crate::store::{Store, Stores};
 use text::grammar::OPENERS;
 use values::Value;
 
+// The guards of a rule, at most 16: four rows for each, and how many there are.
+#[derive(Drop)]
+pub struct Guards {
+    pub rows: [usize; ALL_GUARD_ROWS],
+    pub count: usize,
+}
+
+// A guard: its kind, how many variables its expression needs, and the numbers of the tokens that it is about.
+#[derive(Clone, Copy)]
+pub struct Guard {
+    pub kind: usize,
+    pub inner: usize,
+    pub n: usize,
+    pub m: usize,
+    pub at: usize,
+}
+
+// The entities tried for variable number `level`, beside those of b: from number `first` on, below `end`.
+#[derive(Clone, Copy)]
+pub struct Candidates {
+    pub b: Binding,
+    pub level: u8,
+    pub first: u8,
+    pub end: u8,
+}
+
 // A row of the guards.
-fn guard_row(guards: &[usize], i: usize) -> usize
-    ensures { result ≡ get_or guards.now i 0 }
+fn guard_row(guards: &Guards, i: usize) -> usize
+    ensures { result ≡ get_or guards.now.rows i 0 }
 {
-    if guards.len() <= i {
+    if guards.rows.len() <= i {
         return 0;
     }
-    guards[i]
+    guards.rows[i]
 }
 
-// Takes the marks of those entities with which member m of what r refers to is equal to x in one store, or is not, as `outcome` says.
+// A member of what a reference means, compared with the value of an expression that needs the first `inner` variables and begins at number `at`:
+// where they are equal, or are not, as `outcome` says, a guard fails.
+#[derive(Clone, Copy)]
+pub struct Comparison {
+    pub r: u8,
+    pub m: u8,
+    pub inner: usize,
+    pub at: usize,
+    pub outcome: bool,
+}
+
+// Takes the marks of those entities with which a guard fails that compares with x in one store.
 fn unmark_held(
-    b: Binding,
-    flags: &[u8],
-    cells: &[u8],
-    r: u8,
-    m: u8,
+    store: &Store<'_>,
+    candidates: Candidates,
+    compared: &Comparison,
     x: Value,
-    outcome: bool,
-    level: u8,
-    first: u8,
-    end: u8,
     marks: &mut [u8],
 )
-    requires { end ≤ length marks.old }
-    ensures { MarksTaken (CellFails b level flags.now cells.now r m x outcome) marks.old marks.new }
+    requires { candidates.end ≤ length marks.old }
+    ensures { MarksTaken
+        (CellFails candidates.b candidates.level store.now.flags store.now.cells compared.now.r compared.now.m x compared.now.outcome)
+        marks.old marks.new }
 {
-    let mut next = first;
-    while next < end {
+    let mut next = candidates.first;
+    while next < candidates.end {
         let e = next;
         next += 1;
         if marks[e as usize] == 0 {
             continue;
         }
-        let cell = read_cell(flags, cells, bound(with_entity(b, level, e), r), m);
-        if values::equal(cell, x) == outcome {
+        let with = with_entity(candidates.b, candidates.level, e);
+        let cell = store.read_cell(bound(with, compared.r), compared.m);
+        if values::equal(cell, x) == compared.outcome {
             marks[e as usize] = 0;
         }
     }
 }
 
-// The same for the value of the expression that begins at number `at`, worked out with each entity.
+// The same for the value of the expression, worked out with each entity.
 fn unmark_worked_out(
-    classes: &[u8],
-    values: &[u32],
-    refs: &[u16],
-    b: Binding,
-    flags: &[u8],
-    cells: &[u8],
-    r: u8,
-    m: u8,
-    at: usize,
-    outcome: bool,
-    level: u8,
-    first: u8,
-    end: u8,
+    rules: &Rules<'_>,
+    store: &Store<'_>,
+    candidates: Candidates,
+    compared: &Comparison,
     marks: &mut [u8],
 )
-    requires { end ≤ length marks.old }
+    requires { candidates.end ≤ length marks.old }
     ensures { MarksTaken
-        (ValueFails classes.now values.now refs.now b level flags.now cells.now
-        (level + 1) r m at outcome)
+        (ComparisonFails rules.now candidates.b candidates.level store.now
+        (candidates.level + 1) compared.now.r compared.now.m compared.now.at compared.now.outcome)
         marks.old marks.new }
 {
-    let mut next = first;
-    while next < end {
+    let mut next = candidates.first;
+    while next < candidates.end {
         let e = next;
         next += 1;
         if marks[e as usize] == 0 {
             continue;
         }
-        let with = with_entity(b, level, e);
-        let cell = read_cell(flags, cells, bound(with, r), m);
-        let x = expression(classes, values, refs, with, flags, cells, at, OPENERS);
+        let with = with_entity(candidates.b, candidates.level, e);
+        let cell = store.read_cell(bound(with, compared.r), compared.m);
+        let x = expression(rules, with, store, compared.at, OPENERS);
         let v = x.value;
-        if values::equal(cell, v) == outcome {
+        if values::equal(cell, v) == compared.outcome {
             marks[e as usize] = 0;
         }
     }
 }
 
-// The same: the expression is worked out once, where it needs the first `inner` variables and these have their entities.
+// The same: the expression is worked out once, where the variables that it needs have their entities.
 fn unmark_by_value(
-    classes: &[u8],
-    values: &[u32],
-    refs: &[u16],
-    b: Binding,
-    flags: &[u8],
-    cells: &[u8],
-    inner: usize,
-    r: u8,
-    m: u8,
-    at: usize,
-    outcome: bool,
-    level: u8,
-    first: u8,
-    end: u8,
+    rules: &Rules<'_>,
+    store: &Store<'_>,
+    candidates: Candidates,
+    compared: &Comparison,
     marks: &mut [u8],
 )
-    requires { end ≤ length marks.old }
+    requires { candidates.end ≤ length marks.old }
     ensures { MarksTaken
-        (ValueFails classes.now values.now refs.now b level flags.now cells.now
-        inner r m at outcome)
+        (ComparisonFails rules.now candidates.b candidates.level store.now
+        compared.now.inner compared.now.r compared.now.m compared.now.at compared.now.outcome)
         marks.old marks.new }
 {
-    if (level as usize) < inner {
-        unmark_worked_out(
-            classes, values, refs, b, flags, cells, r, m, at, outcome, level, first, end, marks,
-        );
+    let inner = compared.inner;
+    if (candidates.level as usize) < inner {
+        unmark_worked_out(rules, store, candidates, compared, marks);
         return;
     }
-    let x = expression(classes, values, refs, b, flags, cells, at, OPENERS);
+    let x = expression(rules, candidates.b, store, compared.at, OPENERS);
     let v = x.value;
-    unmark_held(b, flags, cells, r, m, v, outcome, level, first, end, marks);
+    unmark_held(store, candidates, compared, v, marks);
 }
 
 // Takes the marks of those entities with which member m of what r refers to is as it was before.
-fn unmark_unchanged(
-    b: Binding,
-    flags: &[u8],
-    cells: &[u8],
-    previous_flags: &[u8],
-    previous_cells: &[u8],
-    r: u8,
-    m: u8,
-    level: u8,
-    first: u8,
-    end: u8,
-    marks: &mut [u8],
-)
-    requires { end ≤ length marks.old }
+fn unmark_unchanged(stores: &Stores<'_>, candidates: Candidates, r: u8, m: u8, marks: &mut [u8])
+    requires { candidates.end ≤ length marks.old }
     ensures { MarksTaken
-        (Unchanged b level flags.now cells.now previous_flags.now previous_cells.now r m)
+        (Unchanged candidates.b candidates.level stores.now.current.flags stores.now.current.cells
+        stores.now.previous.flags stores.now.previous.cells r m)
         marks.old marks.new }
 {
-    let mut next = first;
-    while next < end {
+    let mut next = candidates.first;
+    while next < candidates.end {
         let e = next;
         next += 1;
         if marks[e as usize] == 0 {
             continue;
         }
-        let entity = bound(with_entity(b, level, e), r);
-        let cell = read_cell(flags, cells, entity, m);
-        let earlier = read_cell(previous_flags, previous_cells, entity, m);
+        let entity = bound(with_entity(candidates.b, candidates.level, e), r);
+        let cell = stores.current.read_cell(entity, m);
+        let earlier = stores.previous.read_cell(entity, m);
         if !values::differ(cell, earlier) {
             marks[e as usize] = 0;
         }
@@ -163,197 +170,114 @@ fn unmark_unchanged(
 
 // Takes the marks of those entities with which the condition that begins at number `at` does not hold.
 fn unmark_group(
-    classes: &[u8],
-    values: &[u32],
-    refs: &[u16],
-    b: Binding,
-    flags: &[u8],
-    cells: &[u8],
-    previous_flags: &[u8],
-    previous_cells: &[u8],
+    rules: &Rules<'_>,
+    stores: &Stores<'_>,
+    candidates: Candidates,
     at: usize,
-    level: u8,
-    first: u8,
-    end: u8,
     marks: &mut [u8],
 )
-    requires { end ≤ length marks.old }
+    requires { candidates.end ≤ length marks.old }
     ensures { MarksTaken
-        (GroupFails classes.now values.now refs.now b level flags.now cells.now
-        previous_flags.now previous_cells.now at)
+        (ConditionFails rules.now candidates.b candidates.level stores.now.current stores.now.previous at)
         marks.old marks.new }
 {
-    let mut next = first;
-    while next < end {
+    let mut next = candidates.first;
+    while next < candidates.end {
         let e = next;
         next += 1;
         if marks[e as usize] == 0 {
             continue;
         }
-        let c = atom(
-            classes,
-            values,
-            refs,
-            with_entity(b, level, e),
-            flags,
-            cells,
-            previous_flags,
-            previous_cells,
-            at,
-            OPENERS,
-        );
+        let with = with_entity(candidates.b, candidates.level, e);
+        let c = atom(rules, with, stores, at, OPENERS);
         if !c.holds {
             marks[e as usize] = 0;
         }
     }
 }
 
-// Takes the marks of those entities with which a guard of this kind fails, of tokens number n, m and `at`.
+// Takes the marks of those entities with which a guard fails.
 fn narrow_by(
-    classes: &[u8],
-    values: &[u32],
-    refs: &[u16],
-    b: Binding,
-    flags: &[u8],
-    cells: &[u8],
-    previous_flags: &[u8],
-    previous_cells: &[u8],
-    kind: usize,
-    inner: usize,
-    n: usize,
-    m: usize,
-    at: usize,
-    level: u8,
-    first: u8,
-    end: u8,
+    rules: &Rules<'_>,
+    stores: &Stores<'_>,
+    candidates: Candidates,
+    guard: &Guard,
     marks: &mut [u8],
 )
-    requires { end ≤ length marks.old }
+    requires { candidates.end ≤ length marks.old }
     ensures { MarksTaken
-        (λ e. GuardFails classes.now values.now refs.now b level flags.now cells.now
-        previous_flags.now previous_cells.now inner n m at e kind)
+        (λ e. Fails rules.now candidates.b candidates.level stores.now.current stores.now.previous guard.now.inner guard.now.n guard.now.m guard.now.at e guard.now.kind)
         marks.old marks.new }
 {
+    let kind = guard.kind;
     if kind == GROUP_HOLDS {
-        unmark_group(
-            classes,
-            values,
-            refs,
-            b,
-            flags,
-            cells,
-            previous_flags,
-            previous_cells,
-            at,
-            level,
-            first,
-            end,
-            marks,
-        );
+        unmark_group(rules, stores, candidates, guard.at, marks);
         return;
     }
-    let r = owner(refs, n);
-    let i = member(refs, m);
+    let r = rules.owner(guard.n);
+    let i = rules.member(guard.m);
     if kind == CELL_CHANGES {
-        unmark_unchanged(
-            b,
-            flags,
-            cells,
-            previous_flags,
-            previous_cells,
-            r,
-            i,
-            level,
-            first,
-            end,
-            marks,
-        );
+        unmark_unchanged(stores, candidates, r, i, marks);
         return;
     }
     if kind == EQUAL_NOW {
-        unmark_by_value(
-            classes, values, refs, b, flags, cells, inner, r, i, at, false, level, first, end,
-            marks,
-        );
+        let now = Comparison {
+            r,
+            m: i,
+            inner: guard.inner,
+            at: guard.at,
+            outcome: false,
+        };
+        unmark_by_value(rules, &stores.current, candidates, &now, marks);
         return;
     }
     if kind != UNEQUAL_BEFORE {
         return;
     }
-    unmark_by_value(
-        classes,
-        values,
-        refs,
-        b,
-        previous_flags,
-        previous_cells,
-        inner,
+    let before = Comparison {
         r,
-        i,
-        at,
-        true,
-        level,
-        first,
-        end,
-        marks,
-    );
+        m: i,
+        inner: guard.inner,
+        at: guard.at,
+        outcome: true,
+    };
+    unmark_by_value(rules, &stores.previous, candidates, &before, marks);
 }
 
 // Takes the marks of those entities, from number `first` on, below `end`, with which a guard of the next level fails.
 pub fn narrow(
-    classes: &[u8],
-    values: &[u32],
-    refs: &[u16],
-    b: Binding,
-    flags: &[u8],
-    cells: &[u8],
-    previous_flags: &[u8],
-    previous_cells: &[u8],
-    guards: &[usize],
-    count: usize,
-    level: u8,
-    first: u8,
-    end: u8,
+    rules: &Rules<'_>,
+    stores: &Stores<'_>,
+    guards: &Guards,
+    candidates: Candidates,
     marks: &mut [u8],
 )
-    requires { end ≤ length marks.old }
-    ensures { Narrowed classes.now values.now refs.now flags.now cells.now
-        previous_flags.now previous_cells.now b guards.now count level first end marks.old
+    requires { candidates.end ≤ length marks.old }
+    ensures { Narrows rules.now stores.now.current stores.now.previous candidates.b guards.now.rows guards.now.count candidates.level candidates.first candidates.end marks.old
         marks.new }
 {
     // so many guards of four rows each would not fit
-    if guards.len() / GUARD_ROWS < count {
+    if guards.rows.len() / GUARD_ROWS < guards.count {
         return;
     }
     let mut j = 0;
-    while j < count {
+    while j < guards.count {
         let row = GUARD_ROWS * j;
         let code = guard_row(guards, row);
         j += 1;
-        if code / 8 % 4 != (level as usize) + 1 {
+        if code / 8 % 4 != (candidates.level as usize) + 1 {
             continue;
         }
         let n = guard_row(guards, row + 1);
         let m = guard_row(guards, row + 2);
         let at = guard_row(guards, row + 3);
-        narrow_by(
-            classes,
-            values,
-            refs,
-            b,
-            flags,
-            cells,
-            previous_flags,
-            previous_cells,
-            code % 8,
-            code / 32,
+        let guard = Guard {
+            kind: code % 8,
+            inner: code / 32,
             n,
             m,
             at,
-            level,
-            first,
-            end,
-            marks,
-        );
+        };
+        narrow_by(rules, stores, candidates, &guard, marks);
     }
 }

@@ -5,60 +5,46 @@ ghost use Rattle.cycles.specs.definitions.Fields.{split};
 ghost use Rattle.cycles.specs.definitions.Header.{column_of_entity, column};
 ghost use Rattle.cycles.specs.inner_contracts.HeaderReads;
 ghost use Rattle.cycles.specs.inner_contracts.HeaderReads.{ColumnRead, backwards, is_number_among, ColumnsRead, HeaderRead};
+ghost use Rattle.checking.specs.inner_contracts.OfColumns.{of_file};
 
 use crate::fields::field_start;
 use crate::layout::{
     BY_BYTES, ENTITY_COLUMNS, MOST_HEADER_BYTES, NO_COLUMN, NO_HEADER, PRESENCE_COLUMN,
 };
+use checking::Columns;
 use checking::layout::{ENTITY_INTERFACE_ROWS, NO_ENTITY, NO_MEMBER};
-use checking::{entity_called, member_called, member_sort, row};
 use text::classes::EVENT;
 use values::same_bytes;
 
 // The column of an event by the names of its entity and of itself; NO_COLUMN if there is none.
-fn event_column(
-    text: &[u8],
-    classes: &[u8],
-    offsets: &[u16],
-    lengths: &[u8],
-    d: &[u16],
-    owner: &[u8],
-    member: &[u8],
-) -> usize
-    ensures { ColumnRead text.now classes.now offsets.now lengths.now d.now
+fn event_column(columns: &Columns<'_>, owner: &[u8], member: &[u8]) -> usize
+    ensures { of_file ColumnRead columns.now
         (λ f. column_of_entity f (entity_named f owner.now) member.now) result }
 {
-    let e = entity_called(text, offsets, lengths, d, owner);
+    let e = columns.entity_called(owner);
     if e == NO_ENTITY {
         return NO_COLUMN;
     }
-    let face = row(d, ENTITY_INTERFACE_ROWS + e);
-    let m = member_called(text, offsets, lengths, d, face, member);
+    let face = columns.row(ENTITY_INTERFACE_ROWS + e);
+    let m = columns.member_called(face, member);
     if m == NO_MEMBER {
         return NO_COLUMN;
     }
-    if member_sort(classes, d, face, m) != EVENT {
+    if columns.member_sort(face, m) != EVENT {
         return NO_COLUMN;
     }
     e * ENTITY_COLUMNS + m
 }
 
 // The column that a field of a header names; NO_COLUMN if there is none.
-fn column_called(
-    text: &[u8],
-    classes: &[u8],
-    offsets: &[u16],
-    lengths: &[u8],
-    d: &[u16],
-    field: &[u8],
-) -> usize
-    ensures { ColumnRead text.now classes.now offsets.now lengths.now d.now
+fn column_called(columns: &Columns<'_>, field: &[u8]) -> usize
+    ensures { of_file ColumnRead columns.now
         (λ f. column f (split 46 field.now)) result }
 {
     let size = field.len();
     let last = field_start(field, size, 46);
     if last == 0 {
-        let e = entity_called(text, offsets, lengths, d, field);
+        let e = columns.entity_called(field);
         if e == NO_ENTITY {
             return NO_COLUMN;
         }
@@ -68,15 +54,7 @@ fn column_called(
     if field_start(field, end, 46) != 0 {
         return NO_COLUMN;
     }
-    event_column(
-        text,
-        classes,
-        offsets,
-        lengths,
-        d,
-        &field[0..end],
-        &field[last..size],
-    )
+    event_column(columns, &field[0..end], &field[last..size])
 }
 
 // Is the column among the first `count` that were read?
@@ -111,6 +89,13 @@ fn read_columns(
     ensures { ColumnsRead text.now classes.now offsets.now lengths.now d.now names.now
         columns.new result }
 {
+    let bench = Columns {
+        text,
+        classes,
+        offsets,
+        lengths,
+        d,
+    };
     let mut end = names.len();
     let mut count: usize = 0;
     loop {
@@ -121,7 +106,7 @@ fn read_columns(
             }
             return NO_HEADER;
         }
-        let column = column_called(text, classes, offsets, lengths, d, &names[start..end]);
+        let column = column_called(&bench, &names[start..end]);
         if column == NO_COLUMN {
             return NO_HEADER;
         }

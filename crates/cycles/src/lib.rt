@@ -17,6 +17,8 @@ pub mod planes; // flags and cells in memory
 pub mod quiescence; // which rules are tried
 pub mod record; // sender, number and values of a record
 pub mod rows; // the fields of a row, and the header of rows
+pub mod rules; // the columns of a bench
+pub mod store; // a store in memory, and the one before it
 
 pub use bindings::all_rules;
 pub use calls::rule_at;
@@ -28,3 +30,5 @@ pub use planes::{
     Plane, are_stores, cell_token, is_sort, number, plane_fits, put_number, put_plane,
 };
 pub use rows::put_row_header;
+pub use rules::Rules;
+pub use store::{Inputs, Store, Stores};

@@ -13,6 +13,7 @@ ghost use Rattle.cycles.specs.inner_contracts.PlaneMemory.{gathered, StoresGathe
 use crate::layout::{
     CELL_BYTES, ENTITY_BYTES, ENTITY_CELL_BYTES, ENTITY_CELLS, KEPT_FLAGS, NO_READING, STORE_FLAGS,
 };
+use crate::rules::Rules;
 use checking::layout::{
     ENTITY_COUNT_ROW, ENTITY_INTERFACE_ROWS, INTERFACE_COUNT_ROW, MEMBER_COUNT_ROWS, MEMBER_ROWS,
     MOST_ENTITIES, MOST_MEMBERS,
@@ -296,7 +297,7 @@ pub fn put_plane(memory: &mut [u8], at: usize, flags: &[u8], cells: &[u8], n: us
 // Puts two stores of the same presence.
 #[tactic(auto, using(crate::proofs::laws::GatheredLaws::none_gathered, crate::proofs::laws::GatheredLaws::both_gathered))]
 pub fn put_stores(
-    d: &[u16],
+    rules: &Rules<'_>,
     flags: &[u8],
     now_cells: &[u8],
     previous_cells: &[u8],
@@ -305,10 +306,10 @@ pub fn put_stores(
     requires in_bounds { (CountFaults.MOST_ENTITIES ≤ length flags.now) × (Planes.MOST_CELL_BYTES ≤ length now_cells.now)
         × (Planes.MOST_CELL_BYTES ≤ length previous_cells.now) }
     requires in_bounds_2 { Planes.MOST_STORES_BYTES ≤ length memory.old }
-    ensures { StoresGathered (get_or d.now Directory.ENTITY_COUNT_ROW 0) flags.now
+    ensures { StoresGathered (get_or rules.now.directory Directory.ENTITY_COUNT_ROW 0) flags.now
         now_cells.now previous_cells.now memory.old memory.new }
 {
-    let n = checking::row(d, ENTITY_COUNT_ROW);
+    let n = rules.row(ENTITY_COUNT_ROW);
     if MOST_ENTITIES < n {
         return;
     }

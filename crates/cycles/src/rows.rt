@@ -3,9 +3,11 @@ ghost use Rattle.std.specs.Prelude.{◌+◌, ◌*◌, ◌≤◌, length};
 ghost use Rattle.cycles.specs.definitions.Row;
 ghost use Rattle.cycles.specs.inner_contracts.RowMemory.{FIELD_BYTES, FIELDS_BYTES, FiredPut, FieldsPut, NamePut, HeaderPut};
 ghost use Rattle.cycles.specs.definitions.Planes;
+ghost use Rattle.checking.specs.inner_contracts.OfColumns.{of_file};
 
 use crate::layout::ENTITY_CELLS;
 use crate::planes::{NO_TOKEN, cell_token, is_sort};
+use checking::Columns;
 use checking::layout::{ENTITY_COUNT_ROW, ENTITY_ROWS, MOST_ENTITIES};
 use text::classes::ACTION;
 
@@ -58,32 +60,17 @@ pub fn put_fields(classes: &[u8], d: &[u16], cells: &[u8], row: &mut [u8], at: u
 }
 
 // Puts a space and the name of cell number i, if the cell is an action's, and answers the offset after them.
-#[tactic(auto, using(crate::proofs::laws::RowPuts::name_below))]
-fn put_name(
-    text: &[u8],
-    classes: &[u8],
-    offsets: &[u16],
-    lengths: &[u8],
-    d: &[u16],
-    i: usize,
-    row: &mut [u8],
-    at: usize,
-) -> usize
+fn put_name(columns: &Columns<'_>, i: usize, row: &mut [u8], at: usize) -> usize
     requires { at ≤ length row.old }
-    ensures { NamePut text.now classes.now offsets.now lengths.now d.now i
+    ensures { of_file NamePut columns.now i
         row.old at row.new result }
 {
-    let token = cell_token(d, i);
-    if !is_sort(classes, token, ACTION) {
+    let token = cell_token(columns.d, i);
+    if !is_sort(columns.classes, token, ACTION) {
         return at;
     }
-    let entity = checking::name(
-        text,
-        offsets,
-        lengths,
-        checking::row(d, ENTITY_ROWS + i / ENTITY_CELLS) + 1,
-    );
-    let member = checking::name(text, offsets, lengths, token + 1);
+    let entity = columns.name(columns.row(ENTITY_ROWS + i / ENTITY_CELLS) + 1);
+    let member = columns.name(token + 1);
     if row.len() - at < entity.len() + member.len() + 2 {
         return at;
     }
@@ -113,9 +100,16 @@ pub fn put_row_header(
     }
     let end = ENTITY_CELLS * n;
     let mut at = values::put_bytes(row, 0, b"by n");
+    let columns = Columns {
+        text,
+        classes,
+        offsets,
+        lengths,
+        d,
+    };
     let mut i = 0;
     while i < end {
-        at = put_name(text, classes, offsets, lengths, d, i, row, at);
+        at = put_name(&columns, i, row, at);
         i += 1;
     }
     at

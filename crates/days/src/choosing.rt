@@ -8,15 +8,15 @@ ghost use Rattle.sheets.specs.definitions.Layout;
 ghost use Rattle.days.specs.definitions.Chosen.{spot_of_entity, spot_named};
 ghost use Rattle.days.specs.inner_contracts.Choosing;
 ghost use Rattle.days.specs.inner_contracts.Choosing.{SpotRead, ChosenRead, RealRead, SpotValue, RealsRead, CellsRead};
+ghost use Rattle.checking.specs.inner_contracts.OfColumns.{of_names};
 
 use checking::layout::{
     ENTITY_COUNT_ROW, ENTITY_INTERFACE_ROWS, MOST_ENTITIES, NO_ENTITY, NO_MEMBER,
 };
-use checking::{entity_called, member_called, row};
-use cycles::cell_token;
-use cycles::evaluate::read_cell;
+use checking::{Columns, row};
 use cycles::fields::field_start;
 use cycles::layout::{ENTITY_CELLS, MOST_CELLS};
+use cycles::{Store, cell_token};
 use senders::layout::HEAD_BYTES;
 use sheets::layout::MOST_CHOSEN;
 use text::classes::REAL;
@@ -29,23 +29,16 @@ const NO_SPOT: usize = MOST_CELLS;
 const NO_LIST: usize = MOST_CHOSEN + 1;
 
 // The cell of a member by the names of its entity and of itself; NO_SPOT if there is none.
-fn member_spot(
-    text: &[u8],
-    offsets: &[u16],
-    lengths: &[u8],
-    d: &[u16],
-    owner: &[u8],
-    member: &[u8],
-) -> usize
-    ensures { SpotRead text.now offsets.now lengths.now d.now
+fn member_spot(columns: &Columns<'_>, owner: &[u8], member: &[u8]) -> usize
+    ensures { of_names SpotRead columns.now
         (λ f. spot_of_entity f (entity_named f owner.now) member.now) result }
 {
-    let e = entity_called(text, offsets, lengths, d, owner);
+    let e = columns.entity_called(owner);
     if e == NO_ENTITY {
         return NO_SPOT;
     }
-    let face = row(d, ENTITY_INTERFACE_ROWS + e);
-    let m = member_called(text, offsets, lengths, d, face, member);
+    let face = columns.row(ENTITY_INTERFACE_ROWS + e);
+    let m = columns.member_called(face, member);
     if m == NO_MEMBER {
         return NO_SPOT;
     }
@@ -53,8 +46,8 @@ fn member_spot(
 }
 
 // The cell that a field names; NO_SPOT if there is none.
-fn spot_called(text: &[u8], offsets: &[u16], lengths: &[u8], d: &[u16], field: &[u8]) -> usize
-    ensures { SpotRead text.now offsets.now lengths.now d.now
+fn spot_called(columns: &Columns<'_>, field: &[u8]) -> usize
+    ensures { of_names SpotRead columns.now
         (λ f. spot_named f (split 46 field.now)) result }
 {
     let size = field.len();
@@ -66,33 +59,19 @@ fn spot_called(text: &[u8], offsets: &[u16], lengths: &[u8], d: &[u16], field: &
     if field_start(field, end, 46) != 0 {
         return NO_SPOT;
     }
-    member_spot(
-        text,
-        offsets,
-        lengths,
-        d,
-        &field[0..end],
-        &field[last..size],
-    )
+    member_spot(columns, &field[0..end], &field[last..size])
 }
 
 // Reads the chosen cells, the last one first, and answers how many they are; NO_LIST for no list.
-pub fn choose(
-    text: &[u8],
-    offsets: &[u16],
-    lengths: &[u8],
-    d: &[u16],
-    cells: &[u8],
-    spots: &mut [u16],
-) -> usize
+pub fn choose(columns: &Columns<'_>, cells: &[u8], spots: &mut [u16]) -> usize
     requires { Layout.MOST_CHOSEN ≤ length spots.old }
-    ensures { ChosenRead text.now offsets.now lengths.now d.now cells.now spots.new result }
+    ensures { of_names ChosenRead columns.now cells.now spots.new result }
 {
     let mut end = cells.len();
     let mut count: usize = 0;
     while count < MOST_CHOSEN {
         let start = field_start(cells, end, 32);
-        let spot = spot_called(text, offsets, lengths, d, &cells[start..end]);
+        let spot = spot_called(columns, &cells[start..end]);
         if spot == NO_SPOT {
             return NO_LIST;
         }
@@ -138,7 +117,8 @@ fn read_spot(flags: &[u8], cells: &[u8], spot: usize) -> Value
 {
     let e = (spot / ENTITY_CELLS) as u8;
     let m = (spot % ENTITY_CELLS) as u8;
-    read_cell(flags, cells, e, m)
+    let store = Store { flags, cells };
+    store.read_cell(e, m)
 }
 
 // What the chosen cells read now, in the order of the text.

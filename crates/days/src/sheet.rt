@@ -10,6 +10,7 @@ ghost use Rattle.days.specs.inner_contracts.Choosing;
 ghost use Rattle.days.specs.inner_contracts.SheetMemory.{LineEnd, Stepped, DayPut, SheetPut};
 
 use crate::choosing::{choose, read_chosen, real_cells};
+use checking::Columns;
 use cycles::header::read_header;
 use cycles::layout::MOST_COLUMNS;
 use senders::fingerprint::fingerprint;
@@ -185,7 +186,14 @@ pub fn put_sheet(
         return Sheeted::Refused(33);
     }
     let mut spots = [0u16; MOST_CHOSEN];
-    let count = choose(text, offsets, lengths, d, cells, &mut spots);
+    let bench = Columns {
+        text,
+        classes,
+        offsets,
+        lengths,
+        d,
+    };
+    let count = choose(&bench, cells, &mut spots);
     if MOST_CHOSEN < count {
         return Sheeted::Refused(41);
     }

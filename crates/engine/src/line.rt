@@ -5,19 +5,14 @@ ghost use Rattle.senders.specs.definitions.StateImage;
 ghost use Rattle.engine.specs.definitions.Calls;
 ghost use Rattle.engine.specs.inner_contracts.LineMemory.{RecordTaken, LineTaken};
 
+use crate::refusal::Refusal;
 use cycles::header::read_header;
 use cycles::layout::MOST_COLUMNS;
 use senders::fingerprint::fingerprint;
 use senders::{Judgement, advance, is_state, show_place};
 
-// What a line comes to: a refusal by its code, or the length of its row.
-#[derive(Clone, Copy)]
-pub enum Taken {
-    Refused(u8),
-    Row(usize),
-}
-
-// A record under a header that is read: `columns` has the numbers of its columns. The memory is a state.
+/// A record under a header that is read: the length of its sender's row, or its refusal. `columns` has the numbers of its columns. The memory is a
+/// state.
 pub fn take_record(
     classes: &[u8],
     literals: &[u32],
@@ -29,7 +24,7 @@ pub fn take_record(
     values: &[u8],
     state: &mut [u8],
     row: &mut [u8],
-) -> Taken
+) -> Result<usize, Refusal>
     requires count_in_bounds { (count ≤ length columns.now) × ((k : ℕ) → k < count → get_or columns.now k 0 < HeaderReads.NO_COLUMN) }
     requires in_bounds { StateImage.STATE ≤ length state.old }
     requires in_bounds_2 { Calls.ROW ≤ length row.old }
@@ -40,13 +35,13 @@ pub fn take_record(
         classes, literals, d, refs, scopes, columns, count, values, state,
     );
     match judgement {
-        Judgement::Refused(code) => Taken::Refused(code),
-        Judgement::New { place, number } => Taken::Row(show_place(classes, d, state, place, row)),
-        Judgement::Resent(place) => Taken::Row(show_place(classes, d, state, place, row)),
+        Judgement::Refused(code) => Err(Refusal::Line(code)),
+        Judgement::New { place, number } => Ok(show_place(classes, d, state, place, row)),
+        Judgement::Resent(place) => Ok(show_place(classes, d, state, place, row)),
     }
 }
 
-// A header and a record.
+/// A header and a record: the length of the row, or a refusal.
 pub fn take_line(
     text: &[u8],
     classes: &[u8],
@@ -60,7 +55,7 @@ pub fn take_line(
     values: &[u8],
     state: &mut [u8],
     row: &mut [u8],
-) -> Taken
+) -> Result<usize, Refusal>
     requires in_bounds { StateImage.STATE ≤ length state.old }
     requires in_bounds_2 { Calls.ROW ≤ length row.old }
     ensures { LineTaken text.now classes.now offsets.now lengths.now literals.now d.now
@@ -68,12 +63,12 @@ pub fn take_line(
         row.new result }
 {
     if !is_state(classes, d, fingerprint(text), state) {
-        return Taken::Refused(33);
+        return Err(Refusal::NoState);
     }
     let mut columns = [0u16; MOST_COLUMNS];
     let count = read_header(text, classes, offsets, lengths, d, names, &mut columns);
     if MOST_COLUMNS < count {
-        return Taken::Refused(22);
+        return Err(Refusal::Header);
     }
     take_record(
         classes, literals, d, refs, scopes, &columns, count, values, state, row,

@@ -1,302 +1,248 @@
 // A call on a bench's text: one piece of code with room for the text's columns serves them all.
-ghost use Rattle.std.specs.Prelude.{◌≡◌, true, ◌*◌, ◌≤◌, length};
-ghost use Rattle.text.specs.inner_contracts.TokenTable.{columns_of};
-ghost use Rattle.checking.specs.definitions.Verdict;
-ghost use Rattle.checking.specs.inner_contracts.CheckedBench.{has_room};
-ghost use Rattle.cycles.specs.inner_contracts.ReadSets;
-ghost use Rattle.engine.specs.inner_contracts.LineMemory.{taken_answer, ShortRow};
-ghost use Rattle.engine.specs.inner_contracts.Serving;
-ghost use Rattle.engine.specs.inner_contracts.Serving.{Served, served, Room, OnBench, refusal, sheeted_answer};
+ghost use Rattle.std.specs.Prelude.{ℕ, List, ◌≡◌, ◌≤◌, length};
+ghost use Rattle.checking.specs.definitions.Verdict.{verdict, accepted_file, refused_at};
+ghost use Rattle.senders.specs.definitions.Fingerprint.{fingerprint};
+ghost use Rattle.senders.specs.definitions.StateImage;
+ghost use Rattle.days.specs.definitions.DaySheet.{sheet_size};
+ghost use Rattle.engine.specs.definitions.BenchImage;
 ghost use Rattle.engine.specs.definitions.Calls;
+ghost use Rattle.engine.specs.definitions.Calls.{checked, freshened, header_on_bench, row_on_bench, line_on_bench, sheet_on_bench};
+ghost use Rattle.engine.specs.inner_contracts.Refusals.{refusal_answer, answer_of};
+ghost use Rattle.engine.specs.inner_contracts.Serving;
+ghost use Rattle.engine.specs.inner_contracts.Serving.{Served, served_check, served_fresh, served_line, served_row, served_sheet};
 
-use crate::bench::put_bench;
-use crate::line::{Taken, take_line};
-use checking::check::{Checked, check};
-use checking::coded;
-use checking::layout::{DIRECTORY, MOST_BYTES};
-use cycles::layout::{MOST_ROW_BYTES, SCOPES_BYTES};
-use cycles::put_row_header;
-use days::sheet::{Sheeted, put_sheet};
-use reads::resolve;
-use senders::fingerprint::fingerprint;
-use senders::{is_sender, is_state, put_fresh, show};
+use crate::refusal::Refusal;
+use crate::room::{Bench, Fault, Room};
+use checking::layout::MOST_BYTES;
 
-// The answer of a call that is accepted and writes no row.
-const ACCEPTED: u64 = 0;
-
-// So many lengths can stand above a number.
-const LENGTHS: usize = 72057594037927936;
+// The length of what an accepted call writes that writes no row.
+const NO_ROW: usize = 0;
 
 // The most bytes of a short text.
 const SHORT_TEXT: usize = 4096;
 
-// The public calls. In what serves them all, `names` and `values` have the two texts that a call is lent, or none:
-#[derive(Clone, Copy)]
-pub enum Call {
-    Check,
-    Fresh,
-    Line, // a line of names and a line of values
-    Header,
-    Row, // a sender's name
-    Sheet, // readings and chosen cells
+/// A call on a bench's text: a state that changes, and memory to fill.
+pub trait Call {
+    // the answer and both memories after the call, by the text and both before it
+    ghost served: { Self → List ℕ → List ℕ → List ℕ → Served };
+
+    // what the call needs of both memories
+    ghost fits: { Self → List ℕ → List ℕ → Type 0 };
+
+    /// On an accepted text.
+    fn on_bench(self, bench: Bench<'_>, state: &mut [u8], out: &mut [u8]) -> Result<usize, Refusal>
+        requires { fits self state.old out.old }
+        ensures { record { answer = answer_of result; state = state.new; out = out.new } ≡ served self bench.entry state.old out.old };
+
+    /// On a text that is refused.
+    fn refusal(self, fault: Fault) -> Refusal
+        ensures { (text state out : List ℕ) → verdict text ≡ refused_at fault.code fault.at
+            → record { answer = refusal_answer result; state = state; out = out } ≡ served self text state out };
 }
 
-// The answer of a call that is accepted and writes a row of that length.
-fn row_answer(length: usize) -> u64
-    ensures { length ≤ Calls.ROW → result ≡ 256 * length }
-{
-    // only where no bench stands in the columns
-    if MOST_ROW_BYTES < length {
-        return 0;
+/// Checks a text and writes its image.
+#[derive(Drop)]
+pub struct Check;
+
+impl Call for Check {
+    ghost served = { λ c text state out. served_check (checked (verdict text) text out) state };
+
+    ghost fits = { λ c state out. BENCH ≤ length out };
+
+    fn on_bench(
+        self,
+        bench: Bench<'_>,
+        _state: &mut [u8],
+        out: &mut [u8],
+    ) -> Result<usize, Refusal> {
+        bench.put_image(out);
+        Ok(NO_ROW)
     }
-    256 * (length as u64)
-}
 
-#[tactic(auto, unfolding(crate::specs::inner_contracts::LineMemory::taken_answer))]
-fn answer(taken: Taken) -> u64
-    requires { ShortRow taken }
-    ensures { result ≡ taken_answer taken }
-{
-    match taken {
-        Taken::Refused(code) => code as u64,
-        Taken::Row(length) => row_answer(length),
-    }
-}
-
-// A sheet's length has the 56 bits above the number.
-#[tactic(auto, unfolding(crate::specs::inner_contracts::Serving::sheeted_answer))]
-fn sheet_answer(sheeted: Sheeted) -> u64
-    ensures { result ≡ sheeted_answer sheeted }
-{
-    match sheeted {
-        Sheeted::Refused(code) => code as u64,
-        Sheeted::Length(length) => 256 * ((length % LENGTHS) as u64),
-    }
-}
-
-// The answer of a call whose text is refused: the check says why.
-#[tactic(auto, unfolding(crate::specs::inner_contracts::Serving::refusal))]
-fn refusal(call: Call, code: u8, at: u32) -> u64
-    ensures { result ≡ refusal call code at }
-{
-    match call {
-        Call::Check => coded(code, at),
-        Call::Fresh => 32,
-        Call::Line => 32,
-        Call::Header => 32,
-        Call::Row => 32,
-        Call::Sheet => 32,
-    }
-}
-
-// A call on an accepted text in columns, a row for each token.
-fn on_bench(
-    call: Call,
-    text: &[u8],
-    classes: &[u8],
-    offsets: &[u16],
-    lengths: &[u8],
-    literals: &[u32],
-    d: &[u16],
-    refs: &mut [u16],
-    scopes: &mut [u8],
-    state: &mut [u8],
-    shown: &[u8],
-    names: &[u8],
-    values: &[u8],
-    out: &mut [u8],
-) -> u64
-    requires text_len_bound { length text.now ≤ Verdict.MOST_BYTES }
-    requires classes_in_bounds { (length classes.now ≤ length refs.old) × (ReadSets.SCOPES_BYTES ≤ length scopes.old) }
-    requires room { Room call state.old shown.now names.now out.old }
-    ensures { OnBench call text.now classes.now offsets.now lengths.now literals.now d.now
-        state.old shown.now names.now values.now out.old state.new out.new result }
-{
-    match call {
-        Call::Check => {
-            put_bench(text, out);
-            ACCEPTED
-        }
-        Call::Fresh => {
-            put_fresh(
-                text,
-                classes,
-                offsets,
-                lengths,
-                literals,
-                d,
-                fingerprint(text),
-                state,
-            );
-            ACCEPTED
-        }
-        Call::Line => {
-            resolve(text, classes, offsets, lengths, d, refs, scopes);
-            answer(take_line(
-                text, classes, offsets, lengths, literals, d, refs, scopes, names, values, state,
-                out,
-            ))
-        }
-        Call::Header => row_answer(put_row_header(text, classes, offsets, lengths, d, out)),
-        Call::Row => {
-            if !is_state(classes, d, fingerprint(text), shown) {
-                return 33;
-            }
-            if !is_sender(names) {
-                return 43;
-            }
-            row_answer(show(classes, d, shown, names, out))
-        }
-        Call::Sheet => {
-            resolve(text, classes, offsets, lengths, d, refs, scopes);
-            sheet_answer(put_sheet(
-                text, classes, offsets, lengths, literals, d, refs, scopes, shown, names, values,
-                out,
-            ))
+    fn refusal(self, fault: Fault) -> Refusal {
+        Refusal::Text {
+            code: fault.code,
+            at: fault.at,
         }
     }
 }
 
-// A call on a text, with room for its columns.
-fn on_text(
-    call: Call,
-    text: &[u8],
-    classes: &mut [u8],
-    offsets: &mut [u16],
-    lengths: &mut [u8],
-    literals: &mut [u32],
-    d: &mut [u16],
-    refs: &mut [u16],
-    scopes: &mut [u8],
-    state: &mut [u8],
-    shown: &[u8],
-    names: &[u8],
-    values: &[u8],
-    out: &mut [u8],
-) -> u64
-    requires d_value { has_room text.now (columns_of classes.old offsets.old lengths.old literals.old) d.old ≡ true }
-    requires classes_in_bounds { (length classes.old ≤ length refs.old) × (ReadSets.SCOPES_BYTES ≤ length scopes.old) }
-    requires room { Room call state.old shown.now names.now out.old }
-    ensures { record { answer = result; state = state.new; out = out.new }
-        ≡ served call text.now state.old shown.now names.now values.now out.old }
-{
-    let checked = check(text, classes, offsets, lengths, literals, d);
-    match checked {
-        Checked::NoRoom => 31,
-        Checked::Refused { code, at } => refusal(call, code, at),
-        Checked::Accepted(n) => on_bench(
-            call,
-            text,
-            &classes[0..n],
-            offsets,
-            lengths,
-            literals,
-            d,
-            refs,
-            scopes,
-            state,
-            shown,
-            names,
-            values,
-            out,
-        ),
+/// Writes the fresh state.
+#[derive(Drop)]
+pub struct Fresh;
+
+impl Call for Fresh {
+    ghost served = { λ c text state out. served_fresh (freshened (fingerprint text) (accepted_file text) state) out };
+
+    ghost fits = { λ c state out. STATE ≤ length state };
+
+    fn on_bench(
+        self,
+        bench: Bench<'_>,
+        state: &mut [u8],
+        _out: &mut [u8],
+    ) -> Result<usize, Refusal> {
+        bench.put_fresh(state);
+        Ok(NO_ROW)
+    }
+
+    fn refusal(self, _fault: Fault) -> Refusal {
+        Refusal::NoBench
+    }
+}
+
+/// Takes a line: a header and a record.
+#[derive(Drop)]
+pub struct Line<'a> {
+    pub names: &'a [u8],
+    pub values: &'a [u8],
+}
+
+impl<'a> Call for Line<'a> {
+    ghost served = { λ c text state out. served_line (line_on_bench (fingerprint text) (accepted_file text) state c.names.now c.values.now out) };
+
+    ghost fits = { λ c state out. (STATE ≤ length state) × (ROW ≤ length out) };
+
+    fn on_bench(
+        self,
+        bench: Bench<'_>,
+        state: &mut [u8],
+        out: &mut [u8],
+    ) -> Result<usize, Refusal> {
+        bench
+            .resolve()
+            .take_line(self.names, self.values, state, out)
+    }
+
+    fn refusal(self, _fault: Fault) -> Refusal {
+        Refusal::NoBench
+    }
+}
+
+/// Writes the row of names.
+#[derive(Drop)]
+pub struct Header;
+
+impl Call for Header {
+    ghost served = { λ c text state out. served_row (header_on_bench (accepted_file text) out) state };
+
+    ghost fits = { λ c state out. ROW ≤ length out };
+
+    fn on_bench(
+        self,
+        bench: Bench<'_>,
+        _state: &mut [u8],
+        out: &mut [u8],
+    ) -> Result<usize, Refusal> {
+        Ok(bench.put_header(out))
+    }
+
+    fn refusal(self, _fault: Fault) -> Refusal {
+        Refusal::NoBench
+    }
+}
+
+/// Writes the row that a state keeps for a sender.
+#[derive(Drop)]
+pub struct Row<'a> {
+    pub state: &'a [u8],
+    pub sender: &'a [u8],
+}
+
+impl<'a> Call for Row<'a> {
+    ghost served = { λ c text state out. served_row (row_on_bench (fingerprint text) (accepted_file text) c.state.now c.sender.now out) state };
+
+    ghost fits = { λ c state out. (STATE ≤ length c.state.now) × (ROW ≤ length out) };
+
+    fn on_bench(
+        self,
+        bench: Bench<'_>,
+        _state: &mut [u8],
+        out: &mut [u8],
+    ) -> Result<usize, Refusal> {
+        bench.show(self.state, self.sender, out)
+    }
+
+    fn refusal(self, _fault: Fault) -> Refusal {
+        Refusal::NoBench
+    }
+}
+
+/// Writes the day sheet of readings, run on from a state that stays.
+#[derive(Drop)]
+pub struct Sheet<'a> {
+    pub state: &'a [u8],
+    pub readings: &'a [u8],
+    pub cells: &'a [u8],
+}
+
+impl<'a> Call for Sheet<'a> {
+    ghost served = { λ c text state out. served_sheet (sheet_on_bench (fingerprint text) (accepted_file text) c.state.now c.readings.now c.cells.now out) state };
+
+    ghost fits = { λ c state out. (STATE ≤ length c.state.now) × (sheet_size c.readings.now ≤ length out) };
+
+    fn on_bench(
+        self,
+        bench: Bench<'_>,
+        _state: &mut [u8],
+        out: &mut [u8],
+    ) -> Result<usize, Refusal> {
+        bench
+            .resolve()
+            .put_sheet(self.state, self.readings, self.cells, out)
+    }
+
+    fn refusal(self, _fault: Fault) -> Refusal {
+        Refusal::NoBench
     }
 }
 
 // A call on a short text: less memory to clear.
-fn on_short_text(
-    call: Call,
+fn on_short_text<C: Call + Drop>(
+    call: C,
     text: &[u8],
     state: &mut [u8],
-    shown: &[u8],
-    names: &[u8],
-    values: &[u8],
     out: &mut [u8],
-) -> u64
-    requires text_len_bound { length text.now ≤ Serving.SHORT_TEXT }
-    requires room { Room call state.old shown.now names.now out.old }
-    ensures { record { answer = result; state = state.new; out = out.new }
-        ≡ served call text.now state.old shown.now names.now values.now out.old }
+) -> Result<usize, Refusal>
+    requires text { length text.now ≤ Serving.SHORT_TEXT }
+    requires fits { C.fits call state.old out.old }
+    ensures { record { answer = answer_of result; state = state.new; out = out.new } ≡ C.served call text.now state.old out.old }
 {
-    let mut classes = [0u8; SHORT_TEXT];
-    let mut offsets = [0u16; SHORT_TEXT];
-    let mut lengths = [0u8; SHORT_TEXT];
-    let mut literals = [0u32; SHORT_TEXT];
-    let mut d = [0u16; DIRECTORY];
-    let mut refs = [0u16; SHORT_TEXT];
-    let mut scopes = [0u8; SCOPES_BYTES];
-    on_text(
-        call,
-        text,
-        &mut classes,
-        &mut offsets,
-        &mut lengths,
-        &mut literals,
-        &mut d,
-        &mut refs,
-        &mut scopes,
-        state,
-        shown,
-        names,
-        values,
-        out,
-    )
+    let mut room = Room::<SHORT_TEXT>::new();
+    match room.read(text) {
+        Ok(bench) => call.on_bench(bench, state, out),
+        Err(fault) => Err(call.refusal(fault)),
+    }
 }
 
-fn on_long_text(
-    call: Call,
+fn on_long_text<C: Call + Drop>(
+    call: C,
     text: &[u8],
     state: &mut [u8],
-    shown: &[u8],
-    names: &[u8],
-    values: &[u8],
     out: &mut [u8],
-) -> u64
-    requires { Room call state.old shown.now names.now out.old }
-    ensures { record { answer = result; state = state.new; out = out.new }
-        ≡ served call text.now state.old shown.now names.now values.now out.old }
+) -> Result<usize, Refusal>
+    requires { C.fits call state.old out.old }
+    ensures { record { answer = answer_of result; state = state.new; out = out.new } ≡ C.served call text.now state.old out.old }
 {
-    let mut classes = [0u8; MOST_BYTES];
-    let mut offsets = [0u16; MOST_BYTES];
-    let mut lengths = [0u8; MOST_BYTES];
-    let mut literals = [0u32; MOST_BYTES];
-    let mut d = [0u16; DIRECTORY];
-    let mut refs = [0u16; MOST_BYTES];
-    let mut scopes = [0u8; SCOPES_BYTES];
-    on_text(
-        call,
-        text,
-        &mut classes,
-        &mut offsets,
-        &mut lengths,
-        &mut literals,
-        &mut d,
-        &mut refs,
-        &mut scopes,
-        state,
-        shown,
-        names,
-        values,
-        out,
-    )
+    let mut room = Room::<MOST_BYTES>::new();
+    match room.read(text) {
+        Ok(bench) => call.on_bench(bench, state, out),
+        Err(fault) => Err(call.refusal(fault)),
+    }
 }
 
-// A call on a text of any length.
-pub fn serve(
-    call: Call,
+/// A call on a text of any length.
+pub fn serve<C: Call + Drop>(
+    call: C,
     text: &[u8],
     state: &mut [u8],
-    shown: &[u8],
-    names: &[u8],
-    values: &[u8],
     out: &mut [u8],
-) -> u64
-    requires { Room call state.old shown.now names.now out.old }
-    ensures { record { answer = result; state = state.new; out = out.new }
-        ≡ served call text.now state.old shown.now names.now values.now out.old }
+) -> Result<usize, Refusal>
+    requires { C.fits call state.old out.old }
+    ensures { record { answer = answer_of result; state = state.new; out = out.new } ≡ C.served call text.now state.old out.old }
 {
     if text.len() <= SHORT_TEXT {
-        return on_short_text(call, text, state, shown, names, values, out);
+        return on_short_text(call, text, state, out);
     }
-    on_long_text(call, text, state, shown, names, values, out)
+    on_long_text(call, text, state, out)
 }

@@ -16,6 +16,7 @@ use checking::layout::{DIRECTORY, ENTITY_COUNT_ROW, MOST_BYTES, MOST_ENTITIES};
 use checking::row;
 use cycles::layout::{ENTITY_BYTES, NUMBER_BYTES, SCOPES_BYTES};
 use cycles::quiescence::tried_rules;
+use cycles::{Rules, Store, Stores};
 use engine::bench::text_of;
 use reads::resolve;
 use senders::fingerprint::fingerprint;
@@ -41,14 +42,24 @@ fn tried_between(d: &[u16], scopes: &[u8], before: &[u8], after: &[u8]) -> u64
     }
     let flags = HEAD_BYTES + ENTITY_BYTES * n;
     let cells = flags + n;
-    tried_rules(
+    let rules = Rules {
+        classes: &[],
+        values: &[],
+        refs: &[],
         scopes,
-        d,
-        &after[flags..],
-        &after[cells..],
-        &before[flags..],
-        &before[cells..],
-    )
+        directory: d,
+    };
+    let stores = Stores {
+        current: Store {
+            flags: &after[flags..],
+            cells: &after[cells..],
+        },
+        previous: Store {
+            flags: &before[flags..],
+            cells: &before[cells..],
+        },
+    };
+    tried_rules(&rules, &stores)
 }
 
 // Puts the set, of an accepted text in columns, a row for each token.

@@ -8,6 +8,7 @@ ghost use Rattle.std.specs.Prelude.{◌≤◌, length};
 ghost use Rattle.cycles.specs.inner_contracts.ReadSets;
 ghost use Rattle.reads.specs.inner_contracts.RulesResolved.{RulesResolved};
 
+use checking::Columns;
 use conditions::find_reads;
 
 // Resolves the names of all rules, what variables each rule has, and what cells its condition reads.
@@ -24,6 +25,13 @@ pub fn resolve(
     ensures { RulesResolved text.now classes.now offsets.now lengths.now d.now refs.old
         scopes.old refs.new scopes.new }
 {
-    checking::resolve(text, classes, offsets, lengths, d, refs, scopes);
+    let columns = Columns {
+        text,
+        classes,
+        offsets,
+        lengths,
+        d,
+    };
+    checking::resolve(&columns, refs, scopes);
     find_reads(classes, d, refs, scopes);
 }

@@ -14,7 +14,7 @@ use crate::Stage;
 use cycles::header::read_header;
 use cycles::layout::MOST_COLUMNS;
 use cycles::put_row_header;
-use engine::line::{Taken, take_record};
+use engine::line::take_record;
 
 // A line is taken: what is awaited after it, and how many bytes wait to be written.
 #[derive(Clone, Copy)]
@@ -125,15 +125,15 @@ fn put_values(
         &mut out[used..],
     );
     match taken {
-        Taken::Refused(code) => {
-            let word = put_refusal(out, used, code);
+        Err(refusal) => {
+            let word = put_refusal(out, used, refusal.code());
             let end = values::put_bytes(out, word, b"\n");
             Step {
                 stage: Stage::Values(count),
                 used: end,
             }
         }
-        Taken::Row(n) => {
+        Ok(n) => {
             let end = used + n;
             out[end] = 10;
             Step {

@@ -17,8 +17,8 @@ use crate::parts::{part_at, place_of, put_kept, put_sender};
 use checking::layout::{ENTITY_COUNT_ROW, MOST_ENTITIES};
 use cycles::cycle::cycle;
 use cycles::layout::{ENTITY_BYTES, ENTITY_CELLS, MOST_CELL_BYTES};
-use cycles::number;
 use cycles::record::{Sent, clear_cells, clear_flags, read_sent, read_values};
+use cycles::{Inputs, Rules, number};
 
 // The last number of the sender at a place; 0 for one that is not known.
 #[tactic(auto, using(crate::proofs::steps::ResentSteps::last_unknown_read))]
@@ -82,16 +82,15 @@ fn follow(
     let known = state[COUNT_AT] as usize;
     let now = HEAD_BYTES + n;
     let part = part_at(n, place);
-    cycle(
+    let rules = Rules {
         classes,
-        literals,
-        d,
+        values: literals,
         refs,
         scopes,
-        flags,
-        cells,
-        &mut state[HEAD_BYTES..],
-    );
+        directory: d,
+    };
+    let inputs = Inputs { flags, cells };
+    cycle(&rules, &inputs, &mut state[HEAD_BYTES..]);
     put_kept(classes, d, n, &state[now..], cells);
     put_sender(&mut state[part..], n, name, last, flags, cells);
     if known == place {

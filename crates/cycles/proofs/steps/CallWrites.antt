@@ -4,10 +4,10 @@ use mathlib.Core.Path.{subst, ◌≡◌, refl, sym, ap, ap₂, ◌∙◌}
 use mathlib.Core.List.{List, [], ◌∷◌, ◌++◌, flat_map, append-nil, append_assoc}
 use mathlib.Core.Bool.{Bool, true, false, ◌&&◌}
 use mathlib.Core.Logic.{inr}
-use mathlib.Core.Option.{Option, some}
+use mathlib.Core.Option.{Option}
 use native.Mathlib.Omega.{arith}
 use lib.Dec.{ltb, eqb}
-use lib.ListN.{length, get_or, get_elem?, drop}
+use lib.ListN.{length, get_or, drop}
 use borrow.Author.Tests.{eqb-true, eqb-false}
 use Rattle.values.specs.declared.Value.{Value}
 use Rattle.values.specs.definitions.Value.{is_set}
@@ -31,11 +31,8 @@ use Rattle.text.proofs.laws.SpotLaws.{and_then_parts}
 use Rattle.text.proofs.laws.TreeLaws.{Makes, give_makes, expect_makes, any_makes, and_then_makes}
 use Rattle.text.proofs.laws.WalkLaws.{getElem?_inside, stands, next_steps, give_means, expect_means, then_means, walk_then, walk_in, walk_yields, many_begins, many_turns, many_stops}
 use Rattle.text.proofs.laws.ConditionWalks.{priority_none, priority_some, rule_walk}
-use Rattle.writes.specs.definitions.Writes.{Write}
 use Rattle.cycles.specs.declared.evaluate.Binding.{Binding}
-use Rattle.cycles.specs.definitions.Store.{Store}
-use Rattle.cycles.specs.definitions.Spots.{Spots}
-use Rattle.cycles.specs.inner_contracts.TotalMachine.{value, filter_holds, holds, call_writes, writes_if, binding_writes}
+use Rattle.cycles.specs.inner_contracts.TotalMachine.{value, filter_holds, call_writes, binding_writes}
 use Rattle.checking.specs.definitions.PriorityFaults.{MOST_PRIORITY}
 use Rattle.checking.specs.inner_contracts.CheckedBench.{ValuesOf}
 use Rattle.cycles.specs.definitions.Reference.{written_if}

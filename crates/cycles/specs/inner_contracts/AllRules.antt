@@ -19,6 +19,7 @@ use Rattle.cycles.specs.inner_contracts.TotalMachine.{rule_writes}
 use Rattle.cycles.specs.definitions.ClosedSet.{is_of}
 use Rattle.cycles.specs.definitions.Quiescence.{is_quiescent}
 use Rattle.cycles.specs.inner_contracts.ReadSets.{ReadsAre}
+use Rattle.cycles.specs.inner_contracts.Bundles.{RuleColumns, StoreMemory}
 use Rattle.cycles.specs.inner_contracts.Evaluation.{bound, Stored, puts}
 
 -- a checked bench with its rules' names resolved, and two stores of it
@@ -100,3 +101,17 @@ module _ (classes values d refs scopes flags cells previous_flags previous_cells
   pub record RulesPut (area after : List ℕ) (tried : ℕ) : Type 0 where
     pub set_put : SetPut area after tried
     pub tried_are : RulesTried d scopes flags cells previous_flags previous_cells tried
+
+-- the same over what is lent together: the columns of a bench, and two stores
+module _ (r : RuleColumns) (current previous : StoreMemory) where
+  abbrev pub BindingsWritten : (k level : ℕ) → Binding → (area after : List ℕ) → Type 0
+  BindingsWritten = BindingsPut r.classes r.values r.directory r.refs r.scopes current.flags current.cells previous.flags previous.cells
+
+  abbrev pub SetWritten : (area after : List ℕ) → (set : ℕ) → Type 0
+  SetWritten = SetPut r.classes r.values r.directory r.refs r.scopes current.flags current.cells previous.flags previous.cells
+
+  abbrev pub RulesWritten : (area after : List ℕ) → (tried : ℕ) → Type 0
+  RulesWritten = RulesPut r.classes r.values r.directory r.refs r.scopes current.flags current.cells previous.flags previous.cells
+
+  abbrev pub AreTried : ℕ → Type 0
+  AreTried = RulesTried r.directory r.scopes current.flags current.cells previous.flags previous.cells

@@ -7,6 +7,7 @@ use Rattle.text.specs.definitions.Grammar.{expression_reader, atom_reader}
 use Rattle.checking.specs.definitions.CountFaults.{MOST_VARIABLES}
 use Rattle.checking.specs.inner_contracts.Resolution.{FIRST_VARIABLE}
 use Rattle.cycles.specs.declared.evaluate.Binding.{Binding}
+use Rattle.cycles.specs.inner_contracts.Bundles.{RuleColumns, StoreMemory}
 use Rattle.cycles.specs.inner_contracts.Evaluation.{bound, CellRead, ExpressionWalk, ConditionWalk}
 use Rattle.cycles.specs.inner_contracts.AllRules.{EntityAdded}
 use Rattle.cycles.specs.inner_contracts.Guards.{EQUAL_NOW, UNEQUAL_BEFORE, CELL_CHANGES, GROUP_HOLDS}
@@ -61,3 +62,15 @@ module _ (classes values refs : List ℕ) (b : Binding) (level : ℕ) (flags cel
     unchanged : Unchanged b level flags cells previous_flags previous_cells (get_or refs n 0 % 256) (get_or refs m 0 / 256) e
         → GuardFails inner n m at e CELL_CHANGES
     group_false : GroupFails at e → GuardFails inner n m at e GROUP_HOLDS
+
+-- the same over what is lent together: the columns of a bench, one store or two
+module _ (r : RuleColumns) (b : Binding) (level : ℕ) where
+  abbrev pub ComparisonFails : StoreMemory → (inner owner m at : ℕ) → Bool → ℕ → Type 0
+  ComparisonFails s = ValueFails r.classes r.values r.refs b level s.flags s.cells
+
+  module _ (current previous : StoreMemory) where
+    abbrev pub ConditionFails : (at e : ℕ) → Type 0
+    ConditionFails = GroupFails r.classes r.values r.refs b level current.flags current.cells previous.flags previous.cells
+
+    abbrev pub Fails : (inner n m at e kind : ℕ) → Type 0
+    Fails = GuardFails r.classes r.values r.refs b level current.flags current.cells previous.flags previous.cells

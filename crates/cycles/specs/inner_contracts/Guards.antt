@@ -17,6 +17,7 @@ use Rattle.cycles.specs.definitions.Store.{Store}
 use Rattle.cycles.specs.definitions.Spots.{Spot, Spots}
 use Rattle.cycles.specs.inner_contracts.TotalMachine.{value_at, value, holds, binding_writes}
 use Rattle.cycles.specs.inner_contracts.Evaluation.{Targeted}
+use Rattle.cycles.specs.inner_contracts.Bundles.{RuleColumns, StoreMemory}
 use Rattle.cycles.specs.inner_contracts.AllRules.{candidate, EntityAdded, BindingsPut}
 
 -- the variables that tokens from `low` up to `high` refer to are among the first `level`
@@ -135,3 +136,7 @@ pub record Narrowed (classes values refs flags cells previous_flags previous_cel
   pub narrows : (d scopes : List ℕ) (k face : ℕ) → GuardsFound classes refs (get_or d (rule_row k) 0 + 1) guards count
       → Marked classes values d refs scopes flags cells previous_flags previous_cells k level b face first end before
       → Marked classes values d refs scopes flags cells previous_flags previous_cells k level b face first end after
+
+-- the same over what is lent together
+abbrev pub Narrows : RuleColumns → (current previous : StoreMemory) → Binding → (guards : List ℕ) → (count level first end : ℕ) → (before after : List ℕ) → Type 0
+Narrows r current previous = Narrowed r.classes r.values r.refs current.flags current.cells previous.flags previous.cells

@@ -13,8 +13,10 @@ use Rattle.text.specs.inner_contracts.TokenTable.{TokenColumns, lacks_rows}
 use Rattle.checking.specs.declared.check.Checked.{Checked}
 use Rattle.checking.specs.declared.check.Checked.TheVariants as checked_as
 use Rattle.checking.specs.definitions.Verdict.{Verdict, verdict, verdict_answer, file_of, accepted_file, MOST_BYTES}
+use mathlib.Core.Logic.{◌⊎◌, inl, inr}
+use Rattle.checking.proofs.laws.CheckLaws.{room_for_all}
 use Rattle.checking.proofs.laws.VerdictLaws.{accepted_length as text-length, accepted_is_file}
-use Rattle.checking.specs.inner_contracts.CheckedBench.{checked_answer, CheckedBench, Accepts, Says, has_room, Checks}
+use Rattle.checking.specs.inner_contracts.CheckedBench.{CheckedBench, Accepts, Says, has_room, Checks}
 use Rattle.reads.specs.inner_contracts.RulesResolved.{RulesResolved}
 use Rattle.cycles.specs.inner_contracts.RowMemory.{HeaderPut}
 use Rattle.cycles.proofs.laws.RowPuts.{short_names}
@@ -27,11 +29,13 @@ use Rattle.senders.specs.inner_contracts.RowMemory.{Shown, FreshStatePut}
 use Rattle.senders.proofs.laws.SenderLaws.{name_short}
 use Rattle.senders.proofs.laws.StateLaws.{state_decoded, no_state}
 use Rattle.days.specs.declared.sheet.Sheeted.{Sheeted}
+use Rattle.days.specs.declared.sheet.Sheeted.TheVariants.{Refused, Length}
 use Rattle.days.specs.definitions.DaySheet.{sheet_if_state}
 use Rattle.days.specs.inner_contracts.SheetMemory.{SheetIs, SheetPut}
-use Rattle.engine.specs.declared.line.Taken.{Taken}
-use Rattle.engine.specs.declared.serve.Call.{Call}
-use Rattle.engine.specs.declared.serve.Call.TheVariants.{Check, Fresh, Line, Header, Row, Sheet}
+use Rattle.std.specs.Prelude.{Result, Ok, Err}
+use Rattle.engine.specs.declared.refusal.Refusal.{Refusal}
+use Rattle.engine.specs.declared.refusal.Refusal.TheVariants as refused_as
+use Rattle.engine.specs.inner_contracts.Refusals.{answer_of}
 use Rattle.engine.specs.definitions.BenchImage.{with_bench, bench_of, text_in}
 use Rattle.engine.specs.definitions.Calls.{
   with_row,
@@ -48,15 +52,15 @@ use Rattle.engine.specs.definitions.Calls.{
   row_if_named,
   sheet_answered,
   sheet_on_bench,
+  length_answer,
 }
-use Rattle.engine.specs.inner_contracts.LineMemory.{taken_answer, LineTaken}
-use Rattle.engine.proofs.laws.LineLaws.{state_told}
-use Rattle.engine.specs.inner_contracts.Serving.{served_line, served_sheet, served, sheeted_answer, refusal, OnBench}
-
-pub serves_as : {call other : Call} {text classes offsets lengths literals d state shown names values out new_state new_out : List ℕ} {r : ℕ} → call ≡ other
-    → OnBench other text classes offsets lengths literals d state shown names values out new_state new_out r
-    → OnBench call text classes offsets lengths literals d state shown names values out new_state new_out r
-serves_as e s = rw e s
+use Rattle.engine.specs.inner_contracts.LineMemory.{LineTaken}
+use Rattle.engine.proofs.laws.LineLaws.{state_told, length_told}
+use Rattle.engine.specs.inner_contracts.Serving.{served_check, served_fresh, served_line, served_row, served_sheet}
+use Rattle.engine.specs.inner_contracts.Benches.{Stands}
+use Rattle.senders.specs.inner_contracts.Advancing.{ResolvedBench}
+use Rattle.cycles.specs.inner_contracts.ReadSets.{SCOPES_BYTES}
+use Rattle.text.specs.definitions.Answers.{refusal_answer as placed}
 
 -- ---- a sender
 
@@ -74,9 +78,14 @@ refused_says text d u e s = subst (Says text u d) e s
 
 -- ---- a sheet
 
+-- what is put says of the call
+abbrev pub sheeted : Sheeted → Result ℕ Refusal
+sheeted (Refused code) = Err (refused_as.Sheet code)
+sheeted (Length n) = Ok n
+
 sheet_said : (a : Answer (List ℕ)) (m : List ℕ) {new : List ℕ} (t : Sheeted) → SheetIs a m new t
-    → record { answer = sheeted_answer t; sheet = new } ≡ sheet_answered a m
-unfolding sheeted_answer sheet_answered with_row
+    → record { answer = answer_of (sheeted t); sheet = new } ≡ sheet_answered a m
+unfolding sheet_answered with_row
 sheet_said (refused code) m t (e, i) = rw (e, i)
 sheet_said (accepted bytes) m t (e, i) = rw (e, i.is)
 
@@ -86,84 +95,106 @@ accepted_is : {text classes offsets lengths literals d : List ℕ} (c : CheckedB
     → accepted_file text ≡ some c.bench.file
 accepted_is {text} c = accepted_is_file text c.accepts
 
-module _ {text classes offsets lengths literals d state shown names values out : List ℕ} where
-  pub check_served : {new : List ℕ} → new ≡ with_bench text out
-      → OnBench Check text classes offsets lengths literals d state shown names values out state new 0
-  unfolding served checked verdict_answer
-  check_served e = record { is = λ c. rw (c.accepts, e) }
+-- room for the columns of a text, and what stands in it
+pub stands_short : {text classes offsets lengths literals d refs scopes : List ℕ} → Stands text classes offsets lengths literals d refs scopes
+    → length text ≤ MOST_BYTES
+stands_short {text} s = text-length text s.checked.accepts
 
-  pub fresh_served : {new : List ℕ} {print : ℕ} → print ≡ fingerprint text → FreshStatePut text classes offsets lengths literals d print state new
-      → OnBench Fresh text classes offsets lengths literals d state shown names values out new out 0
-  unfolding served freshened
-  fresh_served e p = record { is = λ c. rw (accepted_is c, ← e, p.is c.bench c.few c.valued) }
+pub rules_stand : {text classes offsets lengths literals d refs scopes new_refs new_scopes : List ℕ}
+    → Stands text classes offsets lengths literals d refs scopes
+    → RulesResolved text classes offsets lengths d refs scopes new_refs new_scopes
+    → ResolvedBench text classes offsets lengths literals d new_refs new_scopes
+rules_stand s r = record { checked = s.checked; references = r.references; scopes_are = r.scopes_are; reads_are = r.reads_are }
 
-  pub line_served : {refs scopes new_refs new_scopes : List ℕ} → RulesResolved text classes offsets lengths d refs scopes new_refs new_scopes
-      → {new_state new_out : List ℕ} {t : Taken} {r : ℕ}
-      → LineTaken text classes offsets lengths literals d new_refs new_scopes names values state out new_state new_out t → r ≡ taken_answer t
-      → OnBench Line text classes offsets lengths literals d state shown names values out new_state new_out r
-  unfolding served line_on_bench
-  line_served resolves takes e = record {
-    is = λ c.
-        rw (accepted_is c, e)
-        (ap (λ (a : AfterLine). served_line a) (takes.is (record { checked = c; references = resolves.references; scopes_are = resolves.scopes_are; reads_are = resolves.reads_are })));
-  }
+module _ {text classes offsets lengths literals d refs scopes : List ℕ} (stands : Stands text classes offsets lengths literals d refs scopes) where
+  c : CheckedBench text classes offsets lengths literals d
+  c = stands.checked
 
-  pub header_served : {new : List ℕ} {n r : ℕ} → HeaderPut text classes offsets lengths d out new n → (n ≤ 32768 → r ≡ 256 * n)
-      → OnBench Header text classes offsets lengths literals d state shown names values out state new r
-  unfolding served header_on_bench row_written with_row
-  header_served {new} {n} p e = record {
-    is = λ c.
-        let s = short_names c.lexed c.bench.columns in
-        let i = p.is c.bench c.few s in
-        rw (accepted_is c, e (p.short c.bench c.few s), i.is, i.count);
-  }
+  pub image_is : (out : List ℕ) {new : List ℕ} → new ≡ with_bench text out → record { answer = 0; bench = new } ≡ checked (verdict text) text out
+  unfolding checked verdict_answer
+  image_is out e = rw (c.accepts, e)
 
-  module _ {print : ℕ} (p : print ≡ fingerprint text) {is : Bool} (tests : StateTest print classes d shown is) where
-    pub row_no_state : is ≡ false → OnBench Row text classes offsets lengths literals d state shown names values out state out 33
-    unfolding served row_on_bench row_in_state
-    row_no_state q = record { is = λ c. rw (accepted_is c, no_state (fingerprint text) c.bench.file shown (state_told p tests q c)) }
+  pub fresh_is : {print : ℕ} {state new : List ℕ} → print ≡ fingerprint text → FreshStatePut text classes offsets lengths literals d print state new
+      → record { answer = 0; state = new } ≡ freshened (fingerprint text) (accepted_file text) state
+  unfolding freshened
+  fresh_is e p = rw (accepted_is c, ← e, p.is c.bench c.few c.valued)
 
-    pub row_no_sender : is ≡ true → is_sender names ≡ false → OnBench Row text classes offsets lengths literals d state shown names values out state out 43
-    unfolding served row_on_bench row_in_state row_if_named
-    row_no_sender q n = record { is = λ c. rw (accepted_is c, state_decoded (fingerprint text) c.bench.file shown (state_told p tests q c), n) }
+  pub header_is : {row new : List ℕ} {n : ℕ} → HeaderPut text classes offsets lengths d row new n
+      → record { answer = length_answer n; row = new } ≡ header_on_bench (accepted_file text) row
+  unfolding header_on_bench row_written with_row
+  header_is p =
+      let s = short_names c.lexed c.bench.columns in
+      let i = p.is c.bench c.few s in
+      rw (accepted_is c, length_told (p.short c.bench c.few s), i.is, i.count)
 
-    pub row_served : is ≡ true → is_sender names ≡ true → {new : List ℕ} {n r : ℕ} → Shown classes d shown names out new n → r ≡ 256 * n
-        → OnBench Row text classes offsets lengths literals d state shown names values out state new r
-    unfolding served row_on_bench row_in_state row_if_named row_written with_row
-    row_served q n shows e = record {
-      is = λ c.
-          let o = state_decoded (fingerprint text) c.bench.file shown (state_told p tests q c) in
-          let i = shows.is text offsets lengths c.bench c.few (fingerprint text) _ o in
-          rw (accepted_is c, o, n, e, i.is, i.count);
-    }
+  module _ {print : ℕ} (p : print ≡ fingerprint text) {shown : List ℕ} {is : Bool} (tests : StateTest print classes d shown is) where
+    pub row_of_no_state : is ≡ false → (sender row : List ℕ)
+        → record { answer = 33; row = row } ≡ row_on_bench (fingerprint text) (accepted_file text) shown sender row
+    unfolding row_on_bench row_in_state
+    row_of_no_state q sender row = rw (accepted_is c, no_state (fingerprint text) c.bench.file shown (state_told p tests q c))
 
-  pub sheet_served : {refs scopes new_refs new_scopes : List ℕ} → RulesResolved text classes offsets lengths d refs scopes new_refs new_scopes
-      → {new : List ℕ} {t : Sheeted} {r : ℕ}
-      → SheetPut text classes offsets lengths literals d new_refs new_scopes shown names values out new t → r ≡ sheeted_answer t
-      → OnBench Sheet text classes offsets lengths literals d state shown names values out state new r
-  unfolding served sheet_on_bench
-  sheet_served resolves {new} {t} puts e = record {
-    is = λ c.
-        let f = c.bench.file in
-        rw (accepted_is c, e)
-        (ap (λ (a : AfterSheet). served_sheet a state)
-        (sheet_said (sheet_if_state f (state_of (fingerprint text) f shown) names values) out t
-        (puts.is (record { checked = c; references = resolves.references; scopes_are = resolves.scopes_are; reads_are = resolves.reads_are }))));
-  }
+    pub row_of_no_sender : is ≡ true → (sender row : List ℕ) → is_sender sender ≡ false
+        → record { answer = 43; row = row } ≡ row_on_bench (fingerprint text) (accepted_file text) shown sender row
+    unfolding row_on_bench row_in_state row_if_named
+    row_of_no_sender q sender row n = rw (accepted_is c, state_decoded (fingerprint text) c.bench.file shown (state_told p tests q c), n)
+
+    pub row_is : is ≡ true → {sender row new : List ℕ} {n : ℕ} → is_sender sender ≡ true → Shown classes d shown sender row new n
+        → record { answer = length_answer n; row = new } ≡ row_on_bench (fingerprint text) (accepted_file text) shown sender row
+    unfolding row_on_bench row_in_state row_if_named row_written with_row
+    row_is q n shows =
+        let o = state_decoded (fingerprint text) c.bench.file shown (state_told p tests q c) in
+        let i = shows.is text offsets lengths c.bench c.few (fingerprint text) _ o in
+        rw (accepted_is c, o, n, length_told shows.short, i.is, i.count)
+
+module _ {text classes offsets lengths literals d refs scopes : List ℕ} (b : ResolvedBench text classes offsets lengths literals d refs scopes) where
+  pub line_is : {names values state row new_state new_row : List ℕ} {r : Result ℕ Refusal}
+      → LineTaken text classes offsets lengths literals d refs scopes names values state row new_state new_row r
+      → record { answer = answer_of r; state = new_state; row = new_row } ≡ line_on_bench (fingerprint text) (accepted_file text) state names values row
+  unfolding line_on_bench
+  line_is takes = rw (accepted_is b.checked) (takes.is b)
+
+  pub sheet_is : {state readings cells out new : List ℕ} {t k : Sheeted}
+      → SheetPut text classes offsets lengths literals d refs scopes state readings cells out new t → t ≡ k
+      → record { answer = answer_of (sheeted k); sheet = new } ≡ sheet_on_bench (fingerprint text) (accepted_file text) state readings cells out
+  unfolding sheet_on_bench
+  sheet_is {state} {readings} {cells} {out} {new} {t} puts e =
+      let f = b.checked.bench.file in
+      rw (accepted_is b.checked, ← e) (sheet_said (sheet_if_state f (state_of (fingerprint text) f state) readings cells) out t (puts.is b))
 
 -- ---- a refused text
 
-pub refused_served : (call : Call) (text : List ℕ) {state : List ℕ} (shown names values : List ℕ) {out : List ℕ} {code at r : ℕ}
-    → verdict text ≡ Verdict.refused_at code at → r ≡ refusal call code at
-    → record { answer = r; state = state; out = out } ≡ served call text state shown names values out
-unfolding served checked verdict_answer accepted_file file_of freshened line_on_bench line_refused header_on_bench row_on_bench sheet_on_bench refusal
-    checked_answer
-refused_served Check text shown names values v e = rw (v, e)
-refused_served Fresh text shown names values v e = rw (v, e)
-refused_served Line text shown names values v e = rw (v, e)
-refused_served Header text shown names values v e = rw (v, e)
-refused_served Row text shown names values v e = rw (v, e)
-refused_served Sheet text shown names values v e = rw (v, e)
+module _ (text : List ℕ) {code at : ℕ} (v : verdict text ≡ Verdict.refused_at code at) where
+  pub check_refused : (state out : List ℕ) → record { answer = placed code at; state = state; out = out } ≡ served_check (checked (verdict text) text out) state
+  unfolding checked verdict_answer
+  check_refused state out = rw v
+
+  pub no_file : accepted_file text ≡ none
+  unfolding accepted_file file_of
+  no_file = rw v
+
+  pub fresh_refused : (state out : List ℕ) → record { answer = 32; state = state; out = out }
+      ≡ served_fresh (freshened (fingerprint text) (accepted_file text) state) out
+  unfolding freshened
+  fresh_refused state out = rw no_file
+
+  pub line_refuses : (names values state out : List ℕ) → record { answer = 32; state = state; out = out }
+      ≡ served_line (line_on_bench (fingerprint text) (accepted_file text) state names values out)
+  unfolding line_on_bench line_refused
+  line_refuses names values state out = rw no_file
+
+  pub header_refused : (state out : List ℕ) → record { answer = 32; state = state; out = out } ≡ served_row (header_on_bench (accepted_file text) out) state
+  unfolding header_on_bench
+  header_refused state out = rw no_file
+
+  pub row_refused : (shown sender state out : List ℕ) → record { answer = 32; state = state; out = out }
+      ≡ served_row (row_on_bench (fingerprint text) (accepted_file text) shown sender out) state
+  unfolding row_on_bench
+  row_refused shown sender state out = rw no_file
+
+  pub sheet_refused : (shown readings cells state out : List ℕ) → record { answer = 32; state = state; out = out }
+      ≡ served_sheet (sheet_on_bench (fingerprint text) (accepted_file text) shown readings cells out) state
+  unfolding sheet_on_bench
+  sheet_refused shown readings cells state out = rw no_file
 
 -- ---- the bench image
 
@@ -180,9 +211,8 @@ text_accepted m = go (leb (word_at 4 m 0) MOST_BYTES)
 -- ---- a text, by the check's answer
 
 module _ {text d e : List ℕ} {t u : TokenColumns} {r : Checked} (checks : Checks text t u d e r) where
-  pub refused_text : {code at : ℕ} → r ≡ checked_as.Refused code at → (call : Call) {state : List ℕ} (shown names values : List ℕ) {out : List ℕ} {a : ℕ}
-      → a ≡ refusal call code at → record { answer = a; state = state; out = out } ≡ served call text state shown names values out
-  refused_text q call shown names values p = refused_served call text shown names values (refused_says text e u q checks.says) p
+  pub text_refused : {code at : ℕ} → r ≡ checked_as.Refused code at → verdict text ≡ Verdict.refused_at code at
+  text_refused q = refused_says text e u q checks.says
 
   module _ {n : ℕ} (q : r ≡ checked_as.Accepted n) where
     accepts : Accepts text u e n
@@ -193,6 +223,10 @@ module _ {text d e : List ℕ} {t u : TokenColumns} {r : Checked} (checks : Chec
 
     pub accepted_length : length text ≤ MOST_BYTES
     accepted_length = text-length text accepts.stands.accepts
+
+    pub text_stands : {refs scopes : List ℕ} → length u.classes ≤ length refs → SCOPES_BYTES ≤ length scopes
+        → Stands text (take n u.classes) u.offsets u.lengths u.values e refs scopes
+    text_stands h g = record { checked = accepts.stands; room = let m = length-take n u.classes in rw m (omega arith); scopes_room = g }
 
     -- the first rows, as code lends them
     pub rows_fit : {most : ℕ} → length t.classes ≤ most → length (take (n - 0) u.classes) ≤ most
@@ -218,3 +252,9 @@ enough_room text t d a b c e f =
       le-ltb (length t.values) (length text) e,
     )
     (or_true (ltb MOST_BYTES (length text)))
+
+-- room for a text of n bytes, or for any text
+pub room_enough : (text : List ℕ) (t : TokenColumns) (d : List ℕ) {n : ℕ} → (length text ≤ n) ⊎ (MOST_BYTES ≤ n) → n ≤ length t.classes
+    → n ≤ length t.offsets → n ≤ length t.lengths → n ≤ length t.values → 355 ≤ length d → has_room text t d ≡ true
+room_enough text t d (inl h) a b c e f = enough_room text t d (omega arith) (omega arith) (omega arith) (omega arith) f
+room_enough text t d (inr h) a b c e f = room_for_all text t d (omega arith) (omega arith) (omega arith) (omega arith) f

@@ -28,8 +28,9 @@ use Rattle.senders.specs.definitions.StateImage.{state_of}
 use Rattle.senders.proofs.laws.StateLaws.{is_there}
 use Rattle.engine.specs.inner_contracts.LineMemory.{ShortRow, after_line, line_in_memory, RecordTaken}
 use Rattle.engine.specs.definitions.Calls.{line_row}
-use Rattle.engine.specs.declared.line.Taken.{Taken}
-use Rattle.engine.specs.declared.line.Taken.TheVariants.{Refused, Row}
+use Rattle.std.specs.Prelude.{Result, Ok, Err}
+use Rattle.engine.specs.declared.refusal.Refusal.{Refusal}
+use Rattle.engine.specs.inner_contracts.Refusals.{code_of, refusal_answer}
 use Rattle.replay.specs.definitions.Replay.{REFUSED, refusal, bench_refusal, row_for}
 use Rattle.replay.specs.inner_contracts.Awaiting.{
   Awaits,
@@ -189,8 +190,12 @@ module _ (m : BenchMemory) (line columns state out : List ℕ) (used : ℕ) wher
 
 -- ---- a line of values
 
-pub row_short : {r : Taken} (n : ℕ) → ShortRow r → r ≡ Row n → n ≤ 32768
+pub row_short : {r : Result ℕ Refusal} (n : ℕ) → ShortRow r → r ≡ Ok n → n ≤ 32768
 row_short n h e = subst ShortRow e h
+
+-- a line's refusal is its number alone
+no_place : {r : Result ℕ Refusal} (why : Refusal) → ShortRow r → r ≡ Err why → refusal_answer why ≡ code_of why
+no_place why h e = subst ShortRow e h
 
 -- what the engine asks of the columns
 pub values_known : (m : BenchMemory) (count : ℕ) (columns state : List ℕ) → Stood m (Values count) columns state → MOST_COLUMNS ≤ length columns
@@ -203,7 +208,7 @@ values_known m count columns state s h = go s.awaits s.stands
     go nothing q = elim q [ ]
 
 module _ (m : BenchMemory) (count : ℕ) (line columns state out : List ℕ) (used : ℕ)
-    {lent new_state new_row : List ℕ} {r : Taken}
+    {lent new_state new_row : List ℕ} {r : Result ℕ Refusal}
     (t : RecordTaken m.classes m.literals m.d m.refs m.scopes columns count line state lent new_state new_row r) where
   module _ (b : Resolved m) (ns : List ℕ) (s : State) (q : AtValues m (file_in b) ns s count columns state) where
     is_answer : after_line r new_state new_row ≡ line_in_memory m.text (file_in b) state ns line lent
@@ -222,23 +227,24 @@ module _ (m : BenchMemory) (count : ℕ) (line columns state out : List ℕ) (us
       known = q.known;
     }
 
-    row_of_values : (rest : List ℕ) (n : ℕ) → r ≡ Row n → used ≤ length out → n < length new_row
+    row_of_values : (rest : List ℕ) (n : ℕ) → r ≡ Ok n → used ≤ length out → n < length new_row
         → Takes m (values (file_in b) ns s) line out used columns new_state (set (take used out ++ (new_row ++ rest)) (used + n) 10)
         (Values count) (used + n + 1)
     unfolding prints awaited_after row_for state_after line_row
     row_of_values rest n e h i =
-        let g = taken_row b ns s state q.state_is line lent {new_state = new_state} {new_row = new_row} (rw e at is_answer) in
+        let g = taken_row b ns s state q.state_is line lent {new_state = new_state} {new_row = new_row} (row_short n t.short e) (rw e at is_answer) in
         record {
           appended = rw g.line_is (row_appended out used (line_row (file_in b) s g.read) new_row rest n h i g.row_is);
           stands = rw g.line_is (still_there g.state_is);
         }
 
-    refusal_of_values : (rest : List ℕ) (code : ℕ) → r ≡ Refused code → code < 256 → used + ROOM ≤ length (take used out ++ rest) → used ≤ length out
+    refusal_of_values : (rest : List ℕ) (why : Refusal) {code : ℕ} → r ≡ Err why → code ≡ code_of why → code < 256 → used + ROOM ≤ length (take used out ++ rest) → used ≤ length out
         → {o2 : List ℕ} {end : ℕ} → Put (refusal code ++ 10 ∷ []) (take used out ++ rest) used o2 end
         → Takes m (values (file_in b) ns s) line out used columns new_state o2 (Values count) end
     unfolding prints awaited_after row_for state_after
-    refusal_of_values rest code e small h i x =
-        let g = taken_refused b ns s state q.state_is line lent {new_state = new_state} {new_row = new_row} small (rw e at is_answer) in
+    refusal_of_values rest why {code} e told small h i x =
+        let g = taken_refused b ns s state q.state_is line lent {new_state = new_state} {new_row = new_row} why (no_place why t.short e ∙ sym told) small
+        (rw e at is_answer) in
         let k = refusal_most code in
         let l = length-append (refusal code) (10 ∷ []) in
         let same : take used (take used out ++ rest) ≡ take used out = take_at (take used out) rest used (length-take-le used out i) in
@@ -247,7 +253,7 @@ module _ (m : BenchMemory) (count : ℕ) (line columns state out : List ℕ) (us
           stands = rw g.0 (still_there (rw g.1 q.state_is));
         }
 
-  pub row_put : (rest : List ℕ) (n : ℕ) → r ≡ Row n → used ≤ length out → n < length new_row
+  pub row_put : (rest : List ℕ) (n : ℕ) → r ≡ Ok n → used ≤ length out → n < length new_row
       → LinePut m (Values count) line columns state out used columns new_state (set (take used out ++ (new_row ++ rest)) (used + n) 10)
       (record { stage = Values count; used = used + n + 1 })
   row_put rest n e h i = record { short = let k = row_short n t.short e in omega arith; is = go }
@@ -262,17 +268,17 @@ module _ (m : BenchMemory) (count : ℕ) (line columns state out : List ℕ) (us
       go (names _) q = elim q [ ]
       go nothing q = elim q [ ]
 
-  pub refused_put : (rest : List ℕ) (code : ℕ) → r ≡ Refused code → code < 256 → used + ROOM ≤ length (take used out ++ rest) → used ≤ length out
+  pub refused_put : (rest : List ℕ) (why : Refusal) {code : ℕ} → r ≡ Err why → code ≡ code_of why → code < 256 → used + ROOM ≤ length (take used out ++ rest) → used ≤ length out
       → {o2 : List ℕ} {end : ℕ} → Put (refusal code ++ 10 ∷ []) (take used out ++ rest) used o2 end
       → LinePut m (Values count) line columns state out used columns new_state o2 (record { stage = Values count; used = end })
-  refused_put rest code e small h i {o2} {end} x = record {
+  refused_put rest why {code} e told small h i {o2} {end} x = record {
     short = let k = refusal_most code in let l = length-append (refusal code) (10 ∷ []) in let z = x.end in omega arith;
     is = go;
   }
     where
       on : {f : File} (ns : List ℕ) (s : State) → StandsFor m f → AtValues m f ns s count columns state
           → Takes m (values f ns s) line out used columns new_state o2 (Values count) end
-      on ns s (stands_for b) q = refusal_of_values b ns s q rest code e small h i x
+      on ns s (stands_for b) q = refusal_of_values b ns s q rest why e told small h i x
 
       go : (a : Awaits) → Stands m a (Values count) columns state → Takes m a line out used columns new_state o2 (Values count) end
       go (values f ns s) q = on ns s q.file_stands q

@@ -1,6 +1,6 @@
 -- From the engine's answer in numbers to the answer by cases: a refusal leaves the state, a row is the sender's in the state after the line, which stands
 -- in memory.
-use Prim.Native.Nat.{ℕ, ◌*◌, ◌%◌, ◌<◌}
+use Prim.Native.Nat.{ℕ, ◌≤◌, ◌*◌, ◌%◌, ◌<◌}
 use native.Mathlib.Omega.{arith}
 use mathlib.Core.Path.{◌≡◌, refl, sym, ap, ◌∙◌}
 use mathlib.Core.List.{List}
@@ -32,8 +32,11 @@ use Rattle.engine.specs.definitions.Calls.{
   line_answered,
   line_in_state,
 }
-use Rattle.engine.specs.inner_contracts.LineMemory.{taken_answer, after_line, line_in_memory}
-use Rattle.engine.specs.declared.line.Taken.TheVariants.{Refused, Row}
+use Rattle.engine.specs.inner_contracts.LineMemory.{after_line, line_in_memory}
+use Rattle.std.specs.Prelude.{Result, Ok, Err}
+use Rattle.engine.specs.declared.refusal.Refusal.{Refusal}
+use Rattle.engine.specs.inner_contracts.Refusals.{code_of, refusal_answer}
+use Rattle.engine.proofs.laws.LineLaws.{length_told}
 
 -- a row has a byte at least
 row_some : (f : File) (s : State) (a : Accepted) → 0 < length (line_row f s a)
@@ -66,38 +69,38 @@ module _ {text classes offsets lengths literals d refs scopes : List ℕ} (b : R
     pub state_is : state_of print f new_state ≡ some (follow f s read)
 
   module _ {new_state new_row : List ℕ} where
-    pub taken_refused : {code : ℕ} → code < 256 → after_line (Refused code) new_state new_row ≡ line_in_memory text f m names values w
+    pub taken_refused : (why : Refusal) {code : ℕ} → refusal_answer why ≡ code → code < 256 → after_line (Err why) new_state new_row ≡ line_in_memory text f m names values w
         → (line f s names values ≡ refused code) × (new_state ≡ m)
-    unfolding line_in_state line_answered line_refused line_accepted taken_answer
-    taken_refused {code} small q = go (line f s names values) refl (rw is at q)
+    unfolding line_in_state line_answered line_refused line_accepted
+    taken_refused why {code} i small q = go (line f s names values) refl (rw is at q)
       where
         go : (a : Answer Accepted) → line f s names values ≡ a
-            → after_line (Refused code) new_state new_row ≡ line_answered print f s (line f s names values) m w
+            → after_line (Err why) new_state new_row ≡ line_answered print f s (line f s names values) m w
             → (line f s names values ≡ refused code) × (new_state ≡ m)
         go (refused c) e p =
-            let p2 : after_line (Refused code) new_state new_row ≡ line_refused c m w = rw e at p in
-            (e ∙ ap refused (sym (ap (λ (x : AfterLine). x.answer) p2)), ap (λ (x : AfterLine). x.state) p2)
+            let p2 : after_line (Err why) new_state new_row ≡ line_refused c m w = rw e at p in
+            (e ∙ ap refused (sym (ap (λ (x : AfterLine). x.answer) p2) ∙ i), ap (λ (x : AfterLine). x.state) p2)
         go (accepted a) e p =
-            let p2 : after_line (Refused code) new_state new_row ≡ line_accepted print f s a m w = rw e at p in
-            let n : code ≡ 256 * length (line_row f s a) = ap (λ (x : AfterLine). x.answer) p2 in
+            let p2 : after_line (Err why) new_state new_row ≡ line_accepted print f s a m w = rw e at p in
+            let n : refusal_answer why ≡ 256 * length (line_row f s a) = ap (λ (x : AfterLine). x.answer) p2 in
             let h = row_some f s a in
             absurd (omega arith)
 
-    pub taken_row : {n : ℕ} → after_line (Row n) new_state new_row ≡ line_in_memory text f m names values w → RowTaken new_state new_row n
-    unfolding line_in_state line_answered line_refused line_accepted taken_answer with_row
-    taken_row {n} q = go (line f s names values) refl (line_number f s names values) (rw is at q)
+    pub taken_row : {n : ℕ} → n ≤ 32768 → after_line (Ok n) new_state new_row ≡ line_in_memory text f m names values w → RowTaken new_state new_row n
+    unfolding line_in_state line_answered line_refused line_accepted with_row
+    taken_row {n} short q = go (line f s names values) refl (line_number f s names values) (rw is at q)
       where
         go : (a : Answer Accepted) → line f s names values ≡ a → HasNumber (line f s names values)
-            → after_line (Row n) new_state new_row ≡ line_answered print f s (line f s names values) m w → RowTaken new_state new_row n
+            → after_line (Ok n) new_state new_row ≡ line_answered print f s (line f s names values) m w → RowTaken new_state new_row n
         go (refused c) e h p =
-            let p2 : after_line (Row n) new_state new_row ≡ line_refused c m w = rw e at p in
-            let k : 256 * n ≡ c = ap (λ (x : AfterLine). x.answer) p2 in
+            let p2 : after_line (Ok n) new_state new_row ≡ line_refused c m w = rw e at p in
+            let k : 256 * n ≡ c = sym (length_told short) ∙ ap (λ (x : AfterLine). x.answer) p2 in
             let g : eqb (c % 256) 0 ≡ false = rw e at h in
             let z = eqb-false (c % 256) 0 g in
             absurd (z (omega arith))
         go (accepted a) e h p =
-            let p2 : after_line (Row n) new_state new_row ≡ line_accepted print f s a m w = rw e at p in
-            let l : 256 * n ≡ 256 * length (line_row f s a) = ap (λ (x : AfterLine). x.answer) p2 in
+            let p2 : after_line (Ok n) new_state new_row ≡ line_accepted print f s a m w = rw e at p in
+            let l : 256 * n ≡ 256 * length (line_row f s a) = sym (length_told short) ∙ ap (λ (x : AfterLine). x.answer) p2 in
             let k : n ≡ length (line_row f s a) = omega arith in
             let r : new_row ≡ with_row (line_row f s a) w = ap (λ (x : AfterLine). x.row) p2 in
             record {

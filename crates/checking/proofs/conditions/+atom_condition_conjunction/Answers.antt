@@ -24,7 +24,7 @@ condition-loop-right-init t c = condition_begins _ c.conjunction-left.ensures
 pub condition-loop-right-smaller : goal.condition-loop-right-smaller
 unfolding is_or
 condition-loop-right-smaller t c =
-    turn_less is_or c.args.classes.now refl (eq-eqb _ OR (sym c.class_at.ensures ∙ c.loop-right-test.true))
+    turn_less is_or c.args.columns.now.classes.now refl (eq-eqb _ OR (sym c.class_at.ensures ∙ c.loop-right-test.true))
     c.skip.ensures c.conjunction-right.ensures.onward c.joined-left.ensures.next_is
 
 pub condition-loop-right-preserved : goal.condition-loop-right-preserved
@@ -44,7 +44,7 @@ conjunction-loop-right-init t c = conjunction_begins _ c.atom-left.ensures
 pub conjunction-loop-right-smaller : goal.conjunction-loop-right-smaller
 unfolding is_and
 conjunction-loop-right-smaller t c =
-    turn_less is_and c.args.classes.now refl (eq-eqb _ AND (sym c.class_at.ensures ∙ c.loop-right-test.true))
+    turn_less is_and c.args.columns.now.classes.now refl (eq-eqb _ AND (sym c.class_at.ensures ∙ c.loop-right-test.true))
     c.skip.ensures c.atom-right.ensures.onward c.joined-left.ensures.next_is
 
 pub conjunction-loop-right-preserved : goal.conjunction-loop-right-preserved

@@ -16,13 +16,13 @@ abbrev pub decreases-conjunction : goal.decreases-conjunction
 decreases-conjunction l = l.depth * 3 + 1
 
 abbrev pub decreases-condition-loop-right : goal.decreases-condition-loop-right
-decreases-condition-loop-right l = length l.classes - l.left.next
+decreases-condition-loop-right l = length l.columns.classes.now - l.left.next
 
 abbrev pub invariant-condition-loop-right : goal.invariant-condition-loop-right
-invariant-condition-loop-right l = Looping world_rows (ConditionYields l.text l.classes l.offsets l.lengths l.d l.start) (condition_reader l.depth) is_or (joined (conjunction_reader l.depth) either_at) l.at l.left l.left.next
+invariant-condition-loop-right l = Looping world_rows (ConditionYields l.columns.text.now l.columns.classes.now l.columns.offsets.now l.columns.lengths.now l.columns.d.now l.start) (condition_reader l.depth) is_or (joined (conjunction_reader l.depth) either_at) l.at l.left l.left.next
 
 abbrev pub decreases-conjunction-loop-right : goal.decreases-conjunction-loop-right
-decreases-conjunction-loop-right l = length l.classes - l.left.next
+decreases-conjunction-loop-right l = length l.columns.classes.now - l.left.next
 
 abbrev pub invariant-conjunction-loop-right : goal.invariant-conjunction-loop-right
-invariant-conjunction-loop-right l = Looping world_rows (ConditionYields l.text l.classes l.offsets l.lengths l.d l.start) (conjunction_reader l.depth) is_and (joined (atom_reader l.depth) both_at) l.at l.left l.left.next
+invariant-conjunction-loop-right l = Looping world_rows (ConditionYields l.columns.text.now l.columns.classes.now l.columns.offsets.now l.columns.lengths.now l.columns.d.now l.start) (conjunction_reader l.depth) is_and (joined (atom_reader l.depth) both_at) l.at l.left l.left.next

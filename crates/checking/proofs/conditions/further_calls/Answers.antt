@@ -13,7 +13,7 @@ loop-c-init c = loop_next c.nothing-before.ensures.next_is (many_begins _ (CallY
 
 pub loop-c-smaller : goal.loop-c-smaller
 loop-c-smaller c =
-    turn_less (λ k. eqb k COMMA) c.args.classes.now refl (eq-eqb _ COMMA (sym c.class_at.ensures ∙ c.loop-c-test.true))
+    turn_less (λ k. eqb k COMMA) c.args.columns.now.classes.now refl (eq-eqb _ COMMA (sym c.class_at.ensures ∙ c.loop-c-test.true))
     c.skip.ensures c.call-c.ensures.onward c.joined-before.ensures.next_is
 
 pub loop-c-preserved : goal.loop-c-preserved

@@ -13,7 +13,7 @@ expression-loop-i-init t c = expression_begins _ c.term-left.ensures
 pub expression-loop-i-smaller : goal.expression-loop-i-smaller
 unfolding is_term_operator
 expression-loop-i-smaller t c =
-    turn_less is_term_operator c.args.classes.now refl (test_read is_term_operator c.class_at.ensures c.is_term_operator.ensures c.loop-i-test.true)
+    turn_less is_term_operator c.args.columns.now.classes.now refl (test_read is_term_operator c.class_at.ensures c.is_term_operator.ensures c.loop-i-test.true)
     c.skip.ensures c.term-right.ensures.onward c.applied-left.ensures.next_is
 
 pub expression-loop-i-preserved : goal.expression-loop-i-preserved
@@ -56,7 +56,7 @@ term-loop-i-init t c = term_begins _ c.factor-left.ensures
 pub term-loop-i-smaller : goal.term-loop-i-smaller
 unfolding is_factor_operator
 term-loop-i-smaller t c =
-    turn_less is_factor_operator c.args.classes.now refl (test_read is_factor_operator c.class_at.ensures c.is_factor_operator.ensures c.loop-i-test.true)
+    turn_less is_factor_operator c.args.columns.now.classes.now refl (test_read is_factor_operator c.class_at.ensures c.is_factor_operator.ensures c.loop-i-test.true)
     c.skip.ensures c.factor-right.ensures.onward c.applied-left.ensures.next_is
 
 pub term-loop-i-preserved : goal.term-loop-i-preserved

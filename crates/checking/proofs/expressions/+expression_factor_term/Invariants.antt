@@ -16,13 +16,13 @@ abbrev pub decreases-term : goal.decreases-term
 decreases-term l = l.depth * 3 + 1
 
 abbrev pub decreases-expression-loop-i : goal.decreases-expression-loop-i
-decreases-expression-loop-i l = length l.classes - l.left.next
+decreases-expression-loop-i l = length l.columns.classes.now - l.left.next
 
 abbrev pub invariant-expression-loop-i : goal.invariant-expression-loop-i
-invariant-expression-loop-i l = Looping world_rows (ExpressionYields l.text l.classes l.offsets l.lengths l.d l.start) (expression_reader l.depth) is_term_operator (joined (term_reader l.depth) apply_at) l.at l.left l.left.next
+invariant-expression-loop-i l = Looping world_rows (ExpressionYields l.columns.text.now l.columns.classes.now l.columns.offsets.now l.columns.lengths.now l.columns.d.now l.start) (expression_reader l.depth) is_term_operator (joined (term_reader l.depth) apply_at) l.at l.left l.left.next
 
 abbrev pub decreases-term-loop-i : goal.decreases-term-loop-i
-decreases-term-loop-i l = length l.classes - l.left.next
+decreases-term-loop-i l = length l.columns.classes.now - l.left.next
 
 abbrev pub invariant-term-loop-i : goal.invariant-term-loop-i
-invariant-term-loop-i l = Looping world_rows (ExpressionYields l.text l.classes l.offsets l.lengths l.d l.start) (term_reader l.depth) is_factor_operator (joined (factor_reader l.depth) apply_at) l.at l.left l.left.next
+invariant-term-loop-i l = Looping world_rows (ExpressionYields l.columns.text.now l.columns.classes.now l.columns.offsets.now l.columns.lengths.now l.columns.d.now l.start) (term_reader l.depth) is_factor_operator (joined (factor_reader l.depth) apply_at) l.at l.left l.left.next

@@ -10,4 +10,4 @@ returns-in-Refused c = spans_refused c.in-Refused.is
 
 pub returns-else-row-number : goal.returns-else-row-number
 returns-else-row-number c =
-    spans_one c.in-Accepted.is c.row.ensures.0 c.if-row-number.false c.row-i.ensures.0 c.row-at.ensures.0 c.name-found.ensures
+    spans_one c.in-Accepted.is c.row.ensures.0 c.if-row-number.false c.row-i.ensures.0 c.offset-at.ensures c.name-found.ensures.bytes

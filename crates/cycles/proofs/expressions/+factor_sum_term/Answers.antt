@@ -29,7 +29,7 @@ sum-loop-b-init t c = expression_begins _ c.term-first.ensures
 
 pub sum-loop-b-smaller : goal.sum-loop-b-smaller
 sum-loop-b-smaller t c =
-    turn_falls is_term_operator term_operator_none c.args.classes.now c.class_at.ensures c.is_term_operator.ensures c.loop-b-test.true
+    turn_falls is_term_operator term_operator_none c.args.rules.now.classes c.class_at.ensures c.is_term_operator.ensures c.loop-b-test.true
     c.skip.ensures c.term-other.ensures.onward
 
 pub sum-loop-b-preserved : goal.sum-loop-b-preserved
@@ -45,7 +45,7 @@ term-loop-b-init t c = term_begins _ c.factor-first.ensures
 
 pub term-loop-b-smaller : goal.term-loop-b-smaller
 term-loop-b-smaller t c =
-    turn_falls is_factor_operator factor_operator_none c.args.classes.now c.class_at.ensures c.is_factor_operator.ensures c.loop-b-test.true
+    turn_falls is_factor_operator factor_operator_none c.args.rules.now.classes c.class_at.ensures c.is_factor_operator.ensures c.loop-b-test.true
     c.skip.ensures c.factor-other.ensures.onward
 
 pub term-loop-b-preserved : goal.term-loop-b-preserved

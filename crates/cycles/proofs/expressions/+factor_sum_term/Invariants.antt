@@ -15,13 +15,13 @@ abbrev pub decreases-term : goal.decreases-term
 decreases-term l = l.depth * 3 + 1
 
 abbrev pub invariant-sum-loop-b : goal.invariant-sum-loop-b
-invariant-sum-loop-b l = ExpressionLoop l.classes l.values l.refs l.b l.flags l.cells (expression_reader l.depth) is_term_operator (joined (term_reader l.depth) apply_at) l.at l.left l.i
+invariant-sum-loop-b l = ExpressionLoop l.rules.classes l.rules.values l.rules.refs l.b l.store.flags l.store.cells (expression_reader l.depth) is_term_operator (joined (term_reader l.depth) apply_at) l.at l.left l.i
 
 abbrev pub decreases-sum-loop-b : goal.decreases-sum-loop-b
-decreases-sum-loop-b l = length l.classes - l.i
+decreases-sum-loop-b l = length l.rules.classes - l.i
 
 abbrev pub invariant-term-loop-b : goal.invariant-term-loop-b
-invariant-term-loop-b l = ExpressionLoop l.classes l.values l.refs l.b l.flags l.cells (term_reader l.depth) is_factor_operator (joined (factor_reader l.depth) apply_at) l.at l.left l.i
+invariant-term-loop-b l = ExpressionLoop l.rules.classes l.rules.values l.rules.refs l.b l.store.flags l.store.cells (term_reader l.depth) is_factor_operator (joined (factor_reader l.depth) apply_at) l.at l.left l.i
 
 abbrev pub decreases-term-loop-b : goal.decreases-term-loop-b
-decreases-term-loop-b l = length l.classes - l.i
+decreases-term-loop-b l = length l.rules.classes - l.i

@@ -1,10 +1,11 @@
 -- What is left of `leaf`.
 use Rattle.cycles.proofs.steps.ExpressionValues.{leaf_cell, leaf_is_false, leaf_is_other, leaf_is_real, leaf_is_true, leaf_is_whole}
 use Rattle.text.proofs.laws.ExpressionWalks.{leaf_end}
+use Rattle.std.proofs.Common.{arith}
 use Rattle.cycles.proofs.expressions.leaf.Goals as goal
 
 pub returns-then-size-at : goal.returns-then-size-at
-returns-then-size-at c = leaf_end c.if-size-at.true
+returns-then-size-at c = leaf_end (omega arith)
 
 pub returns-then-class-eq-NAME : goal.returns-then-class-eq-NAME
 returns-then-class-eq-NAME c = leaf_cell c.class_at-class.ensures c.if-class-eq-NAME.true c.skip-next.ensures c.skip-name.ensures c.skip.ensures c.member_value.ensures

@@ -4,5 +4,5 @@ use Rattle.cycles.proofs.finding.clause_guards.Goals as goal
 
 pub returns : goal.returns
 returns c =
-    clause_guards_are c.skip-name.ensures c.skip.ensures c.skip-target.ensures c.target_end.ensures c.filter_guard-f.ensures
+    clause_guards_are c.skip-name.ensures c.skip.ensures c.skip-target.ensures c.target_end.ensures c.filter_guard-next.ensures
     c.skip-2.ensures c.test_guards.ensures

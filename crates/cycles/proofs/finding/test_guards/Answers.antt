@@ -8,4 +8,4 @@ returns-then-class_at-eq-CHANGED c = test_changed_guard c.class_at.ensures c.if-
 pub returns : goal.returns
 returns c =
     test_equals_guards c.class_at.ensures c.if-class_at-eq-CHANGED.false c.skip-inside.ensures c.expression_end-next.ensures
-    c.put_in_pass-first.ensures c.put_in_pass-2.ensures
+    c.put_in_pass-2.ensures c.put_in_pass-3.ensures

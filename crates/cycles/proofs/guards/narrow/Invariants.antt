@@ -5,8 +5,8 @@ use Rattle.cycles.proofs.guards.narrow.Given as goal
 
 abbrev pub invariant-loop-j : goal.invariant-loop-j
 invariant-loop-j l =
-    Narrowed l.classes l.values l.refs l.flags l.cells l.previous_flags l.previous_cells l.b l.guards l.count
-    l.level l.first l.end l.fn.marks l.marks
+    Narrowed l.rules.classes l.rules.values l.rules.refs l.stores.current.flags l.stores.current.cells l.stores.previous.flags l.stores.previous.cells l.candidates.b l.guards.rows l.guards.count
+    l.candidates.level l.candidates.first l.candidates.end l.fn.marks l.marks
 
 abbrev pub decreases-loop-j : goal.decreases-loop-j
-decreases-loop-j l = l.count - l.j
+decreases-loop-j l = l.guards.count - l.j

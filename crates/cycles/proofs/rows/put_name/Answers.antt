@@ -7,10 +7,10 @@ returns-then-not-is_sort c = name_none c.cell_token-token.ensures c.is_sort.ensu
 
 pub returns-then-row-at : goal.returns-then-row-at
 returns-then-row-at c =
-    name_no_room c.cell_token-token.ensures c.is_sort.ensures c.if-not-is_sort.false c.row.ensures.0 c.name-entity.ensures c.name-member.ensures _ _ c.requires
+    name_no_room c.cell_token-token.ensures c.is_sort.ensures c.if-not-is_sort.false c.row.ensures.0 c.name-entity.ensures.bytes c.name-member.ensures.bytes _ _ c.requires
     c.if-row-at.true
 
 pub returns : goal.returns
 returns c =
-    name_put c.cell_token-token.ensures c.is_sort.ensures c.if-not-is_sort.false c.row.ensures.0 c.name-entity.ensures c.name-member.ensures _ _ c.requires
+    name_put c.cell_token-token.ensures c.is_sort.ensures c.if-not-is_sort.false c.row.ensures.0 c.name-entity.ensures.bytes c.name-member.ensures.bytes _ _ c.requires
     c.if-row-at.false c.put_bytes-dot.ensures c.put_bytes.ensures

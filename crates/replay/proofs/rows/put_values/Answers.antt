@@ -3,12 +3,12 @@ use Rattle.values.proofs.laws.PutLaws.{put_said, put_next}
 use Rattle.replay.proofs.steps.LineLaws.{row_short, row_put, refused_put}
 use Rattle.replay.proofs.rows.put_values.Goals as goal
 
-pub returns-in-Refused : goal.returns-in-Refused
-returns-in-Refused c =
-    refused_put _ _ _ _ _ _ _ c.take_record-taken.ensures _ _ c.in-Refused.is (omega arith) (omega arith) (omega arith)
+pub returns-in-Err : goal.returns-in-Err
+returns-in-Err c =
+    refused_put _ _ _ _ _ _ _ c.take_record-taken.ensures _ _ c.in-Err.is c.code.ensures (omega arith) (omega arith) (omega arith)
     (put_next c.put_refusal-word.ensures (put_said (10 ∷ []) c.put_bytes-end.ensures))
 
-pub returns-in-Row : goal.returns-in-Row
-returns-in-Row c =
-    row_put _ _ _ _ _ _ _ c.take_record-taken.ensures _ _ c.in-Row.is (omega arith)
-    (let short = row_short c.in-Row.n c.take_record-taken.ensures.short c.in-Row.is in omega arith)
+pub returns-in-Ok : goal.returns-in-Ok
+returns-in-Ok c =
+    row_put _ _ _ _ _ _ _ c.take_record-taken.ensures _ _ c.in-Ok.is (omega arith)
+    (let short = row_short c.in-Ok.n c.take_record-taken.ensures.short c.in-Ok.is in omega arith)

@@ -1,0 +1,71 @@
+// Why a call is refused, and the number that a call answers.
+ghost use Rattle.std.specs.Prelude.{◌≡◌, ◌≤◌, ◌<◌, length, MatchResult};
+ghost use Rattle.engine.specs.inner_contracts.Refusals.{code_of, refusal_answer, answer_of};
+ghost use Rattle.engine.specs.declared.refusal.Refusal.TheVariants.{ShortMemory};
+
+use checking::coded;
+
+// So many lengths can stand above a number.
+const LENGTHS: usize = 72057594037927936;
+
+/// Why a call is refused.
+#[derive(Clone, Copy, Debug, PartialEq, Eq)]
+pub enum Refusal {
+    ShortMemory, // lent memory is shorter than its stated size
+    NoBench, // memory is no checked bench
+    NoState, // memory is no state of the bench
+    Header, // a line of names
+    IllFormedSender, // of a row that is asked for
+    Text { code: u8, at: u32 }, // a bench file, by the check's number and the offset
+    Line(u8), // a line of values, by the number of the state's answer
+    Sheet(u8), // a day sheet, by its number
+}
+
+impl Refusal {
+    /// The number that the documents give it.
+    pub const fn code(self) -> u8
+        ensures { result ≡ code_of self }
+    {
+        match self {
+            Refusal::Header => 22,
+            Refusal::ShortMemory => 31,
+            Refusal::NoBench => 32,
+            Refusal::NoState => 33,
+            Refusal::IllFormedSender => 43,
+            Refusal::Text { code, .. } => code,
+            Refusal::Line(code) => code,
+            Refusal::Sheet(code) => code,
+        }
+    }
+}
+
+impl From<Refusal> for u64 {
+    ghost from_gives = { λ r n. n ≡ refusal_answer r };
+
+    fn from(refusal: Refusal) -> u64 {
+        match refusal {
+            Refusal::Text { code, at } => coded(code, at),
+            other => other.code() as u64,
+        }
+    }
+}
+
+/// The answer of a call: the length that it wrote above a low byte of 0, or its refusal.
+pub fn answer(done: Result<usize, Refusal>) -> u64
+    ensures { result ≡ answer_of done }
+{
+    match done {
+        Ok(length) => 256 * ((length % LENGTHS) as u64),
+        Err(refusal) => u64::from(refusal),
+    }
+}
+
+/// Is lent memory as long as its stated size?
+pub fn room_for(memory: &[u8], size: usize) -> Result<(), Refusal>
+    ensures { MatchResult result (λ _. size ≤ length memory.now) (λ e. (e ≡ ShortMemory) × (length memory.now < size)) }
+{
+    if memory.len() < size {
+        return Err(Refusal::ShortMemory);
+    }
+    Ok(())
+}

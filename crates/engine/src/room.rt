@@ -1,0 +1,325 @@
+// Room for the columns of a bench text, and an accepted text that stands in it.
+ghost use Rattle.std.specs.Prelude.{true, ◌≡◌, ◌≤◌, ◌⊎◌, length, MatchResult};
+ghost use Rattle.text.specs.inner_contracts.TokenTable.{columns_of};
+ghost use Rattle.checking.specs.inner_contracts.CheckedBench.{has_room};
+ghost use Rattle.cycles.specs.inner_contracts.ReadSets;
+ghost use Rattle.checking.specs.definitions.Verdict;
+ghost use Rattle.checking.specs.definitions.Verdict.{verdict, accepted_file, refused_at};
+ghost use Rattle.senders.specs.definitions.Fingerprint.{fingerprint};
+ghost use Rattle.senders.specs.definitions.StateImage;
+ghost use Rattle.days.specs.definitions.DaySheet.{sheet_size};
+ghost use Rattle.engine.specs.definitions.BenchImage;
+ghost use Rattle.engine.specs.definitions.Calls;
+ghost use Rattle.engine.specs.definitions.Calls.{length_answer, checked, freshened, header_on_bench, row_on_bench, line_on_bench, sheet_on_bench};
+ghost use Rattle.engine.specs.inner_contracts.Refusals.{answer_of};
+
+use crate::bench::put_bench;
+use crate::line::take_line;
+use crate::refusal::Refusal;
+use checking::check::{Checked, check};
+use checking::layout::DIRECTORY;
+use cycles::layout::SCOPES_BYTES;
+use cycles::put_row_header;
+use days::sheet::{Sheeted, put_sheet};
+use senders::fingerprint::fingerprint;
+use senders::{is_sender, is_state, put_fresh, show};
+use std::marker::Model;
+
+/// Why a text is refused, and where.
+#[derive(Clone, Copy, Debug, PartialEq, Eq)]
+pub struct Fault {
+    pub code: u8,
+    pub at: u32,
+}
+
+/// An accepted text in columns, a row for each token, with room to resolve its rules' names. Clauses see the text.
+#[derive(Drop)]
+pub struct Bench<'a> {
+    text: &'a [u8],
+    classes: &'a [u8],
+    offsets: &'a [u16],
+    lengths: &'a [u8],
+    literals: &'a [u32],
+    directory: &'a [u16],
+    references: &'a mut [u16],
+    scopes: &'a mut [u8],
+}
+
+impl<'a> Model for Bench<'a> {
+    ghost use Rattle.std.specs.Prelude.{ℕ, List};
+    ghost use Rattle.engine.specs.inner_contracts.Benches.{Stands};
+
+    ghost Value = { List ℕ };
+
+    ghost view = { λ b. b.text.now };
+
+    ghost invariant = { λ b. Stands b.text.now b.classes.now b.offsets.now b.lengths.now b.literals.now b.directory.now b.references.now b.scopes.now };
+}
+
+/// An accepted text in columns, with its rules' names resolved. Clauses see the text.
+#[derive(Drop)]
+pub struct Rules<'a> {
+    text: &'a [u8],
+    classes: &'a [u8],
+    offsets: &'a [u16],
+    lengths: &'a [u8],
+    literals: &'a [u32],
+    directory: &'a [u16],
+    references: &'a [u16],
+    scopes: &'a [u8],
+}
+
+impl<'a> Model for Rules<'a> {
+    ghost use Rattle.std.specs.Prelude.{ℕ, List};
+    ghost use Rattle.senders.specs.inner_contracts.Advancing.{ResolvedBench};
+
+    ghost Value = { List ℕ };
+
+    ghost view = { λ b. b.text.now };
+
+    ghost invariant = { λ b. ResolvedBench b.text.now b.classes.now b.offsets.now b.lengths.now b.literals.now b.directory.now b.references.now b.scopes.now };
+}
+
+impl<'a> Bench<'a> {
+    /// Writes the image of the text.
+    #[tactic(auto, using(crate::proofs::laws::ServingLaws::stands_short))]
+    pub fn put_image(&self, image: &mut [u8])
+        requires { BenchImage.BENCH ≤ length image.old }
+        ensures { record { answer = 0; bench = image.new } ≡ checked (verdict self.now) self.now image.old }
+    {
+        put_bench(self.text, image);
+    }
+
+    /// Writes the fresh state.
+    pub fn put_fresh(&self, state: &mut [u8])
+        requires { StateImage.STATE ≤ length state.old }
+        ensures { record { answer = 0; state = state.new } ≡ freshened (fingerprint self.now) (accepted_file self.now) state.old }
+    {
+        let Bench {
+            text,
+            classes,
+            offsets,
+            lengths,
+            literals,
+            directory,
+            ..
+        } = self;
+        put_fresh(
+            text,
+            classes,
+            offsets,
+            lengths,
+            literals,
+            directory,
+            fingerprint(text),
+            state,
+        );
+    }
+
+    /// Writes the row of names: its length.
+    pub fn put_header(&self, row: &mut [u8]) -> usize
+        requires { Calls.ROW ≤ length row.old }
+        ensures { record { answer = length_answer result; row = row.new } ≡ header_on_bench (accepted_file self.now) row.old }
+    {
+        let Bench {
+            text,
+            classes,
+            offsets,
+            lengths,
+            directory,
+            ..
+        } = self;
+        put_row_header(text, classes, offsets, lengths, directory, row)
+    }
+
+    /// Writes the row that a state keeps for a sender: its length, or a refusal.
+    #[tactic(auto, using(crate::proofs::laws::ServingLaws::sender_short))]
+    pub fn show(&self, state: &[u8], sender: &[u8], row: &mut [u8]) -> Result<usize, Refusal>
+        requires { (StateImage.STATE ≤ length state.now) × (Calls.ROW ≤ length row.old) }
+        ensures { record { answer = answer_of result; row = row.new }
+            ≡ row_on_bench (fingerprint self.now) (accepted_file self.now) state.now sender.now row.old }
+    {
+        let Bench {
+            text,
+            classes,
+            directory,
+            ..
+        } = self;
+        if !is_state(classes, directory, fingerprint(text), state) {
+            return Err(Refusal::NoState);
+        }
+        if !is_sender(sender) {
+            return Err(Refusal::IllFormedSender);
+        }
+        Ok(show(classes, directory, state, sender, row))
+    }
+
+    /// Resolves the names of the rules.
+    #[tactic(auto, using(crate::proofs::laws::ServingLaws::rules_stand))]
+    pub fn resolve(self) -> Rules<'a>
+        ensures { result ≡ self.entry }
+    {
+        let Bench {
+            text,
+            classes,
+            offsets,
+            lengths,
+            literals,
+            directory,
+            references,
+            scopes,
+        } = self;
+        reads::resolve(
+            text, classes, offsets, lengths, directory, references, scopes,
+        );
+        Rules {
+            text,
+            classes,
+            offsets,
+            lengths,
+            literals,
+            directory,
+            references,
+            scopes,
+        }
+    }
+}
+
+impl<'a> Rules<'a> {
+    /// Takes a header and a record: the length of the sender's row, or a refusal.
+    pub fn take_line(
+        &self,
+        names: &[u8],
+        values: &[u8],
+        state: &mut [u8],
+        row: &mut [u8],
+    ) -> Result<usize, Refusal>
+        requires { (StateImage.STATE ≤ length state.old) × (Calls.ROW ≤ length row.old) }
+        ensures { record { answer = answer_of result; state = state.new; row = row.new }
+            ≡ line_on_bench (fingerprint self.now) (accepted_file self.now) state.old names.now values.now row.old }
+    {
+        let Rules {
+            text,
+            classes,
+            offsets,
+            lengths,
+            literals,
+            directory,
+            references,
+            scopes,
+        } = self;
+        take_line(
+            text, classes, offsets, lengths, literals, directory, references, scopes, names,
+            values, state, row,
+        )
+    }
+
+    /// Writes the day sheet of a text of readings, run on from a state that stays: its length, or a refusal.
+    pub fn put_sheet(
+        &self,
+        state: &[u8],
+        readings: &[u8],
+        cells: &[u8],
+        sheet: &mut [u8],
+    ) -> Result<usize, Refusal>
+        requires { (StateImage.STATE ≤ length state.now) × (sheet_size readings.now ≤ length sheet.old) }
+        ensures { record { answer = answer_of result; sheet = sheet.new }
+            ≡ sheet_on_bench (fingerprint self.now) (accepted_file self.now) state.now readings.now cells.now sheet.old }
+    {
+        let Rules {
+            text,
+            classes,
+            offsets,
+            lengths,
+            literals,
+            directory,
+            references,
+            scopes,
+        } = self;
+        match put_sheet(
+            text, classes, offsets, lengths, literals, directory, references, scopes, state,
+            readings, cells, sheet,
+        ) {
+            Sheeted::Refused(code) => Err(Refusal::Sheet(code)),
+            Sheeted::Length(length) => Ok(length),
+        }
+    }
+}
+
+/// Room for the columns of a text of at most `N` bytes, or of any text where `N` is the most bytes of a bench.
+#[derive(Drop)]
+pub struct Room<const N: usize> {
+    classes: [u8; N],
+    offsets: [u16; N],
+    lengths: [u8; N],
+    literals: [u32; N],
+    directory: [u16; DIRECTORY],
+    references: [u16; N],
+    scopes: [u8; SCOPES_BYTES],
+}
+
+impl<const N: usize> Room<N> {
+    pub fn new() -> Self {
+        Room {
+            classes: [0; N],
+            offsets: [0; N],
+            lengths: [0; N],
+            literals: [0; N],
+            directory: [0; DIRECTORY],
+            references: [0; N],
+            scopes: [0; SCOPES_BYTES],
+        }
+    }
+
+    /// The bench that a text is, or why it is none.
+    pub fn read<'a>(&'a mut self, text: &'a [u8]) -> Result<Bench<'a>, Fault>
+        requires { (length text.now ≤ N) ⊎ (Verdict.MOST_BYTES ≤ N) }
+        ensures { MatchResult result (λ b. b ≡ text.now) (λ fault. verdict text.now ≡ refused_at fault.code fault.at) }
+    {
+        let Room {
+            classes,
+            offsets,
+            lengths,
+            literals,
+            directory,
+            references,
+            scopes,
+        } = self;
+        read_into(
+            text, classes, offsets, lengths, literals, directory, references, scopes,
+        )
+    }
+}
+
+// The bench that a text is, by its columns.
+#[tactic(auto, using(crate::proofs::laws::ServingLaws::text_stands, crate::proofs::laws::ServingLaws::text_refused))]
+fn read_into<'a>(
+    text: &'a [u8],
+    classes: &'a mut [u8],
+    offsets: &'a mut [u16],
+    lengths: &'a mut [u8],
+    literals: &'a mut [u32],
+    directory: &'a mut [u16],
+    references: &'a mut [u16],
+    scopes: &'a mut [u8],
+) -> Result<Bench<'a>, Fault>
+    requires room { has_room text.now (columns_of classes.old offsets.old lengths.old literals.old) directory.old ≡ true }
+    requires to_resolve { (length classes.old ≤ length references.old) × (ReadSets.SCOPES_BYTES ≤ length scopes.old) }
+    ensures { MatchResult result (λ b. b ≡ text.now) (λ fault. verdict text.now ≡ refused_at fault.code fault.at) }
+{
+    let checked = check(text, classes, offsets, lengths, literals, directory);
+    match checked {
+        Checked::Accepted(n) => Ok(Bench {
+            text,
+            classes: &classes[..n],
+            offsets,
+            lengths,
+            literals,
+            directory,
+            references,
+            scopes,
+        }),
+        Checked::Refused { code, at } => Err(Fault { code, at }),
+        Checked::NoRoom => unreachable!(),
+    }
+}
