@@ -11,56 +11,46 @@ use crate::conditions::{both, condition, filter, target_end};
 use crate::evaluate::{Binding, bound, put};
 use crate::expressions::expression;
 use crate::rules::Rules;
-use crate::store::{Store, Stores};
+use crate::store::Stores;
+use crate::world::World;
 use checking::layout::MOST_PRIORITY;
 use text::classes::{COMMA, RANK};
 use text::grammar::OPENERS;
 
 // One call, in a rule of this priority: what it writes goes into the area. The number of the token after it.
-fn call(
-    rules: &Rules<'_>,
-    b: Binding,
-    store: &Store<'_>,
-    priority: u8,
-    at: usize,
-    area: &mut [u8],
-) -> usize
+fn call(world: &World<'_, '_>, priority: u8, at: usize, area: &mut [u8]) -> usize
     requires in_bounds { Evaluation.MOST_PENDING_BYTES ≤ length area.old }
     requires priority_bound { priority ≤ PriorityFaults.MOST_PRIORITY }
-    ensures { CallPuts rules.now b store.now priority
+    ensures { CallPuts world.now.rules.now world.now.b world.now.store.now priority
         area.old call_reader at area.new result }
 {
-    let name = rules.skip(at);
-    let opener = rules.skip(name);
-    let x = expression(rules, b, store, rules.skip(opener), OPENERS);
+    let name = world.rules.skip(at);
+    let opener = world.rules.skip(name);
+    let x = expression(world, world.rules.skip(opener), OPENERS);
     let v = x.value;
-    let on = rules.skip(x.next);
-    let target = rules.skip(on);
-    let e = bound(b, rules.owner(target));
-    let m = rules.member(name);
-    let f = filter(rules, b, store, e, target_end(rules, target), OPENERS);
-    let made = both(store.is_present_at(e, m), both(f.holds, values::is_set(v)));
+    let on = world.rules.skip(x.next);
+    let target = world.rules.skip(on);
+    let e = bound(world.b, world.rules.owner(target));
+    let m = world.rules.member(name);
+    let f = filter(world, e, target_end(world.rules, target), OPENERS);
+    let made = both(
+        world.store.is_present_at(e, m),
+        both(f.holds, values::is_set(v)),
+    );
     put(area, made, priority, e, m, v);
     f.next
 }
 
 // Further calls, each after a `,`.
-fn further_calls(
-    rules: &Rules<'_>,
-    b: Binding,
-    store: &Store<'_>,
-    priority: u8,
-    at: usize,
-    area: &mut [u8],
-) -> usize
+fn further_calls(world: &World<'_, '_>, priority: u8, at: usize, area: &mut [u8]) -> usize
     requires in_bounds { Evaluation.MOST_PENDING_BYTES ≤ length area.old }
     requires priority_bound { priority ≤ PriorityFaults.MOST_PRIORITY }
-    ensures { CallsPut rules.now b store.now priority
+    ensures { CallsPut world.now.rules.now world.now.b world.now.store.now priority
         area.old (many Tokens.COMMA call_after) at area.new result }
 {
     let mut i = at;
-    while rules.class_at(i) == COMMA {
-        i = call(rules, b, store, priority, rules.skip(i), area);
+    while world.rules.class_at(i) == COMMA {
+        i = call(world, priority, world.rules.skip(i), area);
     }
     i
 }
@@ -89,14 +79,12 @@ pub fn rule_at(rules: &Rules<'_>, b: Binding, stores: &Stores<'_>, at: usize, ar
     if !c.holds {
         return;
     }
-    let priority = priority_at(rules, at);
-    let next = call(
+    let world = World {
         rules,
         b,
-        &stores.current,
-        priority,
-        rules.skip(c.next),
-        area,
-    );
-    further_calls(rules, b, &stores.current, priority, next, area);
+        store: &stores.current,
+    };
+    let priority = priority_at(rules, at);
+    let next = call(&world, priority, rules.skip(c.next), area);
+    further_calls(&world, priority, next, area);
 }

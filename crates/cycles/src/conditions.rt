@@ -6,7 +6,8 @@ ghost use Rattle.cycles.specs.inner_contracts.Evaluation.{TargetWalk, Filters, T
 use crate::evaluate::{Binding, bound};
 use crate::expressions::expression;
 use crate::rules::Rules;
-use crate::store::{Store, Stores};
+use crate::store::Stores;
+use crate::world::World;
 use text::classes::{AND, CHANGED, COLON, OR, ROUND_OPEN, WITH};
 
 // Whether something holds, and the number of the token after what it was read from.
@@ -46,27 +47,20 @@ pub fn target_end(rules: &Rules<'_>, at: usize) -> usize
 }
 
 // After a target, which is entity e: nothing, or `with attribute = expression`.
-pub fn filter(
-    rules: &Rules<'_>,
-    b: Binding,
-    store: &Store<'_>,
-    e: u8,
-    at: usize,
-    depth: u32,
-) -> Holding
-    ensures { Filters rules.now b store.now e
+pub fn filter(world: &World<'_, '_>, e: u8, at: usize, depth: u32) -> Holding
+    ensures { Filters world.now.rules.now world.now.b world.now.store.now e
         (filter_reader depth) at result.holds result.next }
 {
-    if rules.class_at(at) != WITH {
+    if world.rules.class_at(at) != WITH {
         return Holding {
             holds: true,
             next: at,
         };
     }
-    let name = rules.skip(at);
-    let inside = rules.skip(rules.skip(name));
-    let cell = store.read_cell(e, rules.member(name));
-    let x = expression(rules, b, store, inside, depth);
+    let name = world.rules.skip(at);
+    let inside = world.rules.skip(world.rules.skip(name));
+    let cell = world.store.read_cell(e, world.rules.member(name));
+    let x = expression(world, inside, depth);
     let v = x.value;
     Holding {
         holds: values::equal(cell, v),
@@ -95,7 +89,15 @@ fn test(
             next: inside,
         };
     }
-    let x = expression(rules, b, &stores.current, inside, depth);
+    let x = expression(
+        &World {
+            rules,
+            b,
+            store: &stores.current,
+        },
+        inside,
+        depth,
+    );
     let v = x.value;
     // The store before matters only where the values are equal now.
     if !values::equal(cell, v) {
@@ -105,7 +107,15 @@ fn test(
         };
     }
     let earlier = stores.previous.read_cell(e, m);
-    let y = expression(rules, b, &stores.previous, inside, depth);
+    let y = expression(
+        &World {
+            rules,
+            b,
+            store: &stores.previous,
+        },
+        inside,
+        depth,
+    );
     let w = y.value;
     Holding {
         holds: !values::equal(earlier, w),
@@ -122,7 +132,12 @@ fn clause(rules: &Rules<'_>, b: Binding, stores: &Stores<'_>, at: usize, depth: 
     let e = bound(b, rules.owner(target));
     let m = rules.member(name);
     let end = target_end(rules, target);
-    let f = filter(rules, b, &stores.current, e, end, depth);
+    let world = World {
+        rules,
+        b,
+        store: &stores.current,
+    };
+    let f = filter(&world, e, end, depth);
     let t = test(rules, b, stores, e, m, rules.skip(f.next), depth);
     Holding {
         holds: both(stores.current.is_present_at(e, m), both(f.holds, t.holds)),

@@ -9,8 +9,7 @@ ghost use Rattle.text.specs.definitions.Grammar.{member_reader, simple_or, facto
 ghost use Rattle.cycles.specs.inner_contracts.Evaluation.{bound, CellRead, Expresses};
 
 use crate::evaluate::{Binding, bound};
-use crate::rules::Rules;
-use crate::store::Store;
+use crate::world::World;
 use text::classes::{
     DIVIDE, FALSE, MINUS, NAME, PLUS, REAL, REAL_NUMBER, ROUND_OPEN, TIMES, TRUE, WHOLE_NUMBER,
 };
@@ -72,37 +71,34 @@ fn is_term_operator(class: u8) -> bool
 }
 
 // The member that token number `name` names, of the entity that token number `at` means.
-pub fn member_value(
-    rules: &Rules<'_>,
-    b: Binding,
-    store: &Store<'_>,
-    at: usize,
-    name: usize,
-) -> Value
-    ensures { CellRead store.now.flags store.now.cells (bound b (get_or rules.now.refs at 0 % 256)) (get_or rules.now.refs name 0 / 256) result }
+pub fn member_value(world: &World<'_, '_>, at: usize, name: usize) -> Value
+    ensures { CellRead world.now.store.now.flags world.now.store.now.cells (bound world.now.b (get_or world.now.rules.now.refs at 0 % 256)) (get_or world.now.rules.now.refs name 0 / 256) result }
 {
-    store.read_cell(bound(b, rules.owner(at)), rules.member(name))
+    world.store.read_cell(
+        bound(world.b, world.rules.owner(at)),
+        world.rules.member(name),
+    )
 }
 
 // What begins with no opener.
-fn leaf(rules: &Rules<'_>, b: Binding, store: &Store<'_>, at: usize) -> Valued
-    ensures { Expresses rules.now b store.now (simple_or halt)
+fn leaf(world: &World<'_, '_>, at: usize) -> Valued
+    ensures { Expresses world.now.rules.now world.now.b world.now.store.now (simple_or halt)
         at result.value result.next }
 {
-    let size = rules.len();
+    let size = world.rules.len();
     if size <= at {
         return Valued {
             value: Value::Unset,
             next: at,
         };
     }
-    let class = rules.class_at(at);
-    let next = rules.skip(at);
+    let class = world.rules.class_at(at);
+    let next = world.rules.skip(at);
     if class == NAME {
-        let name = rules.skip(next);
+        let name = world.rules.skip(next);
         return Valued {
-            value: member_value(rules, b, store, at, name),
-            next: rules.skip(name),
+            value: member_value(world, at, name),
+            next: world.rules.skip(name),
         };
     }
     if class == TRUE {
@@ -119,13 +115,13 @@ fn leaf(rules: &Rules<'_>, b: Binding, store: &Store<'_>, at: usize) -> Valued
     }
     if class == WHOLE_NUMBER {
         return Valued {
-            value: whole_literal(rules.value_at(at)),
+            value: whole_literal(world.rules.value_at(at)),
             next,
         };
     }
     if class == REAL_NUMBER {
         return Valued {
-            value: real_literal(rules.value_at(at)),
+            value: real_literal(world.rules.value_at(at)),
             next,
         };
     }
@@ -137,54 +133,54 @@ fn leaf(rules: &Rules<'_>, b: Binding, store: &Store<'_>, at: usize) -> Valued
 
 // `depth` openers may still come.
 #[cycle(factor_sum_term)]
-fn factor(rules: &Rules<'_>, b: Binding, store: &Store<'_>, at: usize, depth: u32) -> Valued
-    ensures { Expresses rules.now b store.now
+fn factor(world: &World<'_, '_>, at: usize, depth: u32) -> Valued
+    ensures { Expresses world.now.rules.now world.now.b world.now.store.now
         (factor_reader depth) at result.value result.next }
 {
     if depth == 0 {
-        return leaf(rules, b, store, at);
+        return leaf(world, at);
     }
-    let class = rules.class_at(at);
-    let inside = rules.skip(at);
+    let class = world.rules.class_at(at);
+    let inside = world.rules.skip(at);
     if class == REAL {
-        let x = sum(rules, b, store, rules.skip(inside), depth - 1);
+        let x = sum(world, world.rules.skip(inside), depth - 1);
         let v = x.value;
         return Valued {
             value: values::as_real(v),
-            next: rules.skip(x.next),
+            next: world.rules.skip(x.next),
         };
     }
     if class == ROUND_OPEN {
-        let x = sum(rules, b, store, inside, depth - 1);
+        let x = sum(world, inside, depth - 1);
         let v = x.value;
         return Valued {
             value: v,
-            next: rules.skip(x.next),
+            next: world.rules.skip(x.next),
         };
     }
     if class == MINUS {
-        let x = factor(rules, b, store, inside, depth - 1);
+        let x = factor(world, inside, depth - 1);
         let v = x.value;
         return Valued {
             value: values::negate(v),
             next: x.next,
         };
     }
-    leaf(rules, b, store, at)
+    leaf(world, at)
 }
 
 // Factors under `*` and `/`.
 #[cycle(factor_sum_term)]
-fn term(rules: &Rules<'_>, b: Binding, store: &Store<'_>, at: usize, depth: u32) -> Valued
-    ensures { Expresses rules.now b store.now
+fn term(world: &World<'_, '_>, at: usize, depth: u32) -> Valued
+    ensures { Expresses world.now.rules.now world.now.b world.now.store.now
         (term_reader depth) at result.value result.next }
 {
-    let first = factor(rules, b, store, at, depth);
+    let first = factor(world, at, depth);
     let mut left = first.value;
     let mut i = first.next;
-    while is_factor_operator(rules.class_at(i)) {
-        let op = operator_of(rules.class_at(i));
-        let other = factor(rules, b, store, rules.skip(i), depth);
+    while is_factor_operator(world.rules.class_at(i)) {
+        let op = operator_of(world.rules.class_at(i));
+        let other = factor(world, world.rules.skip(i), depth);
         let right = other.value;
         left = values::operate(op, left, right);
         i = other.next;
@@ -197,16 +193,16 @@ fn term(rules: &Rules<'_>, b: Binding, store: &Store<'_>, at: usize, depth: u32)
 
 // Terms under `+` and `-`.
 #[cycle(factor_sum_term)]
-fn sum(rules: &Rules<'_>, b: Binding, store: &Store<'_>, at: usize, depth: u32) -> Valued
-    ensures { Expresses rules.now b store.now
+fn sum(world: &World<'_, '_>, at: usize, depth: u32) -> Valued
+    ensures { Expresses world.now.rules.now world.now.b world.now.store.now
         (expression_reader depth) at result.value result.next }
 {
-    let first = term(rules, b, store, at, depth);
+    let first = term(world, at, depth);
     let mut left = first.value;
     let mut i = first.next;
-    while is_term_operator(rules.class_at(i)) {
-        let op = operator_of(rules.class_at(i));
-        let other = term(rules, b, store, rules.skip(i), depth);
+    while is_term_operator(world.rules.class_at(i)) {
+        let op = operator_of(world.rules.class_at(i));
+        let other = term(world, world.rules.skip(i), depth);
         let right = other.value;
         left = values::operate(op, left, right);
         i = other.next;
@@ -218,16 +214,16 @@ fn sum(rules: &Rules<'_>, b: Binding, store: &Store<'_>, at: usize, depth: u32) 
 }
 
 // Most expressions are one leaf. No opener has a class below that of `real`, and no operator one below that of `+`.
-pub fn expression(rules: &Rules<'_>, b: Binding, store: &Store<'_>, at: usize, depth: u32) -> Valued
-    ensures { Expresses rules.now b store.now
+pub fn expression(world: &World<'_, '_>, at: usize, depth: u32) -> Valued
+    ensures { Expresses world.now.rules.now world.now.b world.now.store.now
         (expression_reader depth) at result.value result.next }
 {
-    if REAL <= rules.class_at(at) {
-        return sum(rules, b, store, at, depth);
+    if REAL <= world.rules.class_at(at) {
+        return sum(world, at, depth);
     }
-    let x = leaf(rules, b, store, at);
-    if PLUS <= rules.class_at(x.next) {
-        return sum(rules, b, store, at, depth);
+    let x = leaf(world, at);
+    if PLUS <= world.rules.class_at(x.next) {
+        return sum(world, at, depth);
     }
     x
 }

@@ -11,6 +11,7 @@ use crate::layout::{
 };
 use crate::rules::Rules;
 use crate::store::{Store, Stores};
+use crate::world::World;
 use text::grammar::OPENERS;
 use values::Value;
 
@@ -112,7 +113,15 @@ fn unmark_worked_out(
         }
         let with = with_entity(candidates.b, candidates.level, e);
         let cell = store.read_cell(bound(with, compared.r), compared.m);
-        let x = expression(rules, with, store, compared.at, OPENERS);
+        let x = expression(
+            &World {
+                rules: &*rules,
+                b: with,
+                store: &*store,
+            },
+            compared.at,
+            OPENERS,
+        );
         let v = x.value;
         if values::equal(cell, v) == compared.outcome {
             marks[e as usize] = 0;
@@ -139,7 +148,15 @@ fn unmark_by_value(
         unmark_worked_out(rules, store, candidates, compared, marks);
         return;
     }
-    let x = expression(rules, candidates.b, store, compared.at, OPENERS);
+    let x = expression(
+        &World {
+            rules,
+            b: candidates.b,
+            store,
+        },
+        compared.at,
+        OPENERS,
+    );
     let v = x.value;
     unmark_held(store, candidates, compared, v, marks);
 }

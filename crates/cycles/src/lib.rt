@@ -18,6 +18,7 @@ pub mod quiescence; // which rules are tried
 pub mod record; // sender, number and values of a record
 pub mod rows; // the fields of a row, and the header of rows
 pub mod rules; // the columns of a bench
+pub mod world; // what the parts of a rule are worked out in
 pub mod store; // a store in memory, and the one before it
 
 pub use bindings::all_rules;

@@ -24,34 +24,34 @@ factor-returns-then-class-eq-MINUS t c = factor_negated c.class_at-class.ensures
 pub factor-returns : goal.factor-returns
 factor-returns t c = factor_no_opener c.class_at-class.ensures _ c.if-class-eq-REAL.false c.if-class-eq-ROUND_OPEN.false c.if-class-eq-MINUS.false c.leaf-2.ensures
 
-pub sum-loop-b-init : goal.sum-loop-b-init
-sum-loop-b-init t c = expression_begins _ c.term-first.ensures
+pub sum-loop-op-init : goal.sum-loop-op-init
+sum-loop-op-init t c = expression_begins _ c.term-first.ensures
 
-pub sum-loop-b-smaller : goal.sum-loop-b-smaller
-sum-loop-b-smaller t c =
-    turn_falls is_term_operator term_operator_none c.args.rules.now.classes c.class_at.ensures c.is_term_operator.ensures c.loop-b-test.true
+pub sum-loop-op-smaller : goal.sum-loop-op-smaller
+sum-loop-op-smaller t c =
+    turn_falls is_term_operator term_operator_none c.args.world.now.rules.now.classes c.class_at.ensures c.is_term_operator.ensures c.loop-op-test.true
     c.skip.ensures c.term-other.ensures.onward
 
-pub sum-loop-b-preserved : goal.sum-loop-b-preserved
-sum-loop-b-preserved t c =
-    operator_turns is_term_operator _ c.loop-b.invariant c.class_at.ensures c.is_term_operator.ensures term_operator_none c.loop-b-test.true
-    c.class_at-in-loop-b.ensures c.operator_of-op.ensures c.skip.ensures c.term-other.ensures c.operate-left.ensures
+pub sum-loop-op-preserved : goal.sum-loop-op-preserved
+sum-loop-op-preserved t c =
+    operator_turns is_term_operator _ c.loop-op.invariant c.class_at.ensures c.is_term_operator.ensures term_operator_none c.loop-op-test.true
+    c.class_at-in-loop-op.ensures c.operator_of-op.ensures c.skip.ensures c.term-other.ensures c.operate-left.ensures
 
 pub sum-returns : goal.sum-returns
-sum-returns t c = operators_stop is_term_operator _ c.loop-b.invariant c.class_at.ensures c.is_term_operator.ensures c.loop-b-test.false
+sum-returns t c = operators_stop is_term_operator _ c.loop-op.invariant c.class_at.ensures c.is_term_operator.ensures c.loop-op-test.false
 
-pub term-loop-b-init : goal.term-loop-b-init
-term-loop-b-init t c = term_begins _ c.factor-first.ensures
+pub term-loop-op-init : goal.term-loop-op-init
+term-loop-op-init t c = term_begins _ c.factor-first.ensures
 
-pub term-loop-b-smaller : goal.term-loop-b-smaller
-term-loop-b-smaller t c =
-    turn_falls is_factor_operator factor_operator_none c.args.rules.now.classes c.class_at.ensures c.is_factor_operator.ensures c.loop-b-test.true
+pub term-loop-op-smaller : goal.term-loop-op-smaller
+term-loop-op-smaller t c =
+    turn_falls is_factor_operator factor_operator_none c.args.world.now.rules.now.classes c.class_at.ensures c.is_factor_operator.ensures c.loop-op-test.true
     c.skip.ensures c.factor-other.ensures.onward
 
-pub term-loop-b-preserved : goal.term-loop-b-preserved
-term-loop-b-preserved t c =
-    operator_turns is_factor_operator _ c.loop-b.invariant c.class_at.ensures c.is_factor_operator.ensures factor_operator_none c.loop-b-test.true
-    c.class_at-in-loop-b.ensures c.operator_of-op.ensures c.skip.ensures c.factor-other.ensures c.operate-left.ensures
+pub term-loop-op-preserved : goal.term-loop-op-preserved
+term-loop-op-preserved t c =
+    operator_turns is_factor_operator _ c.loop-op.invariant c.class_at.ensures c.is_factor_operator.ensures factor_operator_none c.loop-op-test.true
+    c.class_at-in-loop-op.ensures c.operator_of-op.ensures c.skip.ensures c.factor-other.ensures c.operate-left.ensures
 
 pub term-returns : goal.term-returns
-term-returns t c = operators_stop is_factor_operator _ c.loop-b.invariant c.class_at.ensures c.is_factor_operator.ensures c.loop-b-test.false
+term-returns t c = operators_stop is_factor_operator _ c.loop-op.invariant c.class_at.ensures c.is_factor_operator.ensures c.loop-op-test.false

@@ -14,14 +14,14 @@ decreases-sum l = l.depth * 3 + 2
 abbrev pub decreases-term : goal.decreases-term
 decreases-term l = l.depth * 3 + 1
 
-abbrev pub invariant-sum-loop-b : goal.invariant-sum-loop-b
-invariant-sum-loop-b l = ExpressionLoop l.rules.classes l.rules.values l.rules.refs l.b l.store.flags l.store.cells (expression_reader l.depth) is_term_operator (joined (term_reader l.depth) apply_at) l.at l.left l.i
+abbrev pub invariant-sum-loop-op : goal.invariant-sum-loop-op
+invariant-sum-loop-op l = ExpressionLoop l.world.rules.now.classes l.world.rules.now.values l.world.rules.now.refs l.world.b l.world.store.now.flags l.world.store.now.cells (expression_reader l.depth) is_term_operator (joined (term_reader l.depth) apply_at) l.at l.left l.i
 
-abbrev pub decreases-sum-loop-b : goal.decreases-sum-loop-b
-decreases-sum-loop-b l = length l.rules.classes - l.i
+abbrev pub decreases-sum-loop-op : goal.decreases-sum-loop-op
+decreases-sum-loop-op l = length l.world.rules.now.classes - l.i
 
-abbrev pub invariant-term-loop-b : goal.invariant-term-loop-b
-invariant-term-loop-b l = ExpressionLoop l.rules.classes l.rules.values l.rules.refs l.b l.store.flags l.store.cells (term_reader l.depth) is_factor_operator (joined (factor_reader l.depth) apply_at) l.at l.left l.i
+abbrev pub invariant-term-loop-op : goal.invariant-term-loop-op
+invariant-term-loop-op l = ExpressionLoop l.world.rules.now.classes l.world.rules.now.values l.world.rules.now.refs l.world.b l.world.store.now.flags l.world.store.now.cells (term_reader l.depth) is_factor_operator (joined (factor_reader l.depth) apply_at) l.at l.left l.i
 
-abbrev pub decreases-term-loop-b : goal.decreases-term-loop-b
-decreases-term-loop-b l = length l.rules.classes - l.i
+abbrev pub decreases-term-loop-op : goal.decreases-term-loop-op
+decreases-term-loop-op l = length l.world.rules.now.classes - l.i
