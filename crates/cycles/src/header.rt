@@ -76,26 +76,11 @@ fn is_read(columns: &[u16], count: usize, column: u16) -> bool
 
 // Reads the columns after `n`, the last one first, and answers their number; NO_HEADER for none.
 #[tactic(auto, using(crate::proofs::steps::HeaderLaws::columns_next))]
-fn read_columns(
-    text: &[u8],
-    classes: &[u8],
-    offsets: &[u16],
-    lengths: &[u8],
-    d: &[u16],
-    names: &[u8],
-    columns: &mut [u16],
-) -> usize
+fn read_columns(bench: &Columns<'_>, names: &[u8], columns: &mut [u16]) -> usize
     requires { HeaderReads.MOST_COLUMNS ≤ length columns.old }
-    ensures { ColumnsRead text.now classes.now offsets.now lengths.now d.now names.now
+    ensures { of_file ColumnsRead bench.now names.now
         columns.new result }
 {
-    let bench = Columns {
-        text,
-        classes,
-        offsets,
-        lengths,
-        d,
-    };
     let mut end = names.len();
     let mut count: usize = 0;
     loop {
@@ -106,7 +91,7 @@ fn read_columns(
             }
             return NO_HEADER;
         }
-        let column = column_called(&bench, &names[start..end]);
+        let column = column_called(bench, &names[start..end]);
         if column == NO_COLUMN {
             return NO_HEADER;
         }
@@ -121,17 +106,9 @@ fn read_columns(
 }
 
 // Reads a header: the columns after `by n`. Answers their number; NO_HEADER for no header.
-pub fn read_header(
-    text: &[u8],
-    classes: &[u8],
-    offsets: &[u16],
-    lengths: &[u8],
-    d: &[u16],
-    names: &[u8],
-    columns: &mut [u16],
-) -> usize
+pub fn read_header(bench: &Columns<'_>, names: &[u8], columns: &mut [u16]) -> usize
     requires { HeaderReads.MOST_COLUMNS ≤ length columns.old }
-    ensures { HeaderRead text.now classes.now offsets.now lengths.now d.now names.now
+    ensures { of_file HeaderRead bench.now names.now
         columns.new result }
 {
     if MOST_HEADER_BYTES < names.len() {
@@ -143,13 +120,5 @@ pub fn read_header(
     if !same_bytes(&names[0..BY_BYTES], b"by ") {
         return NO_HEADER;
     }
-    read_columns(
-        text,
-        classes,
-        offsets,
-        lengths,
-        d,
-        &names[BY_BYTES..],
-        columns,
-    )
+    read_columns(bench, &names[BY_BYTES..], columns)
 }

@@ -82,34 +82,20 @@ fn put_name(columns: &Columns<'_>, i: usize, row: &mut [u8], at: usize) -> usize
 
 // The header: writes it to the front and answers its length.
 #[tactic(auto, using(crate::proofs::laws::RowPuts::header_impossible))]
-pub fn put_row_header(
-    text: &[u8],
-    classes: &[u8],
-    offsets: &[u16],
-    lengths: &[u8],
-    d: &[u16],
-    row: &mut [u8],
-) -> usize
+pub fn put_row_header(columns: &Columns<'_>, row: &mut [u8]) -> usize
     requires { Row.MOST_ROW_BYTES ≤ length row.old }
-    ensures { HeaderPut text.now classes.now offsets.now lengths.now d.now
+    ensures { of_file HeaderPut columns.now
         row.old row.new result }
 {
-    let n = checking::row(d, ENTITY_COUNT_ROW);
+    let n = columns.row(ENTITY_COUNT_ROW);
     if MOST_ENTITIES < n {
         return 0;
     }
     let end = ENTITY_CELLS * n;
     let mut at = values::put_bytes(row, 0, b"by n");
-    let columns = Columns {
-        text,
-        classes,
-        offsets,
-        lengths,
-        d,
-    };
     let mut i = 0;
     while i < end {
-        at = put_name(&columns, i, row, at);
+        at = put_name(columns, i, row, at);
         i += 1;
     }
     at

@@ -199,15 +199,7 @@ pub fn put_sheet(
     }
     let end = line_end(readings, 0);
     let mut columns = [0u16; MOST_COLUMNS];
-    let width = read_header(
-        text,
-        classes,
-        offsets,
-        lengths,
-        d,
-        &readings[0..end],
-        &mut columns,
-    );
+    let width = read_header(&bench, &readings[0..end], &mut columns);
     if MOST_COLUMNS < width {
         return Sheeted::Refused(22);
     }

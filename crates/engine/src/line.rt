@@ -6,6 +6,7 @@ ghost use Rattle.engine.specs.definitions.Calls;
 ghost use Rattle.engine.specs.inner_contracts.LineMemory.{RecordTaken, LineTaken};
 
 use crate::refusal::Refusal;
+use checking::Columns;
 use cycles::header::read_header;
 use cycles::layout::MOST_COLUMNS;
 use senders::fingerprint::fingerprint;
@@ -66,7 +67,14 @@ pub fn take_line(
         return Err(Refusal::NoState);
     }
     let mut columns = [0u16; MOST_COLUMNS];
-    let count = read_header(text, classes, offsets, lengths, d, names, &mut columns);
+    let bench = Columns {
+        text,
+        classes,
+        offsets,
+        lengths,
+        d,
+    };
+    let count = read_header(&bench, names, &mut columns);
     if MOST_COLUMNS < count {
         return Err(Refusal::Header);
     }

@@ -16,6 +16,7 @@ ghost use Rattle.engine.specs.inner_contracts.Refusals.{answer_of};
 use crate::bench::put_bench;
 use crate::line::take_line;
 use crate::refusal::Refusal;
+use checking::Columns;
 use checking::check::{Checked, check};
 use checking::layout::DIRECTORY;
 use cycles::layout::SCOPES_BYTES;
@@ -129,7 +130,14 @@ impl<'a> Bench<'a> {
             directory,
             ..
         } = self;
-        put_row_header(text, classes, offsets, lengths, directory, row)
+        let columns = Columns {
+            text,
+            classes,
+            offsets,
+            lengths,
+            d: directory,
+        };
+        put_row_header(&columns, row)
     }
 
     /// Writes the row that a state keeps for a sender: its length, or a refusal.

@@ -11,6 +11,7 @@ ghost use Rattle.replay.specs.inner_contracts.Feeding.{LinePut};
 ghost use Rattle.replay.specs.declared.Stage.TheVariants.{Names, Values};
 
 use crate::Stage;
+use checking::Columns;
 use cycles::header::read_header;
 use cycles::layout::MOST_COLUMNS;
 use cycles::put_row_header;
@@ -69,7 +70,14 @@ fn put_names(
         d.now refs.now scopes.now) Names line.now columns.old state.now
         out.old used columns.new state.now out.new result }
 {
-    let count = read_header(text, classes, offsets, lengths, d, line, columns);
+    let bench = Columns {
+        text,
+        classes,
+        offsets,
+        lengths,
+        d,
+    };
+    let count = read_header(&bench, line, columns);
     if MOST_COLUMNS < count {
         let word = put_refusal(out, used, 22);
         let end = values::put_bytes(out, word, b"\n");
@@ -78,7 +86,7 @@ fn put_names(
             used: end,
         };
     }
-    let n = put_row_header(text, classes, offsets, lengths, d, &mut out[used..]);
+    let n = put_row_header(&bench, &mut out[used..]);
     let end = used + n;
     out[end] = 10;
     Step {

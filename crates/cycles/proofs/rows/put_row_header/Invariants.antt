@@ -1,4 +1,5 @@
 -- The names of the cells before number i stand after `by n`.
+use Rattle.checking.specs.inner_contracts.OfColumns.{of_file}
 use Rattle.cycles.proofs.laws.RowPuts.{NamesSoFar}
 use Rattle.std.proofs.Common.{◌-◌, ◌≤◌}
 use Rattle.cycles.proofs.rows.put_row_header.Given as goal
@@ -7,7 +8,7 @@ abbrev pub invariant-loop-i : goal.invariant-loop-i
 invariant-loop-i l =
     record {
       within : l.i ≤ l.end;
-      so_far : NamesSoFar l.text l.classes l.offsets l.lengths l.d l.initial.row l.initial.at l.i l.row l.at;
+      so_far : of_file NamesSoFar l.columns l.initial.row l.initial.at l.i l.row l.at;
     }
 
 abbrev pub decreases-loop-i : goal.decreases-loop-i
