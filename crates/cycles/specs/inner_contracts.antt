@@ -11,7 +11,7 @@ pub mod HeaderReads
 pub mod LineReads
 pub mod ReadSets
 pub mod AllRules
-pub mod Guards
+pub mod GuardKinds
 pub mod Failing
 pub mod Finding
 pub mod CycleMemory

@@ -5,7 +5,7 @@ ghost use Rattle.checking.specs.inner_contracts.Directory.{rule_row};
 ghost use Rattle.checking.specs.definitions.CountFaults;
 ghost use Rattle.cycles.specs.definitions.Planes;
 ghost use Rattle.cycles.specs.inner_contracts.AllRules.{complete, candidate, Ranged, Ranges, BindingsWritten, SetWritten, RulesWritten};
-ghost use Rattle.cycles.specs.inner_contracts.Guards.{GuardsFound, MarksSet};
+ghost use Rattle.cycles.specs.inner_contracts.GuardKinds.{GuardsFound, MarksSet};
 ghost use Rattle.cycles.specs.inner_contracts.Evaluation;
 
 use crate::calls::rule_at;

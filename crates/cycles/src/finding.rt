@@ -3,8 +3,8 @@ ghost use Rattle.std.specs.Prelude.{◌+◌, ◌<◌, ◌≤◌, ◌≡◌};
 ghost use Rattle.text.specs.definitions.Syntax;
 ghost use Rattle.text.specs.definitions.Grammar.{clause_reader, atom_reader, conjunction_reader};
 ghost use Rattle.checking.specs.definitions.CountFaults;
-ghost use Rattle.cycles.specs.inner_contracts.Guards;
-ghost use Rattle.cycles.specs.inner_contracts.Guards.{Covered, GuardsFound};
+ghost use Rattle.cycles.specs.inner_contracts.GuardKinds;
+ghost use Rattle.cycles.specs.inner_contracts.GuardKinds.{Covered, GuardsFound};
 ghost use Rattle.cycles.specs.inner_contracts.Finding.{GuardPut, PartPut, FilterGuardsWalk, TestGuardsWalk, ConditionGuardsWalk, CallGuarded};
 
 use crate::conditions::target_end;
@@ -71,7 +71,7 @@ fn level_of(rules: &Rules<'_>, from: usize, to: usize) -> u8
 
 // The level of a guard's expression, by that of its tokens: 0 if it has none.
 fn inner_of(kind: u8, level: u8) -> u8
-    ensures { (result ≤ level) × (kind < Guards.CELL_CHANGES → result ≡ level) }
+    ensures { (result ≤ level) × (kind < GuardKinds.CELL_CHANGES → result ≡ level) }
 {
     if kind < CELL_CHANGES_8 {
         return level;

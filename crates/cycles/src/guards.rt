@@ -1,6 +1,6 @@
 // The guards of a rule, tried for all candidates of the next variable.
 ghost use Rattle.std.specs.Prelude.{◌+◌, ◌≤◌, ◌≡◌, length, get_or};
-ghost use Rattle.cycles.specs.inner_contracts.Guards.{Narrows};
+ghost use Rattle.cycles.specs.inner_contracts.GuardKinds.{Narrows};
 ghost use Rattle.cycles.specs.inner_contracts.Failing.{MarksTaken, CellFails, ComparisonFails, Unchanged, ConditionFails, Fails};
 
 use crate::conditions::atom;

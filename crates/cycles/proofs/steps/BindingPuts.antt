@@ -22,7 +22,7 @@ use Rattle.cycles.specs.declared.evaluate.Binding.{Binding}
 use Rattle.cycles.specs.definitions.Bindings.{bindings}
 use Rattle.cycles.specs.inner_contracts.Evaluation.{bound, puts, RulePuts}
 use Rattle.cycles.specs.inner_contracts.AllRules.{Gives, complete, candidate, Ranged, Ranges, EntityAdded, BindingsPut}
-use Rattle.cycles.specs.inner_contracts.Guards.{Needless, no_candidate, silent, Marked, MarksSet}
+use Rattle.cycles.specs.inner_contracts.GuardKinds.{Needless, no_candidate, silent, Marked, MarksSet}
 use Rattle.cycles.proofs.steps.EvaluationLaws.{puts_append}
 use Rattle.cycles.proofs.steps.ResolvedLaws.{rule_puts_binding}
 use Rattle.cycles.proofs.steps.BindingWrites.{

@@ -30,7 +30,7 @@ use Rattle.cycles.specs.definitions.Bindings.{candidates, bindings}
 use Rattle.cycles.specs.definitions.ClosedSet.{Among}
 use Rattle.cycles.specs.inner_contracts.Evaluation.{bound, Locates, Resolved, Stored, CellRead, ExpressionWalk, ConditionWalk, puts}
 use Rattle.cycles.specs.inner_contracts.AllRules.{Binds, Gives, candidate, EntityAdded}
-use Rattle.cycles.specs.inner_contracts.Guards.{
+use Rattle.cycles.specs.inner_contracts.GuardKinds.{
   Covered,
   Names,
   spot_named,

@@ -11,7 +11,7 @@ use borrow.Author.Tests.{ltb-true, ltb-false, eqb-true, eqb-false}
 use Rattle.text.specs.inner_contracts.Walks.{Rows}
 use Rattle.cycles.specs.definitions.Store.{Store}
 use Rattle.cycles.specs.definitions.Spots.{Spots}
-use Rattle.cycles.specs.inner_contracts.Guards.{
+use Rattle.cycles.specs.inner_contracts.GuardKinds.{
   Covered,
   Guard,
   equals_now,

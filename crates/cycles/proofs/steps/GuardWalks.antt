@@ -29,7 +29,7 @@ use Rattle.cycles.specs.definitions.Store.{Store}
 use Rattle.cycles.specs.definitions.Spots.{Spots}
 use Rattle.cycles.specs.inner_contracts.TotalMachine.{value_at, is_present_at, value, filter_holds, test_holds, holds}
 use Rattle.cycles.specs.inner_contracts.Evaluation.{Targeted, all_rows, TargetWalk}
-use Rattle.cycles.specs.inner_contracts.Guards.{
+use Rattle.cycles.specs.inner_contracts.GuardKinds.{
   Covered,
   Names,
   source,

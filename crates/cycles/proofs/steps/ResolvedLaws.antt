@@ -67,7 +67,7 @@ use Rattle.cycles.specs.inner_contracts.Evaluation.{
   RulePuts,
 }
 use Rattle.cycles.specs.inner_contracts.AllRules.{Binds, Gives}
-use Rattle.cycles.specs.inner_contracts.Guards.{Names, source, attribute}
+use Rattle.cycles.specs.inner_contracts.GuardKinds.{Names, source, attribute}
 use Rattle.cycles.proofs.steps.EvaluationLaws.{bound_entity, target_named}
 
 -- ---- members

@@ -42,7 +42,7 @@ use Rattle.cycles.specs.definitions.Store.{Store}
 use Rattle.cycles.specs.definitions.Spots.{Spots}
 use Rattle.cycles.specs.inner_contracts.TotalMachine.{is_present_at, filter_holds, holds, call_writes, writes_if, binding_writes}
 use Rattle.cycles.specs.inner_contracts.Evaluation.{Targeted, all_rows, TargetWalk}
-use Rattle.cycles.specs.inner_contracts.Guards.{Names, attribute, EQUAL_NOW, equals_now, Guarded, GuardsFound}
+use Rattle.cycles.specs.inner_contracts.GuardKinds.{Names, attribute, EQUAL_NOW, equals_now, Guarded, GuardsFound}
 use Rattle.cycles.specs.inner_contracts.Finding.{
   Growth,
   PartPut,

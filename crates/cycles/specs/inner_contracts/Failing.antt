@@ -10,7 +10,7 @@ use Rattle.cycles.specs.declared.evaluate.Binding.{Binding}
 use Rattle.cycles.specs.inner_contracts.Bundles.{RuleColumns, StoreMemory}
 use Rattle.cycles.specs.inner_contracts.Evaluation.{bound, CellRead, ExpressionWalk, ConditionWalk}
 use Rattle.cycles.specs.inner_contracts.AllRules.{EntityAdded}
-use Rattle.cycles.specs.inner_contracts.Guards.{EQUAL_NOW, UNEQUAL_BEFORE, CELL_CHANGES, GROUP_HOLDS}
+use Rattle.cycles.specs.inner_contracts.GuardKinds.{EQUAL_NOW, UNEQUAL_BEFORE, CELL_CHANGES, GROUP_HOLDS}
 
 -- marks are taken of no entities but those that fail
 pub record MarksTaken (Failing : ℕ → Type 0) (before after : List ℕ) : Type 0 where

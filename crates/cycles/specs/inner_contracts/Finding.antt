@@ -12,7 +12,7 @@ use Rattle.cycles.specs.definitions.Store.{Store}
 use Rattle.cycles.specs.definitions.Spots.{Spots}
 use Rattle.cycles.specs.inner_contracts.TotalMachine.{filter_holds, test_holds, holds, call_writes, binding_writes}
 use Rattle.cycles.specs.inner_contracts.Evaluation.{all_rows}
-use Rattle.cycles.specs.inner_contracts.Guards.{CELL_CHANGES, GUARD_ROWS, Covered, Names, spot_named, Guarded}
+use Rattle.cycles.specs.inner_contracts.GuardKinds.{CELL_CHANGES, GUARD_ROWS, Covered, Names, spot_named, Guarded}
 
 -- memory of guards and how many there are, before and after
 pub record Growth : Type 0 where

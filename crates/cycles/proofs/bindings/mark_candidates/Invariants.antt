@@ -1,5 +1,5 @@
 -- The loop has marked the candidates before number e.
-use Rattle.cycles.specs.inner_contracts.Guards.{MarksSet}
+use Rattle.cycles.specs.inner_contracts.GuardKinds.{MarksSet}
 use Rattle.std.proofs.Common.{◌-◌, ◌≤◌}
 use Rattle.cycles.proofs.bindings.mark_candidates.Given as goal
 

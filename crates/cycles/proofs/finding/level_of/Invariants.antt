@@ -1,5 +1,5 @@
 -- What the loop of `level_of` keeps.
-use Rattle.cycles.specs.inner_contracts.Guards.{Covered}
+use Rattle.cycles.specs.inner_contracts.GuardKinds.{Covered}
 use Rattle.std.proofs.Common.{◌-◌, ◌≤◌}
 use Rattle.cycles.proofs.finding.level_of.Given as goal
 

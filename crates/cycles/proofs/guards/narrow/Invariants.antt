@@ -1,5 +1,5 @@
 -- What the loop of `narrow` keeps.
-use Rattle.cycles.specs.inner_contracts.Guards.{Narrowed}
+use Rattle.cycles.specs.inner_contracts.GuardKinds.{Narrowed}
 use Rattle.std.proofs.Common.{◌-◌}
 use Rattle.cycles.proofs.guards.narrow.Given as goal
 
