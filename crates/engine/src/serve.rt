@@ -47,7 +47,7 @@ pub struct Check;
 impl Call for Check {
     ghost served = { λ c text state out. served_check (checked (verdict text) text out) state };
 
-    ghost fits = { λ c state out. BENCH ≤ length out };
+    ghost fits = { λ c state out. BenchImage.BENCH ≤ length out };
 
     fn on_bench(
         self,
@@ -74,7 +74,7 @@ pub struct Fresh;
 impl Call for Fresh {
     ghost served = { λ c text state out. served_fresh (freshened (fingerprint text) (accepted_file text) state) out };
 
-    ghost fits = { λ c state out. STATE ≤ length state };
+    ghost fits = { λ c state out. StateImage.STATE ≤ length state };
 
     fn on_bench(
         self,
@@ -101,7 +101,7 @@ pub struct Line<'a> {
 impl<'a> Call for Line<'a> {
     ghost served = { λ c text state out. served_line (line_on_bench (fingerprint text) (accepted_file text) state c.names.now c.values.now out) };
 
-    ghost fits = { λ c state out. (STATE ≤ length state) × (ROW ≤ length out) };
+    ghost fits = { λ c state out. (StateImage.STATE ≤ length state) × (Calls.ROW ≤ length out) };
 
     fn on_bench(
         self,
@@ -126,7 +126,7 @@ pub struct Header;
 impl Call for Header {
     ghost served = { λ c text state out. served_row (header_on_bench (accepted_file text) out) state };
 
-    ghost fits = { λ c state out. ROW ≤ length out };
+    ghost fits = { λ c state out. Calls.ROW ≤ length out };
 
     fn on_bench(
         self,
@@ -152,7 +152,7 @@ pub struct Row<'a> {
 impl<'a> Call for Row<'a> {
     ghost served = { λ c text state out. served_row (row_on_bench (fingerprint text) (accepted_file text) c.state.now c.sender.now out) state };
 
-    ghost fits = { λ c state out. (STATE ≤ length c.state.now) × (ROW ≤ length out) };
+    ghost fits = { λ c state out. (StateImage.STATE ≤ length c.state.now) × (Calls.ROW ≤ length out) };
 
     fn on_bench(
         self,
@@ -179,7 +179,7 @@ pub struct Sheet<'a> {
 impl<'a> Call for Sheet<'a> {
     ghost served = { λ c text state out. served_sheet (sheet_on_bench (fingerprint text) (accepted_file text) c.state.now c.readings.now c.cells.now out) state };
 
-    ghost fits = { λ c state out. (STATE ≤ length c.state.now) × (sheet_size c.readings.now ≤ length out) };
+    ghost fits = { λ c state out. (StateImage.STATE ≤ length c.state.now) × (sheet_size c.readings.now ≤ length out) };
 
     fn on_bench(
         self,
