@@ -25,7 +25,7 @@ use text::walks::class_at;
 
 // Does each variable of rule number k have its entity, if the first `level` of them do?
 fn is_complete(rules: &Rules<'_>, k: u8, level: u8) -> bool
-    ensures { result ≡ complete rules.now.scopes k level }
+    ensures { result ≡ complete rules.now.scopes.now k level }
 {
     if MOST_VARIABLES_8 <= level {
         return true;
@@ -35,7 +35,7 @@ fn is_complete(rules: &Rules<'_>, k: u8, level: u8) -> bool
 
 // Is entity e present, and of the interface of this number?
 fn is_candidate(rules: &Rules<'_>, store: &Store<'_>, face: u8, e: u8) -> bool
-    ensures { result ≡ candidate rules.now.directory store.now.flags face e }
+    ensures { result ≡ candidate rules.now.columns.d.now store.now.flags face e }
 {
     if !store.is_present(e) {
         return false;
@@ -52,7 +52,7 @@ struct Range {
 
 #[tactic(auto, using(crate::proofs::steps::BindingPuts::range_turns))]
 fn range_of(rules: &Rules<'_>, store: &Store<'_>, n: u8, face: u8) -> Range
-    ensures { Ranged rules.now.directory store.now.flags n face result.first result.end }
+    ensures { Ranged rules.now.columns.d.now store.now.flags n face result.first result.end }
 {
     let mut first: u8 = 0;
     let mut end: u8 = 0;
@@ -75,7 +75,7 @@ fn range_of(rules: &Rules<'_>, store: &Store<'_>, n: u8, face: u8) -> Range
 #[tactic(auto, using(crate::proofs::steps::BindingPuts::range_put))]
 fn find_ranges(rules: &Rules<'_>, store: &Store<'_>, n: u8, ranges: &mut [u8])
     requires { 2 * CountFaults.MOST_INTERFACES ≤ length ranges.old }
-    ensures { Ranges rules.now.directory store.now.flags n ranges.new }
+    ensures { Ranges rules.now.columns.d.now store.now.flags n ranges.new }
 {
     let mut face: u8 = 0;
     while face < MOST_INTERFACES_8 {
@@ -100,7 +100,7 @@ fn mark_of(is: bool) -> u8
 #[tactic(auto, using(crate::proofs::steps::BindingPuts::marks_more))]
 fn mark_candidates(rules: &Rules<'_>, store: &Store<'_>, face: u8, range: Range, marks: &mut [u8])
     requires { range.end ≤ length marks.old }
-    ensures { MarksSet rules.now.directory store.now.flags face range.first range.end marks.new }
+    ensures { MarksSet rules.now.columns.d.now store.now.flags face range.first range.end marks.new }
 {
     let mut e = range.first;
     while e < range.end {
@@ -127,8 +127,8 @@ fn bind(
     area: &mut [u8],
 )
     requires in_bounds { Evaluation.MOST_PENDING_BYTES ≤ length area.old }
-    requires ranges { Ranges rules.now.directory stores.now.current.flags (get_or rules.now.directory Directory.ENTITY_COUNT_ROW 0) trial.now.ranges.now }
-    requires guards_found { GuardsFound rules.now.classes rules.now.refs (get_or rules.now.directory (rule_row trial.now.k) 0 + 1) trial.now.guards.now.rows trial.now.guards.now.count }
+    requires ranges { Ranges rules.now.columns.d.now stores.now.current.flags (get_or rules.now.columns.d.now Directory.ENTITY_COUNT_ROW 0) trial.now.ranges.now }
+    requires guards_found { GuardsFound rules.now.columns.classes.now rules.now.references.now (get_or rules.now.columns.d.now (rule_row trial.now.k) 0 + 1) trial.now.guards.now.rows trial.now.guards.now.count }
     ensures { BindingsWritten rules.now stores.now.current stores.now.previous trial.now.k level b area.old area.new }
 {
     if is_complete(rules, trial.k, level) {
@@ -172,7 +172,7 @@ fn bind(
 
 // The guards of rule number k. With no variable there is one binding, and they would save nothing.
 fn rule_guards(rules: &Rules<'_>, k: u8, guards: &mut Guards)
-    ensures { GuardsFound rules.now.classes rules.now.refs (get_or rules.now.directory (rule_row k) 0 + 1) guards.new.rows guards.new.count }
+    ensures { GuardsFound rules.now.columns.classes.now rules.now.references.now (get_or rules.now.columns.d.now (rule_row k) 0 + 1) guards.new.rows guards.new.count }
 {
     if rules.scope(SCOPE_ROWS * (k as usize)) == 0 {
         guards.count = 0;

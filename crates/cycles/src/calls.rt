@@ -58,7 +58,7 @@ fn further_calls(world: &World<'_, '_>, priority: u8, at: usize, area: &mut [u8]
 // The priority of the rule whose tokens after `when` begin at number `at`: 0 if it says none, and if it is above the greatest, as in no checked file.
 #[tactic(auto, using(crate::proofs::steps::CallWrites::priority_above))]
 fn priority_at(rules: &Rules<'_>, at: usize) -> u8
-    ensures { PriorityRead rules.now.classes rules.now.values at result }
+    ensures { PriorityRead rules.now.columns.classes.now rules.now.literals.now at result }
 {
     if rules.class_at(at) != RANK {
         return 0;

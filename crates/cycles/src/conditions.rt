@@ -37,7 +37,7 @@ fn either(a: bool, b: bool) -> bool
 
 // The number of the token after a target.
 pub fn target_end(rules: &Rules<'_>, at: usize) -> usize
-    ensures { TargetWalk rules.now.classes at result }
+    ensures { TargetWalk rules.now.columns.classes.now at result }
 {
     let colon = rules.skip(at);
     if rules.class_at(colon) != COLON {

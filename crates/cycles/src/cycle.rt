@@ -73,7 +73,7 @@ fn seen_value(
 ) -> Value
     requires i_bound { (i < Planes.ENTITY_CELLS * length before.now.flags) × (i < Planes.ENTITY_CELLS * length seen.now) }
     requires i_in_bounds { (i * Planes.CELL_BYTES + Planes.CELL_BYTES ≤ length before.now.cells) × (i * Planes.CELL_BYTES + Planes.CELL_BYTES ≤ length inputs.now.cells) }
-    ensures { ValueOf rules.now.classes rules.now.directory
+    ensures { ValueOf rules.now.columns.classes.now rules.now.columns.d.now
         (seen_value before.now.flags seen.now before.now.cells inputs.now.cells) i result }
 {
     let Inputs { cells, .. } = inputs;
@@ -103,7 +103,7 @@ fn see_cells(
     requires n_in_bounds { (n ≤ length before.now.flags) × (n ≤ length seen.now) }
     requires n_in_bounds_2 { (Planes.ENTITY_CELL_BYTES * n ≤ length before.now.cells) × (Planes.ENTITY_CELL_BYTES * n ≤ length inputs.now.cells)
         × (Planes.ENTITY_CELL_BYTES * n ≤ length out.old) }
-    ensures { MembersPut rules.now.classes rules.now.directory any_sort
+    ensures { MembersPut rules.now.columns.classes.now rules.now.columns.d.now any_sort
         (seen_value before.now.flags seen.now before.now.cells inputs.now.cells) (Planes.ENTITY_CELLS * n)
         out.old out.new }
 {
@@ -126,7 +126,7 @@ fn see_cells(
 // Puts what the rules saw in cell number i, unless the member whose first token has that number is an action: that stands as it was written.
 fn put_seen(rules: &Rules<'_>, token: usize, cells: &[u8], i: usize, area: &mut [u8])
     requires { (i * Planes.CELL_BYTES + Planes.CELL_BYTES ≤ length cells.now) × (i * Planes.CELL_BYTES + Planes.CELL_BYTES ≤ length area.old) }
-    ensures { SeenPut rules.now.classes token cells.now i area.old area.new }
+    ensures { SeenPut rules.now.columns.classes.now token cells.now i area.old area.new }
 {
     if rules.is_sort(token, ACTION) {
         return;
@@ -137,7 +137,7 @@ fn put_seen(rules: &Rules<'_>, token: usize, cells: &[u8], i: usize, area: &mut 
 // Makes of the area, which has the writes, the cells of n entities after the cycle. An action's stands as it was written, and a cell of no member is unset.
 fn put_next(rules: &Rules<'_>, n: usize, cells: &[u8], area: &mut [u8])
     requires { (Planes.ENTITY_CELL_BYTES * n ≤ length cells.now) × (Planes.ENTITY_CELL_BYTES * n ≤ length area.old) }
-    ensures { MembersPut rules.now.classes rules.now.directory no_action (next_value cells.now area.old) (Planes.ENTITY_CELLS * n)
+    ensures { MembersPut rules.now.columns.classes.now rules.now.columns.d.now no_action (next_value cells.now area.old) (Planes.ENTITY_CELLS * n)
         area.old area.new }
 {
     let end = ENTITY_CELLS * n;
@@ -159,7 +159,7 @@ fn put_next(rules: &Rules<'_>, n: usize, cells: &[u8], area: &mut [u8])
 pub fn cycle(rules: &Rules<'_>, inputs: &Inputs<'_>, stores: &mut [u8])
     requires in_bounds { (CountFaults.MOST_ENTITIES ≤ length inputs.now.flags) × (Planes.MOST_CELL_BYTES ≤ length inputs.now.cells) }
     requires in_bounds_2 { Planes.MOST_STORES_BYTES ≤ length stores.old }
-    ensures { Cycled rules.now.classes rules.now.values rules.now.directory rules.now.refs rules.now.scopes
+    ensures { Cycled rules.now.columns.classes.now rules.now.literals.now rules.now.columns.d.now rules.now.references.now rules.now.scopes.now
         inputs.now.flags inputs.now.cells stores.old stores.new }
 {
     let n = rules.row(ENTITY_COUNT_ROW);

@@ -72,7 +72,7 @@ fn is_term_operator(class: u8) -> bool
 
 // The member that token number `name` names, of the entity that token number `at` means.
 pub fn member_value(world: &World<'_, '_>, at: usize, name: usize) -> Value
-    ensures { CellRead world.now.store.now.flags world.now.store.now.cells (bound world.now.b (get_or world.now.rules.now.refs at 0 % 256)) (get_or world.now.rules.now.refs name 0 / 256) result }
+    ensures { CellRead world.now.store.now.flags world.now.store.now.cells (bound world.now.b (get_or world.now.rules.now.references.now at 0 % 256)) (get_or world.now.rules.now.references.now name 0 / 256) result }
 {
     world.store.read_cell(
         bound(world.b, world.rules.owner(at)),

@@ -44,7 +44,7 @@ fn greater(a: u8, b: u8) -> u8
 
 // One more than the variable that token number i refers to, 0 if to none.
 fn level_at(rules: &Rules<'_>, i: usize) -> u8
-    ensures { Covered rules.now.refs result i (i + 1) × (result ≤ CountFaults.MOST_VARIABLES) }
+    ensures { Covered rules.now.references.now result i (i + 1) × (result ≤ CountFaults.MOST_VARIABLES) }
 {
     let r = rules.owner(i);
     if r < FIRST_VARIABLE_8 {
@@ -58,7 +58,7 @@ fn level_at(rules: &Rules<'_>, i: usize) -> u8
 
 // One more than the last variable that tokens number `from` up to `to` refer to.
 fn level_of(rules: &Rules<'_>, from: usize, to: usize) -> u8
-    ensures { Covered rules.now.refs result from to × (result ≤ CountFaults.MOST_VARIABLES) }
+    ensures { Covered rules.now.references.now result from to × (result ≤ CountFaults.MOST_VARIABLES) }
 {
     let mut level: u8 = 0;
     let mut i = from;
@@ -99,7 +99,7 @@ fn put_guard(guards: &mut Guards, level: u8, inner: u8, part: &Part)
 // A guard about tokens number n and m, and those from number `at` up to `next`.
 #[tactic(auto, using(crate::proofs::steps::GuardPuts::covered_more))]
 fn put_part(rules: &Rules<'_>, part: &Part, guards: &mut Guards)
-    ensures { PartPut rules.now.refs part.now.kind part.now.n part.now.m part.now.at part.now.next
+    ensures { PartPut rules.now.references.now part.now.kind part.now.n part.now.m part.now.at part.now.next
         (record { before = guards.old.rows; count = guards.old.count; after = guards.new.rows; total = guards.new.count }) }
 {
     let inside = level_of(rules, part.at, part.next);
@@ -118,7 +118,7 @@ fn is_dear(at: usize, next: usize) -> bool {
 
 // The same, if it is one of this pass: the guards that are dear to try stand after the others.
 fn put_in_pass(rules: &Rules<'_>, part: &Part, guards: &mut Guards, dear: bool)
-    ensures { PartPut rules.now.refs part.now.kind part.now.n part.now.m part.now.at part.now.next
+    ensures { PartPut rules.now.references.now part.now.kind part.now.n part.now.m part.now.at part.now.next
         (record { before = guards.old.rows; count = guards.old.count; after = guards.new.rows; total = guards.new.count }) }
 {
     if is_dear(part.at, part.next) == dear {
@@ -130,7 +130,7 @@ fn put_in_pass(rules: &Rules<'_>, part: &Part, guards: &mut Guards, dear: bool)
 
 // After a clause's target, whose name is token number n: nothing, or `with attribute = expression`.
 fn filter_guard(rules: &Rules<'_>, n: usize, at: usize, guards: &mut Guards, dear: bool) -> usize
-    ensures { FilterGuardsWalk rules.now.classes rules.now.refs n at
+    ensures { FilterGuardsWalk rules.now.columns.classes.now rules.now.references.now n at
         (record { before = guards.old.rows; count = guards.old.count; after = guards.new.rows; total = guards.new.count }) result }
 {
     if rules.class_at(at) != WITH {
@@ -159,7 +159,7 @@ fn test_guards(
     guards: &mut Guards,
     dear: bool,
 ) -> usize
-    ensures { TestGuardsWalk rules.now.classes rules.now.refs n m at
+    ensures { TestGuardsWalk rules.now.columns.classes.now rules.now.references.now n m at
         (record { before = guards.old.rows; count = guards.old.count; after = guards.new.rows; total = guards.new.count }) result }
 {
     let inside = rules.skip(at);
@@ -195,7 +195,7 @@ fn test_guards(
 }
 
 fn clause_guards(rules: &Rules<'_>, at: usize, guards: &mut Guards, dear: bool) -> usize
-    ensures { ConditionGuardsWalk rules.now.classes rules.now.refs (clause_reader Syntax.OPENERS) at
+    ensures { ConditionGuardsWalk rules.now.columns.classes.now rules.now.references.now (clause_reader Syntax.OPENERS) at
         (record { before = guards.old.rows; count = guards.old.count; after = guards.new.rows; total = guards.new.count }) result }
 {
     let name = rules.skip(at);
@@ -205,7 +205,7 @@ fn clause_guards(rules: &Rules<'_>, at: usize, guards: &mut Guards, dear: bool) 
 }
 
 fn atom_guards(rules: &Rules<'_>, at: usize, guards: &mut Guards, dear: bool) -> usize
-    ensures { ConditionGuardsWalk rules.now.classes rules.now.refs (atom_reader Syntax.OPENERS) at
+    ensures { ConditionGuardsWalk rules.now.columns.classes.now rules.now.references.now (atom_reader Syntax.OPENERS) at
         (record { before = guards.old.rows; count = guards.old.count; after = guards.new.rows; total = guards.new.count }) result }
 {
     if rules.class_at(at) != ROUND_OPEN {
@@ -225,7 +225,7 @@ fn atom_guards(rules: &Rules<'_>, at: usize, guards: &mut Guards, dear: bool) ->
 
 // The conditions at number `at` with `and` between them.
 fn conjuncts(rules: &Rules<'_>, at: usize, guards: &mut Guards, dear: bool) -> usize
-    ensures { ConditionGuardsWalk rules.now.classes rules.now.refs (conjunction_reader Syntax.OPENERS) at
+    ensures { ConditionGuardsWalk rules.now.columns.classes.now rules.now.references.now (conjunction_reader Syntax.OPENERS) at
         (record { before = guards.old.rows; count = guards.old.count; after = guards.new.rows; total = guards.new.count }) result }
 {
     let mut i = atom_guards(rules, at, guards, dear);
@@ -239,7 +239,7 @@ fn conjuncts(rules: &Rules<'_>, at: usize, guards: &mut Guards, dear: bool) -> u
 
 // The `with` of the call at number `at`, if no other call follows.
 fn call_guard(rules: &Rules<'_>, at: usize, guards: &mut Guards)
-    ensures { CallGuarded rules.now.classes rules.now.refs at
+    ensures { CallGuarded rules.now.columns.classes.now rules.now.references.now at
         (record { before = guards.old.rows; count = guards.old.count; after = guards.new.rows; total = guards.new.count }) }
 {
     let opener = rules.skip(rules.skip(at));
@@ -267,7 +267,7 @@ fn call_guard(rules: &Rules<'_>, at: usize, guards: &mut Guards)
 
 // Finds the guards of the rule whose tokens after `when` begin at number `at`.
 pub fn find_guards(rules: &Rules<'_>, at: usize, guards: &mut Guards)
-    ensures { GuardsFound rules.now.classes rules.now.refs at guards.new.rows guards.new.count }
+    ensures { GuardsFound rules.now.columns.classes.now rules.now.references.now at guards.new.rows guards.new.count }
 {
     guards.count = 0;
     let start = rules.priority_end(at);

@@ -306,7 +306,7 @@ pub fn put_stores(
     requires in_bounds { (CountFaults.MOST_ENTITIES ≤ length flags.now) × (Planes.MOST_CELL_BYTES ≤ length now_cells.now)
         × (Planes.MOST_CELL_BYTES ≤ length previous_cells.now) }
     requires in_bounds_2 { Planes.MOST_STORES_BYTES ≤ length memory.old }
-    ensures { StoresGathered (get_or rules.now.directory Directory.ENTITY_COUNT_ROW 0) flags.now
+    ensures { StoresGathered (get_or rules.now.columns.d.now Directory.ENTITY_COUNT_ROW 0) flags.now
         now_cells.now previous_cells.now memory.old memory.new }
 {
     let n = rules.row(ENTITY_COUNT_ROW);

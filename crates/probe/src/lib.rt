@@ -13,7 +13,7 @@ ghost use Rattle.probe.specs.inner_contracts.TriedMemory.{TriedBetween, tried_in
 
 use checking::check::{Checked, check};
 use checking::layout::{DIRECTORY, ENTITY_COUNT_ROW, MOST_BYTES, MOST_ENTITIES};
-use checking::row;
+use checking::{Columns, row};
 use cycles::layout::{ENTITY_BYTES, NUMBER_BYTES, SCOPES_BYTES};
 use cycles::quiescence::tried_rules;
 use cycles::{Rules, Store, Stores};
@@ -43,11 +43,16 @@ fn tried_between(d: &[u16], scopes: &[u8], before: &[u8], after: &[u8]) -> u64
     let flags = HEAD_BYTES + ENTITY_BYTES * n;
     let cells = flags + n;
     let rules = Rules {
-        classes: &[],
-        values: &[],
-        refs: &[],
+        columns: Columns {
+            text: &[],
+            classes: &[],
+            offsets: &[],
+            lengths: &[],
+            d,
+        },
+        literals: &[],
+        references: &[],
         scopes,
-        directory: d,
     };
     let stores = Stores {
         current: Store {

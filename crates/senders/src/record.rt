@@ -14,6 +14,7 @@ use crate::layout::{
 };
 use crate::names::is_sender;
 use crate::parts::{part_at, place_of, put_kept, put_sender};
+use checking::Columns;
 use checking::layout::{ENTITY_COUNT_ROW, MOST_ENTITIES};
 use cycles::cycle::cycle;
 use cycles::layout::{ENTITY_BYTES, ENTITY_CELLS, MOST_CELL_BYTES};
@@ -83,11 +84,16 @@ fn follow(
     let now = HEAD_BYTES + n;
     let part = part_at(n, place);
     let rules = Rules {
-        classes,
-        values: literals,
-        refs,
+        columns: Columns {
+            text: &[],
+            classes,
+            offsets: &[],
+            lengths: &[],
+            d,
+        },
+        literals,
+        references: refs,
         scopes,
-        directory: d,
     };
     let inputs = Inputs { flags, cells };
     cycle(&rules, &inputs, &mut state[HEAD_BYTES..]);

@@ -19,7 +19,8 @@ use Rattle.cycles.specs.inner_contracts.TotalMachine.{rule_writes}
 use Rattle.cycles.specs.definitions.ClosedSet.{is_of}
 use Rattle.cycles.specs.definitions.Quiescence.{is_quiescent}
 use Rattle.cycles.specs.inner_contracts.ReadSets.{ReadsAre}
-use Rattle.cycles.specs.inner_contracts.Bundles.{RuleColumns, StoreMemory}
+use Rattle.cycles.specs.declared.rules.Rules.{Rules}
+use Rattle.cycles.specs.inner_contracts.Bundles.{StoreMemory}
 use Rattle.cycles.specs.inner_contracts.Evaluation.{bound, Stored, puts}
 
 -- a checked bench with its rules' names resolved, and two stores of it
@@ -103,15 +104,15 @@ module _ (classes values d refs scopes flags cells previous_flags previous_cells
     pub tried_are : RulesTried d scopes flags cells previous_flags previous_cells tried
 
 -- the same over what is lent together: the columns of a bench, and two stores
-module _ (r : RuleColumns) (current previous : StoreMemory) where
+module _ (r : Rules) (current previous : StoreMemory) where
   abbrev pub BindingsWritten : (k level : ℕ) → Binding → (area after : List ℕ) → Type 0
-  BindingsWritten = BindingsPut r.classes r.values r.directory r.refs r.scopes current.flags current.cells previous.flags previous.cells
+  BindingsWritten = BindingsPut r.columns.classes.now r.literals.now r.columns.d.now r.references.now r.scopes.now current.flags current.cells previous.flags previous.cells
 
   abbrev pub SetWritten : (area after : List ℕ) → (set : ℕ) → Type 0
-  SetWritten = SetPut r.classes r.values r.directory r.refs r.scopes current.flags current.cells previous.flags previous.cells
+  SetWritten = SetPut r.columns.classes.now r.literals.now r.columns.d.now r.references.now r.scopes.now current.flags current.cells previous.flags previous.cells
 
   abbrev pub RulesWritten : (area after : List ℕ) → (tried : ℕ) → Type 0
-  RulesWritten = RulesPut r.classes r.values r.directory r.refs r.scopes current.flags current.cells previous.flags previous.cells
+  RulesWritten = RulesPut r.columns.classes.now r.literals.now r.columns.d.now r.references.now r.scopes.now current.flags current.cells previous.flags previous.cells
 
   abbrev pub AreTried : ℕ → Type 0
-  AreTried = RulesTried r.directory r.scopes current.flags current.cells previous.flags previous.cells
+  AreTried = RulesTried r.columns.d.now r.scopes.now current.flags current.cells previous.flags previous.cells

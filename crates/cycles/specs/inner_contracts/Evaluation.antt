@@ -18,7 +18,8 @@ use Rattle.checking.specs.inner_contracts.Directory.{NO_MEMBER}
 use Rattle.checking.specs.inner_contracts.Resolution.{FIRST_VARIABLE}
 use Rattle.cycles.specs.declared.evaluate.Binding.{Binding}
 use Rattle.cycles.specs.definitions.Store.{Store}
-use Rattle.cycles.specs.inner_contracts.Bundles.{RuleColumns, StoreMemory}
+use Rattle.cycles.specs.declared.rules.Rules.{Rules}
+use Rattle.cycles.specs.inner_contracts.Bundles.{StoreMemory}
 use Rattle.cycles.specs.definitions.Spots.{Spot, Spots}
 use Rattle.cycles.specs.inner_contracts.TotalMachine.{value_at, value, filter_holds, test_holds, holds, call_writes, binding_writes}
 use Rattle.checking.specs.definitions.PriorityFaults.{MOST_PRIORITY}
@@ -200,25 +201,25 @@ module _ (classes values refs : List ℕ) (b : Binding) (flags cells previous_fl
 
 -- ---- the same over what is lent together: the columns of a bench, one store or two
 
-module _ (r : RuleColumns) (b : Binding) (s : StoreMemory) where
+module _ (r : Rules) (b : Binding) (s : StoreMemory) where
   abbrev pub Expresses : Parser Expression → ℕ → Value → ℕ → Type 0
-  Expresses = ExpressionWalk r.classes r.values r.refs b s.flags s.cells
+  Expresses = ExpressionWalk r.columns.classes.now r.literals.now r.references.now b s.flags s.cells
 
   abbrev pub Filters : ℕ → Parser (Option Filter) → ℕ → Bool → ℕ → Type 0
-  Filters = FilterWalk r.classes r.values r.refs b s.flags s.cells
+  Filters = FilterWalk r.columns.classes.now r.literals.now r.references.now b s.flags s.cells
 
   abbrev pub CallPuts : (priority : ℕ) → List ℕ → Parser Call → ℕ → List ℕ → ℕ → Type 0
-  CallPuts = CallWalk r.classes r.values r.refs b s.flags s.cells
+  CallPuts = CallWalk r.columns.classes.now r.literals.now r.references.now b s.flags s.cells
 
   abbrev pub CallsPut : (priority : ℕ) → List ℕ → Parser (List Call) → ℕ → List ℕ → ℕ → Type 0
-  CallsPut = CallsWalk r.classes r.values r.refs b s.flags s.cells
+  CallsPut = CallsWalk r.columns.classes.now r.literals.now r.references.now b s.flags s.cells
 
-module _ (r : RuleColumns) (b : Binding) (current previous : StoreMemory) where
+module _ (r : Rules) (b : Binding) (current previous : StoreMemory) where
   abbrev pub Tests : ℕ → ℕ → Parser Test → ℕ → Bool → ℕ → Type 0
-  Tests = TestWalk r.classes r.values r.refs b current.flags current.cells previous.flags previous.cells
+  Tests = TestWalk r.columns.classes.now r.literals.now r.references.now b current.flags current.cells previous.flags previous.cells
 
   abbrev pub Holds : Parser Condition → ℕ → Bool → ℕ → Type 0
-  Holds = ConditionWalk r.classes r.values r.refs b current.flags current.cells previous.flags previous.cells
+  Holds = ConditionWalk r.columns.classes.now r.literals.now r.references.now b current.flags current.cells previous.flags previous.cells
 
   abbrev pub Writes : (at : ℕ) → (area after : List ℕ) → Type 0
-  Writes = RulePuts r.classes r.values r.refs b current.flags current.cells previous.flags previous.cells
+  Writes = RulePuts r.columns.classes.now r.literals.now r.references.now b current.flags current.cells previous.flags previous.cells

@@ -7,7 +7,8 @@ use Rattle.text.specs.definitions.Grammar.{expression_reader, atom_reader}
 use Rattle.checking.specs.definitions.CountFaults.{MOST_VARIABLES}
 use Rattle.checking.specs.inner_contracts.Resolution.{FIRST_VARIABLE}
 use Rattle.cycles.specs.declared.evaluate.Binding.{Binding}
-use Rattle.cycles.specs.inner_contracts.Bundles.{RuleColumns, StoreMemory}
+use Rattle.cycles.specs.declared.rules.Rules.{Rules}
+use Rattle.cycles.specs.inner_contracts.Bundles.{StoreMemory}
 use Rattle.cycles.specs.inner_contracts.Evaluation.{bound, CellRead, ExpressionWalk, ConditionWalk}
 use Rattle.cycles.specs.inner_contracts.AllRules.{EntityAdded}
 use Rattle.cycles.specs.inner_contracts.GuardKinds.{EQUAL_NOW, UNEQUAL_BEFORE, CELL_CHANGES, GROUP_HOLDS}
@@ -64,13 +65,13 @@ module _ (classes values refs : List ℕ) (b : Binding) (level : ℕ) (flags cel
     group_false : GroupFails at e → GuardFails inner n m at e GROUP_HOLDS
 
 -- the same over what is lent together: the columns of a bench, one store or two
-module _ (r : RuleColumns) (b : Binding) (level : ℕ) where
+module _ (r : Rules) (b : Binding) (level : ℕ) where
   abbrev pub ComparisonFails : StoreMemory → (inner owner m at : ℕ) → Bool → ℕ → Type 0
-  ComparisonFails s = ValueFails r.classes r.values r.refs b level s.flags s.cells
+  ComparisonFails s = ValueFails r.columns.classes.now r.literals.now r.references.now b level s.flags s.cells
 
   module _ (current previous : StoreMemory) where
     abbrev pub ConditionFails : (at e : ℕ) → Type 0
-    ConditionFails = GroupFails r.classes r.values r.refs b level current.flags current.cells previous.flags previous.cells
+    ConditionFails = GroupFails r.columns.classes.now r.literals.now r.references.now b level current.flags current.cells previous.flags previous.cells
 
     abbrev pub Fails : (inner n m at e kind : ℕ) → Type 0
-    Fails = GuardFails r.classes r.values r.refs b level current.flags current.cells previous.flags previous.cells
+    Fails = GuardFails r.columns.classes.now r.literals.now r.references.now b level current.flags current.cells previous.flags previous.cells

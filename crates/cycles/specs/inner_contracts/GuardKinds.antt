@@ -17,7 +17,8 @@ use Rattle.cycles.specs.definitions.Store.{Store}
 use Rattle.cycles.specs.definitions.Spots.{Spot, Spots}
 use Rattle.cycles.specs.inner_contracts.TotalMachine.{value_at, value, holds, binding_writes}
 use Rattle.cycles.specs.inner_contracts.Evaluation.{Targeted}
-use Rattle.cycles.specs.inner_contracts.Bundles.{RuleColumns, StoreMemory}
+use Rattle.cycles.specs.declared.rules.Rules.{Rules}
+use Rattle.cycles.specs.inner_contracts.Bundles.{StoreMemory}
 use Rattle.cycles.specs.inner_contracts.AllRules.{candidate, EntityAdded, BindingsPut}
 
 -- the variables that tokens from `low` up to `high` refer to are among the first `level`
@@ -138,5 +139,5 @@ pub record Narrowed (classes values refs flags cells previous_flags previous_cel
       → Marked classes values d refs scopes flags cells previous_flags previous_cells k level b face first end after
 
 -- the same over what is lent together
-abbrev pub Narrows : RuleColumns → (current previous : StoreMemory) → Binding → (guards : List ℕ) → (count level first end : ℕ) → (before after : List ℕ) → Type 0
-Narrows r current previous = Narrowed r.classes r.values r.refs current.flags current.cells previous.flags previous.cells
+abbrev pub Narrows : Rules → (current previous : StoreMemory) → Binding → (guards : List ℕ) → (count level first end : ℕ) → (before after : List ℕ) → Type 0
+Narrows r current previous = Narrowed r.columns.classes.now r.literals.now r.references.now current.flags current.cells previous.flags previous.cells

@@ -16,8 +16,8 @@ pub loop-next-preserved-then-marks-e-eq0 : goal.loop-next-preserved-then-marks-e
 loop-next-preserved-then-marks-e-eq0 t c = (
   omega arith,
   turn_saved c.args.trial.now.ranges.now c.requires.ranges c.scope-face.ensures c.class_at-end.ensures c.loop-next.invariant.1 c.loop-next-test.true
-      (incomplete_few c.args.rules.now.scopes c.args.trial.now.k c.args.level c.is_complete.ensures c.if-is_complete.false) c.with_entity-with.ensures
-      ((c.narrow.ensures.narrows c.args.rules.now.directory c.args.rules.now.scopes c.args.trial.now.k c.scope-face.result c.requires.guards_found (marks_mean c.mark_candidates.ensures)).unmarked
+      (incomplete_few c.args.rules.now.scopes.now c.args.trial.now.k c.args.level c.is_complete.ensures c.if-is_complete.false) c.with_entity-with.ensures
+      ((c.narrow.ensures.narrows c.args.rules.now.columns.d.now c.args.rules.now.scopes.now c.args.trial.now.k c.scope-face.result c.requires.guards_found (marks_mean c.mark_candidates.ensures)).unmarked
       _ c.loop-next.invariant.0 c.loop-next-test.true c.if-marks-e-eq0.true),
 )
 
@@ -25,9 +25,9 @@ pub loop-next-preserved : goal.loop-next-preserved
 loop-next-preserved t c = (
   omega arith,
   turn_takes c.args.trial.now.ranges.now c.requires.ranges c.scope-face.ensures c.class_at-end.ensures c.loop-next.invariant.1 c.loop-next-test.true refl
-      ((c.narrow.ensures.narrows c.args.rules.now.directory c.args.rules.now.scopes c.args.trial.now.k c.scope-face.result c.requires.guards_found (marks_mean c.mark_candidates.ensures)).marked
+      ((c.narrow.ensures.narrows c.args.rules.now.columns.d.now c.args.rules.now.scopes.now c.args.trial.now.k c.scope-face.result c.requires.guards_found (marks_mean c.mark_candidates.ensures)).marked
       _ c.loop-next.invariant.0 c.loop-next-test.true c.if-marks-e-eq0.false)
-      (incomplete_few c.args.rules.now.scopes c.args.trial.now.k c.args.level c.is_complete.ensures c.if-is_complete.false) c.with_entity-with.ensures c.bind.ensures,
+      (incomplete_few c.args.rules.now.scopes.now c.args.trial.now.k c.args.level c.is_complete.ensures c.if-is_complete.false) c.with_entity-with.ensures c.bind.ensures,
 )
 
 pub returns : goal.returns

@@ -9,7 +9,7 @@ decreases-bind l = 3 - l.level
 abbrev pub invariant-loop-next : goal.invariant-loop-next
 invariant-loop-next l =
     (l.first ≤ l.next)
-    × TurnsLeft l.rules.classes l.rules.values l.rules.directory l.rules.refs l.rules.scopes l.stores.current.flags l.stores.current.cells l.stores.previous.flags l.stores.previous.cells l.trial.k l.level l.b l.fn.area l.next l.area
+    × TurnsLeft l.rules.columns.classes.now l.rules.literals.now l.rules.columns.d.now l.rules.references.now l.rules.scopes.now l.stores.current.flags l.stores.current.cells l.stores.previous.flags l.stores.previous.cells l.trial.k l.level l.b l.fn.area l.next l.area
 
 abbrev pub decreases-loop-next : goal.decreases-loop-next
 decreases-loop-next l = l.end - l.next

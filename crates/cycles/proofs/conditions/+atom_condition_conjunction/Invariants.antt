@@ -16,16 +16,16 @@ decreases-conjunction l = l.depth * 3 + 1
 
 abbrev pub invariant-condition-loop-b : goal.invariant-condition-loop-b
 invariant-condition-loop-b l =
-    ConditionLoop l.rules.classes l.rules.values l.rules.refs l.b l.stores.current.flags l.stores.current.cells l.stores.previous.flags l.stores.previous.cells (condition_reader l.depth) is_or
+    ConditionLoop l.rules.columns.classes.now l.rules.literals.now l.rules.references.now l.b l.stores.current.flags l.stores.current.cells l.stores.previous.flags l.stores.previous.cells (condition_reader l.depth) is_or
     (joined (conjunction_reader l.depth) either_at) l.at l.left l.i
 
 abbrev pub decreases-condition-loop-b : goal.decreases-condition-loop-b
-decreases-condition-loop-b l = length l.rules.classes - l.i
+decreases-condition-loop-b l = length l.rules.columns.classes.now - l.i
 
 abbrev pub invariant-conjunction-loop-b : goal.invariant-conjunction-loop-b
 invariant-conjunction-loop-b l =
-    ConditionLoop l.rules.classes l.rules.values l.rules.refs l.b l.stores.current.flags l.stores.current.cells l.stores.previous.flags l.stores.previous.cells (conjunction_reader l.depth) is_and
+    ConditionLoop l.rules.columns.classes.now l.rules.literals.now l.rules.references.now l.b l.stores.current.flags l.stores.current.cells l.stores.previous.flags l.stores.previous.cells (conjunction_reader l.depth) is_and
     (joined (atom_reader l.depth) both_at) l.at l.left l.i
 
 abbrev pub decreases-conjunction-loop-b : goal.decreases-conjunction-loop-b
-decreases-conjunction-loop-b l = length l.rules.classes - l.i
+decreases-conjunction-loop-b l = length l.rules.columns.classes.now - l.i

@@ -29,7 +29,7 @@ sum-loop-op-init t c = expression_begins _ c.term-first.ensures
 
 pub sum-loop-op-smaller : goal.sum-loop-op-smaller
 sum-loop-op-smaller t c =
-    turn_falls is_term_operator term_operator_none c.args.world.now.rules.now.classes c.class_at.ensures c.is_term_operator.ensures c.loop-op-test.true
+    turn_falls is_term_operator term_operator_none c.args.world.now.rules.now.columns.classes.now c.class_at.ensures c.is_term_operator.ensures c.loop-op-test.true
     c.skip.ensures c.term-other.ensures.onward
 
 pub sum-loop-op-preserved : goal.sum-loop-op-preserved
@@ -45,7 +45,7 @@ term-loop-op-init t c = term_begins _ c.factor-first.ensures
 
 pub term-loop-op-smaller : goal.term-loop-op-smaller
 term-loop-op-smaller t c =
-    turn_falls is_factor_operator factor_operator_none c.args.world.now.rules.now.classes c.class_at.ensures c.is_factor_operator.ensures c.loop-op-test.true
+    turn_falls is_factor_operator factor_operator_none c.args.world.now.rules.now.columns.classes.now c.class_at.ensures c.is_factor_operator.ensures c.loop-op-test.true
     c.skip.ensures c.factor-other.ensures.onward
 
 pub term-loop-op-preserved : goal.term-loop-op-preserved

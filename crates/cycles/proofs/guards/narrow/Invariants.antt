@@ -5,7 +5,7 @@ use Rattle.cycles.proofs.guards.narrow.Given as goal
 
 abbrev pub invariant-loop-j : goal.invariant-loop-j
 invariant-loop-j l =
-    Narrowed l.rules.classes l.rules.values l.rules.refs l.stores.current.flags l.stores.current.cells l.stores.previous.flags l.stores.previous.cells l.candidates.b l.guards.rows l.guards.count
+    Narrowed l.rules.columns.classes.now l.rules.literals.now l.rules.references.now l.stores.current.flags l.stores.current.cells l.stores.previous.flags l.stores.previous.cells l.candidates.b l.guards.rows l.guards.count
     l.candidates.level l.candidates.first l.candidates.end l.fn.marks l.marks
 
 abbrev pub decreases-loop-j : goal.decreases-loop-j
