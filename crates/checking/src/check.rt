@@ -1,8 +1,7 @@
 // The check of a text into columns and a directory.
 ghost use Rattle.std.specs.Prelude.{◌≡◌, take};
 ghost use Rattle.text.specs.inner_contracts.TokenTable.{columns_of};
-ghost use Rattle.checking.specs.inner_contracts.FoundFaults.{found_as};
-ghost use Rattle.checking.specs.inner_contracts.FileWalk.{RulesFound, FileFound, or_else, Judged};
+ghost use Rattle.checking.specs.inner_contracts.FileWalk.{RulesFound, FileFound, Judged};
 ghost use Rattle.checking.specs.inner_contracts.CheckedBench.{Checks};
 ghost use Rattle.checking.specs.inner_contracts.CheckSteps.{concluded, Refuses, Settles};
 ghost use Rattle.checking.specs.inner_contracts.OfColumns.{of_file};
@@ -11,7 +10,7 @@ use crate::columns::Columns;
 use crate::counts::count_fault;
 use crate::directory::build;
 use crate::entities::{entity_faults, link_entities};
-use crate::faults::{Faulted, Found, earlier};
+use crate::faults::{Fault, Faults, earlier};
 use crate::interfaces::interface_faults;
 use crate::layout::{DIRECTORY, MOST_BYTES, MOST_RULES, RULE_COUNT_ROW, RULE_ROWS};
 use crate::priorities::priority_fault;
@@ -31,54 +30,33 @@ pub enum Checked {
 
 // The earliest faults of the rules: of the names in them, and of their kinds.
 #[tactic(auto, using(crate::proofs::steps::RulesLaws::ruled_all))]
-fn rules_faults(columns: &Columns<'_>) -> Faulted
+fn rules_faults(columns: &Columns<'_>) -> Faults
     ensures { of_file RulesFound columns.now result }
 {
     let count = columns.row(RULE_COUNT_ROW);
-    let mut names = Found::Nothing;
-    let mut kinds = Found::Nothing;
+    let mut found = Faults::NONE;
     let mut k = 0;
     while k < MOST_RULES {
         if count <= k {
-            return Faulted { names, kinds };
+            return found;
         }
-        let at = columns.row(RULE_ROWS + k);
-        let one = rule_faults(columns, at);
-        let one_names = one.names;
-        let one_kinds = one.kinds;
-        names = earlier(names, one_names);
-        kinds = earlier(kinds, one_kinds);
+        found = found.join(rule_faults(columns, columns.row(RULE_ROWS + k)));
         k += 1;
     }
-    Faulted { names, kinds }
+    found
 }
 
 // The earliest faults of a file within the counts: of its names, and of its kinds.
 #[tactic(auto, using(crate::proofs::steps::RulesLaws::file_told))]
-fn file_faults(columns: &Columns<'_>) -> Faulted
+fn file_faults(columns: &Columns<'_>) -> Faults
     ensures { of_file FileFound columns.now result }
 {
     let interfaces = interface_faults(columns);
     let entities = entity_faults(columns);
     let rules = rules_faults(columns);
-    let entity_names = entities.names;
-    let entity_kinds = entities.kinds;
-    let rule_names = rules.names;
-    let rule_kinds = rules.kinds;
-    Faulted {
-        names: earlier(earlier(interfaces, entity_names), rule_names),
-        kinds: earlier(entity_kinds, rule_kinds),
-    }
-}
-
-// The first fault, or the second if there is no first, wherever they stand.
-#[tactic(auto, unfolding(crate::specs::inner_contracts::FoundFaults::found_as, crate::specs::inner_contracts::FileWalk::or_else))]
-fn otherwise(first: Found, second: Found) -> Found
-    ensures { found_as result ≡ or_else (found_as first) (found_as second) }
-{
-    match first {
-        Found::Nothing => second,
-        Found::Fault { code: _, at: _ } => first,
+    Faults {
+        names: earlier(earlier(interfaces, entities.names), rules.names),
+        kinds: earlier(entities.kinds, rules.kinds),
     }
 }
 
@@ -90,7 +68,7 @@ fn judged(
     lengths: &[u8],
     values: &[u32],
     d: &mut [u16],
-) -> Found
+) -> Option<Fault>
     ensures { Judged text.now classes.now offsets.now lengths.now values.now d.old
         d.new result }
 {
@@ -106,9 +84,7 @@ fn judged(
         d,
     };
     let found = file_faults(&columns);
-    let names = found.names;
-    let kinds = found.kinds;
-    otherwise(priorities, otherwise(counts, otherwise(names, kinds)))
+    priorities.or(counts).or(found.names).or(found.kinds)
 }
 
 // ---- the answer
@@ -136,12 +112,15 @@ fn refused(code: u8, p: usize) -> Checked
 }
 
 #[tactic(auto, unfolding(crate::specs::inner_contracts::CheckSteps::concluded))]
-fn concluded(n: usize, found: Found) -> Checked
+fn concluded(n: usize, found: Option<Fault>) -> Checked
     ensures { result ≡ concluded n found }
 {
     match found {
-        Found::Nothing => Checked::Accepted(n),
-        Found::Fault { code, at } => Checked::Refused { code, at },
+        None => Checked::Accepted(n),
+        Some(fault) => Checked::Refused {
+            code: fault.kind.code(),
+            at: fault.at,
+        },
     }
 }
 

@@ -9,26 +9,25 @@ ghost use Rattle.checking.specs.inner_contracts.OfColumns.{of_file};
 
 use crate::columns::Columns;
 use crate::expressions::{Kinded, expression, kinds_fit};
-use crate::faults::{Found, earlier, unless};
+use crate::faults::{Fault, FaultKind, Faults, earlier, unless};
 use crate::meanings::{cell_of, declared, meaning_of};
 use text::classes::{ACTION, AND, ATTRIBUTE, CHANGED, COLON, COMMA, EVENT, OR, ROUND_OPEN, WITH};
 use text::grammar::OPENERS;
 use text::walks::skip;
 
-// A part of a rule up to token number `next`: its earliest faults.
+/// A part of a rule up to token number `next`, and its earliest faults.
 #[derive(Clone, Copy)]
 pub struct Part {
     pub next: usize,
-    pub names: Found,
-    pub kinds: Found,
+    pub faults: Faults,
 }
 
-// A target: the number of its interface, 16 if it is not known, and its earliest fault.
+/// A target up to token number `next`: the number of its interface, 16 if it is not known, and its earliest fault.
 #[derive(Clone, Copy)]
 pub struct Place {
     pub next: usize,
     pub face: usize,
-    pub names: Found,
+    pub fault: Option<Fault>,
 }
 
 fn nothing(next: usize) -> Part
@@ -36,8 +35,7 @@ fn nothing(next: usize) -> Part
 {
     Part {
         next,
-        names: Found::Nothing,
-        kinds: Found::Nothing,
+        faults: Faults::NONE,
     }
 }
 
@@ -45,27 +43,27 @@ fn nothing(next: usize) -> Part
 fn matched(kind: u8, offset: u32, e: Kinded) -> Part
     ensures { Matched kind offset e result }
 {
-    let names = e.names;
-    let inside = e.kinds;
-    let here = unless(kinds_fit(kind, e.kind), 18, offset);
+    let unfit = unless(kinds_fit(kind, e.kind), FaultKind::UnfitKinds, offset);
     Part {
         next: e.next,
-        names,
-        kinds: earlier(here, inside),
+        faults: Faults {
+            names: e.faults.names,
+            kinds: earlier(unfit, e.faults.kinds),
+        },
     }
 }
 
 // With a name's fault before it.
 #[tactic(auto, using(crate::proofs::steps::CheckedParts::after))]
-fn after(first: Found, p: Part) -> Part
+fn after(first: Option<Fault>, p: Part) -> Part
     ensures { After first p result }
 {
-    let names = p.names;
-    let kinds = p.kinds;
     Part {
         next: p.next,
-        names: earlier(first, names),
-        kinds,
+        faults: Faults {
+            names: earlier(first, p.faults.names),
+            kinds: p.faults.kinds,
+        },
     }
 }
 
@@ -73,14 +71,9 @@ fn after(first: Found, p: Part) -> Part
 pub fn joined(p: Part, q: Part) -> Part
     ensures { Joined p q result }
 {
-    let first = p.names;
-    let second = q.names;
-    let left = p.kinds;
-    let right = q.kinds;
     Part {
         next: q.next,
-        names: earlier(first, second),
-        kinds: earlier(left, right),
+        faults: p.faults.join(q.faults),
     }
 }
 
@@ -96,15 +89,14 @@ fn target_place(columns: &Columns<'_>, start: usize, at: usize) -> Place
         return Place {
             next: colon,
             face: owner.face,
-            names: unless(owner.known, 16, columns.offset(at)),
+            fault: unless(owner.known, FaultKind::Unknown, columns.offset(at)),
         };
     }
     let name = skip(colon, size);
-    let names = declared(columns, at, name);
     Place {
         next: skip(name, size),
         face: owner.face,
-        names,
+        fault: declared(columns, at, name),
     }
 }
 
@@ -120,11 +112,12 @@ fn filter(columns: &Columns<'_>, start: usize, target: Place, depth: u32) -> Par
     let size = columns.classes.len();
     let name = skip(at, size);
     let equals = skip(name, size);
-    let face = target.face;
-    let found = cell_of(columns, face, ATTRIBUTE, name);
-    let wrong = found.names;
+    let attribute = cell_of(columns, target.face, ATTRIBUTE, name);
     let e = expression(columns, start, skip(equals, size), depth);
-    after(wrong, matched(found.kind, columns.offset(equals), e))
+    after(
+        attribute.fault,
+        matched(attribute.kind, columns.offset(equals), e),
+    )
 }
 
 // After `value`: `changed`, or `= expression` beside an event of some kind.
@@ -148,13 +141,10 @@ fn clause(columns: &Columns<'_>, start: usize, at: usize, depth: u32) -> Part
     let name = skip(at, size);
     let from = skip(name, size);
     let target = target_place(columns, start, skip(from, size));
-    let face = target.face;
-    let names = target.names;
-    let found = cell_of(columns, face, EVENT, name);
-    let wrong = found.names;
+    let event = cell_of(columns, target.face, EVENT, name);
     let f = filter(columns, start, target, depth);
-    let t = test(columns, start, found.kind, skip(f.next, size), depth);
-    after(wrong, after(names, joined(f, t)))
+    let t = test(columns, start, event.kind, skip(f.next, size), depth);
+    after(event.fault, after(target.fault, joined(f, t)))
 }
 
 #[cycle(atom_condition_conjunction)]
@@ -170,12 +160,9 @@ fn atom(columns: &Columns<'_>, start: usize, at: usize, depth: u32) -> Part
     }
     let size = columns.classes.len();
     let inside = condition(columns, start, skip(at, size), depth - 1);
-    let names = inside.names;
-    let kinds = inside.kinds;
     Part {
         next: skip(inside.next, size),
-        names,
-        kinds,
+        faults: inside.faults,
     }
 }
 
@@ -225,13 +212,10 @@ pub fn call(columns: &Columns<'_>, start: usize, at: usize) -> Part
     let e = expression(columns, start, skip(open, size), OPENERS);
     let close = skip(e.next, size);
     let target = target_place(columns, start, skip(close, size));
-    let face = target.face;
-    let names = target.names;
-    let found = cell_of(columns, face, ACTION, name);
-    let wrong = found.names;
+    let action = cell_of(columns, target.face, ACTION, name);
     let f = filter(columns, start, target, OPENERS);
-    let first = matched(found.kind, columns.offset(open), e);
-    after(wrong, joined(first, after(names, f)))
+    let parameter = matched(action.kind, columns.offset(open), e);
+    after(action.fault, joined(parameter, after(target.fault, f)))
 }
 
 // The calls after the first, each after a `,`.

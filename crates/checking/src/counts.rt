@@ -7,7 +7,7 @@ ghost use Rattle.checking.specs.definitions.CountFaults;
 ghost use Rattle.checking.specs.inner_contracts.CountScan.{past, declared_scan, ruled_scan};
 ghost use Rattle.checking.specs.inner_contracts.CountChecked.{CountChecked};
 
-use crate::faults::{Found, earlier};
+use crate::faults::{Fault, FaultKind, earlier};
 use crate::layout::{
     MOST_CALLS, MOST_CLAUSES, MOST_ENTITIES, MOST_INTERFACES, MOST_MEMBERS, MOST_RULES,
     MOST_VARIABLES,
@@ -27,28 +27,28 @@ fn one_less(n: usize) -> usize
 
 // A fault at token number i if no more items may come.
 #[tactic(auto, using(crate::proofs::steps::CountScanLaws::past_none, crate::proofs::steps::CountScanLaws::past_one), unfolding(crate::specs::inner_contracts::FoundFaults::found_as))]
-fn over(offsets: &[u16], left: usize, i: usize) -> Found
+fn over(offsets: &[u16], left: usize, i: usize) -> Option<Fault>
     ensures { found_as result ≡ earliest (past offsets.now left i) }
 {
     if left > 0 {
-        return Found::Nothing;
+        return None;
     }
-    Found::Fault {
-        code: 14,
+    Some(Fault {
+        kind: FaultKind::BeyondCount,
         at: row(offsets, i) as u32,
-    }
+    })
 }
 
 // Interfaces, their members, and entities: of the tokens before number `end`.
 #[tactic(auto, using(crate::proofs::steps::CountScanLaws::declared_turns))]
-fn declaration_fault(classes: &[u8], offsets: &[u16], end: usize) -> Found
+fn declaration_fault(classes: &[u8], offsets: &[u16], end: usize) -> Option<Fault>
     ensures { found_as result
         ≡ earliest (declared_scan classes.now offsets.now end 0 CountFaults.MOST_INTERFACES CountFaults.MOST_MEMBERS CountFaults.MOST_ENTITIES) }
 {
     let mut interfaces: usize = MOST_INTERFACES;
     let mut members: usize = MOST_MEMBERS;
     let mut entities: usize = MOST_ENTITIES;
-    let mut found = Found::Nothing;
+    let mut found = None;
     let mut i: usize = 0;
     while i < end {
         let class = class_at(classes, i);
@@ -78,7 +78,7 @@ fn declaration_fault(classes: &[u8], offsets: &[u16], end: usize) -> Found
 
 // Rules, and in each its variables, clauses and calls: of the tokens from number `from` on.
 #[tactic(auto, using(crate::proofs::steps::CountScanLaws::ruled_turns))]
-fn rule_fault(classes: &[u8], offsets: &[u16], from: usize) -> Found
+fn rule_fault(classes: &[u8], offsets: &[u16], from: usize) -> Option<Fault>
     ensures { found_as result
         ≡ earliest (ruled_scan classes.now offsets.now (length classes.now - from) from CountFaults.MOST_RULES CountFaults.MOST_VARIABLES
         CountFaults.MOST_CLAUSES CountFaults.MOST_CALLS) }
@@ -87,7 +87,7 @@ fn rule_fault(classes: &[u8], offsets: &[u16], from: usize) -> Found
     let mut variables: usize = MOST_VARIABLES;
     let mut clauses: usize = MOST_CLAUSES;
     let mut calls: usize = MOST_CALLS;
-    let mut found = Found::Nothing;
+    let mut found = None;
     let mut i = from;
     while i < classes.len() {
         let class = class_at(classes, i);
@@ -120,7 +120,7 @@ fn rule_fault(classes: &[u8], offsets: &[u16], from: usize) -> Found
 }
 
 // The earliest item of a grammatical file beyond a count.
-pub fn count_fault(classes: &[u8], offsets: &[u16]) -> Found
+pub fn count_fault(classes: &[u8], offsets: &[u16]) -> Option<Fault>
     ensures { CountChecked classes.now offsets.now result }
 {
     let rules = first_of(classes, RULES, 0);

@@ -6,7 +6,7 @@ ghost use Rattle.checking.specs.inner_contracts.DeclarationWalk.{EntitiesFound};
 ghost use Rattle.checking.specs.inner_contracts.OfColumns.{of_file, of_tokens};
 
 use crate::columns::Columns;
-use crate::faults::{Faulted, Found, earlier, unless};
+use crate::faults::{Fault, FaultKind, Faults, earlier, unless};
 use crate::interfaces::repeated;
 use crate::layout::{
     DIRECTORY, ENTITY_COUNT_ROW, ENTITY_INTERFACE_ROWS, ENTITY_ROWS, ENTITY_ROWS_32,
@@ -51,9 +51,9 @@ pub fn link_entities(text: &[u8], classes: &[u8], offsets: &[u16], lengths: &[u8
 // What the assignments of an entity have, and the number of the token after them.
 #[derive(Clone, Copy)]
 struct Assigned {
-    again: Found,
-    members: Found,
-    kinds: Found,
+    again: Option<Fault>,
+    members: Option<Fault>,
+    kinds: Option<Fault>,
     end: usize,
 }
 
@@ -121,28 +121,34 @@ fn is_attribute(columns: &Columns<'_>, face: usize, m: usize) -> bool
 
 // The fault of the name at token number q, member number m, if it is no attribute of interface number `face`.
 #[tactic(auto, using(crate::proofs::laws::AssignmentLaws::attribute_unasked, crate::proofs::laws::AssignmentLaws::attribute_asked), unfolding(crate::specs::inner_contracts::FoundFaults::found_as))]
-fn attribute_fault(columns: &Columns<'_>, face: usize, m: usize, q: usize) -> Found
+fn attribute_fault(columns: &Columns<'_>, face: usize, m: usize, q: usize) -> Option<Fault>
     ensures { AttributeFound columns.now.classes.now columns.now.offsets.now columns.now.d.now face m q result }
 {
     if columns.row(INTERFACE_COUNT_ROW) <= face {
-        return Found::Nothing;
+        return None;
     }
     let at = columns.offset(q);
-    unless(is_attribute(columns, face, m), 16, at)
+    unless(is_attribute(columns, face, m), FaultKind::Unknown, at)
 }
 
 // The fault at the `=` of an assignment to member number m, if its literal, which ends at token number `last`, has another kind.
 #[tactic(auto, using(crate::proofs::laws::AssignmentLaws::kind_unasked, crate::proofs::laws::AssignmentLaws::kind_asked), unfolding(crate::specs::inner_contracts::FoundFaults::found_as))]
-fn kind_fault(columns: &Columns<'_>, face: usize, m: usize, equals: usize, last: usize) -> Found
+fn kind_fault(
+    columns: &Columns<'_>,
+    face: usize,
+    m: usize,
+    equals: usize,
+    last: usize,
+) -> Option<Fault>
     ensures { KindFound columns.now.classes.now columns.now.offsets.now columns.now.d.now face m equals last result }
 {
     if NO_MEMBER <= m {
-        return Found::Nothing;
+        return None;
     }
     let kind = columns.member_kind(face, m);
     let given = literal_kind(columns.class_at(last));
     let at = columns.offset(equals);
-    unless(kind == given, 18, at)
+    unless(kind == given, FaultKind::UnfitKinds, at)
 }
 
 // The assignments from token number `from` on, of an entity with interface number `face`.
@@ -150,9 +156,9 @@ fn kind_fault(columns: &Columns<'_>, face: usize, m: usize, equals: usize, last:
 fn assignment_faults(columns: &Columns<'_>, face: usize, from: usize) -> Assigned
     ensures { of_file AssignmentsFound columns.now face from result }
 {
-    let mut again = Found::Nothing;
-    let mut members = Found::Nothing;
-    let mut kinds = Found::Nothing;
+    let mut again = None;
+    let mut members = None;
+    let mut kinds = None;
     let mut q = from;
     while q < columns.classes.len() {
         if columns.class_at(q) != classes::NAME {
@@ -165,7 +171,7 @@ fn assignment_faults(columns: &Columns<'_>, face: usize, from: usize) -> Assigne
         }
         let at = columns.offset(q);
         let before = sets(columns, from, q, q);
-        again = earlier(again, unless(!before, 15, at));
+        again = earlier(again, unless(!before, FaultKind::DeclaredAgain, at));
         let m = columns.member_number(face, q);
         members = earlier(members, attribute_fault(columns, face, m, q));
         let last = assignment_end(columns.classes, q);
@@ -182,17 +188,17 @@ fn assignment_faults(columns: &Columns<'_>, face: usize, from: usize) -> Assigne
 
 // The fault at the `}`, token number `to`, of an entity that leaves out an attribute of interface number `face`.
 #[tactic(auto, using(crate::proofs::steps::UnsetLaws::settled_turns), unfolding(crate::specs::inner_contracts::FoundFaults::found_as))]
-fn unset_fault(columns: &Columns<'_>, face: usize, from: usize, to: usize) -> Found
+fn unset_fault(columns: &Columns<'_>, face: usize, from: usize, to: usize) -> Option<Fault>
     ensures { of_file UnsetFound columns.now face from to result }
 {
     if columns.row(INTERFACE_COUNT_ROW) <= face {
-        return Found::Nothing;
+        return None;
     }
     let count = columns.row(MEMBER_COUNT_ROWS + face);
     let mut j = 0;
     while j < MOST_MEMBERS {
         if count <= j {
-            return Found::Nothing;
+            return None;
         }
         let m = j;
         j += 1;
@@ -201,61 +207,55 @@ fn unset_fault(columns: &Columns<'_>, face: usize, from: usize, to: usize) -> Fo
         }
         let i = columns.member_at(face, m) + 1;
         if !sets(columns, from, to, i) {
-            return Found::Fault {
-                code: 17,
+            return Some(Fault {
+                kind: FaultKind::AttributeUnset,
                 at: columns.offset(to),
-            };
+            });
         }
     }
-    Found::Nothing
+    None
 }
 
 // ---- whole entities
 
 // The faults of entity number e.
 #[tactic(auto, using(crate::proofs::steps::EntityLaws::entity_beyond, crate::proofs::steps::EntityLaws::entity_told))]
-fn faults_of(columns: &Columns<'_>, e: usize) -> Faulted
+fn faults_of(columns: &Columns<'_>, e: usize) -> Faults
     ensures { of_file EntityFound columns.now e result }
 {
     if MOST_ENTITIES <= e {
-        return Faulted {
-            names: Found::Nothing,
-            kinds: Found::Nothing,
-        };
+        return Faults::NONE;
     }
     let p = columns.row(ENTITY_ROWS + e);
     let face = columns.row(ENTITY_INTERFACE_ROWS + e);
     let from = p + 5;
     let set = assignment_faults(columns, face, from);
     let at = columns.offset(p + 3);
-    let known = unless(face < NO_INTERFACE, 16, at);
+    let known = unless(face < NO_INTERFACE, FaultKind::Unknown, at);
     let unset = unset_fault(columns, face, from, set.end);
-    let again = set.again;
-    let members = set.members;
-    let kinds = set.kinds;
-    let names = earlier(earlier(earlier(known, again), members), unset);
-    Faulted { names, kinds }
+    Faults {
+        names: earlier(earlier(earlier(known, set.again), set.members), unset),
+        kinds: set.kinds,
+    }
 }
 
 // The earliest faults of the entities: of their names and of the names in them, and of their kinds.
 #[tactic(auto, using(crate::proofs::steps::EntityLaws::walked_all))]
-pub fn entity_faults(columns: &Columns<'_>) -> Faulted
+pub fn entity_faults(columns: &Columns<'_>) -> Faults
     ensures { of_file EntitiesFound columns.now result }
 {
     let count = columns.row(ENTITY_COUNT_ROW);
-    let mut names = repeated(columns, ENTITY_ROWS_32, count, MOST_ENTITIES_8);
-    let mut kinds = Found::Nothing;
+    let mut found = Faults {
+        names: repeated(columns, ENTITY_ROWS_32, count, MOST_ENTITIES_8),
+        kinds: None,
+    };
     let mut e = 0;
     while e < MOST_ENTITIES {
         if count <= e {
-            return Faulted { names, kinds };
+            return found;
         }
-        let one = faults_of(columns, e);
-        let one_names = one.names;
-        let one_kinds = one.kinds;
-        names = earlier(names, one_names);
-        kinds = earlier(kinds, one_kinds);
+        found = found.join(faults_of(columns, e));
         e += 1;
     }
-    Faulted { names, kinds }
+    found
 }

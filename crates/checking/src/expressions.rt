@@ -9,7 +9,7 @@ ghost use Rattle.checking.specs.inner_contracts.RuleParts.{AppliedChecked, Expre
 ghost use Rattle.checking.specs.inner_contracts.OfColumns.{of_file};
 
 use crate::columns::Columns;
-use crate::faults::{Found, earlier, unless};
+use crate::faults::{FaultKind, Faults, earlier, unless};
 use crate::meanings::{cell_of, meaning_of};
 use text::classes::{
     BOOL, DIVIDE, FALSE, MINUS, NAME, PLUS, REAL, REAL_NUMBER, ROUND_OPEN, TIMES, TRUE, WHOLE,
@@ -22,8 +22,7 @@ use text::walks::skip;
 pub struct Kinded {
     pub next: usize,
     pub kind: u8,
-    pub names: Found,
-    pub kinds: Found,
+    pub faults: Faults,
 }
 
 // One kind, or none, which fits anywhere.
@@ -73,8 +72,7 @@ fn literal(next: usize, kind: u8) -> Kinded
     Kinded {
         next,
         kind,
-        names: Found::Nothing,
-        kinds: Found::Nothing,
+        faults: Faults::NONE,
     }
 }
 
@@ -82,36 +80,29 @@ fn literal(next: usize, kind: u8) -> Kinded
 fn closed(x: Kinded, next: usize) -> Kinded
     ensures { ClosedChecked x next result }
 {
-    let names = x.names;
-    let kinds = x.kinds;
-    Kinded {
-        next,
-        kind: x.kind,
-        names,
-        kinds,
-    }
+    Kinded { next, ..x }
 }
 
 // Under `real`, which takes a whole.
 fn made_real(offset: u32, x: Kinded, next: usize) -> Kinded
     ensures { RealChecked offset x next result }
 {
-    let names = x.names;
-    let inside = x.kinds;
-    let kinds = earlier(unless(kinds_fit(x.kind, WHOLE), 18, offset), inside);
+    let unfit = unless(kinds_fit(x.kind, WHOLE), FaultKind::UnfitKinds, offset);
+    let faults = Faults {
+        names: x.faults.names,
+        kinds: earlier(unfit, x.faults.kinds),
+    };
     if x.kind == WHOLE {
         return Kinded {
             next,
             kind: REAL,
-            names,
-            kinds,
+            faults,
         };
     }
     Kinded {
         next,
         kind: 0,
-        names,
-        kinds,
+        faults,
     }
 }
 
@@ -119,21 +110,17 @@ fn made_real(offset: u32, x: Kinded, next: usize) -> Kinded
 fn negated(offset: u32, x: Kinded) -> Kinded
     ensures { NegatedChecked offset x result }
 {
-    let names = x.names;
-    let inside = x.kinds;
-    if x.kind == BOOL {
-        return Kinded {
-            next: x.next,
-            kind: 0,
-            names,
-            kinds: earlier(unless(false, 18, offset), inside),
-        };
+    if x.kind != BOOL {
+        return x;
     }
+    let unfit = unless(false, FaultKind::UnfitKinds, offset);
     Kinded {
         next: x.next,
-        kind: x.kind,
-        names,
-        kinds: inside,
+        kind: 0,
+        faults: Faults {
+            names: x.faults.names,
+            kinds: earlier(unfit, x.faults.kinds),
+        },
     }
 }
 
@@ -141,16 +128,15 @@ fn negated(offset: u32, x: Kinded) -> Kinded
 fn applied(offset: u32, x: Kinded, y: Kinded) -> Kinded
     ensures { AppliedChecked offset x y result }
 {
-    let left = x.names;
-    let right = y.names;
-    let first = x.kinds;
-    let second = y.kinds;
-    let here = unless(operands_fit(x.kind, y.kind), 18, offset);
+    let unfit = unless(operands_fit(x.kind, y.kind), FaultKind::UnfitKinds, offset);
+    let inside = x.faults.join(y.faults);
     Kinded {
         next: y.next,
         kind: operated_kind(x.kind, y.kind),
-        names: earlier(left, right),
-        kinds: earlier(here, earlier(first, second)),
+        faults: Faults {
+            names: inside.names,
+            kinds: earlier(unfit, inside.kinds),
+        },
     }
 }
 
@@ -163,15 +149,15 @@ fn member(columns: &Columns<'_>, start: usize, at: usize) -> Kinded
     let dot = skip(at, size);
     let name = skip(dot, size);
     let owner = meaning_of(columns, start, at);
-    let face = owner.face;
-    let found = cell_of(columns, face, NAME, name);
-    let wrong = found.names;
-    let unknown = unless(owner.known, 16, columns.offset(at));
+    let member = cell_of(columns, owner.face, NAME, name);
+    let unknown = unless(owner.known, FaultKind::Unknown, columns.offset(at));
     Kinded {
         next: skip(name, size),
-        kind: found.kind,
-        names: earlier(unknown, wrong),
-        kinds: Found::Nothing,
+        kind: member.kind,
+        faults: Faults {
+            names: earlier(unknown, member.fault),
+            kinds: None,
+        },
     }
 }
 

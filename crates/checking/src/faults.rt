@@ -1,43 +1,87 @@
-// What a walk of the check finds: nothing, or the earliest fault.
+// What a walk of the check finds: the earliest fault, if there is one.
 ghost use Rattle.std.specs.Prelude.{◌≡◌};
 ghost use Rattle.checking.specs.definitions.Faults.{fault_unless, earliest};
-ghost use Rattle.checking.specs.inner_contracts.FoundFaults.{found_as, merged};
+ghost use Rattle.checking.specs.inner_contracts.FoundFaults.{code_of, found_as, merged};
 
-// The earliest fault of a part of the file, if it has one: a refusal's code, and the offset.
-#[derive(Clone, Copy)]
-pub enum Found {
-    Nothing,
-    Fault { code: u8, at: u32 },
+/// Why a grammatical file is refused.
+#[derive(Clone, Copy, Debug, PartialEq, Eq)]
+pub enum FaultKind {
+    HighPriority, // a rank above 9
+    BeyondCount, // an item beyond a count
+    DeclaredAgain, // a name declared, or an attribute set, again
+    Unknown, // a name or a member that is not known, or of the wrong sort
+    AttributeUnset, // an attribute that its entity does not set
+    UnfitKinds, // kinds that do not fit
 }
 
-// What two parts have, one after the other.
+impl FaultKind {
+    /// The number that the documents give it.
+    pub const fn code(self) -> u8
+        ensures { result ≡ code_of self }
+    {
+        match self {
+            FaultKind::HighPriority => 44,
+            FaultKind::BeyondCount => 14,
+            FaultKind::DeclaredAgain => 15,
+            FaultKind::Unknown => 16,
+            FaultKind::AttributeUnset => 17,
+            FaultKind::UnfitKinds => 18,
+        }
+    }
+}
+
+/// A fault of a file, and the offset at which it stands.
+#[derive(Clone, Copy, Debug, PartialEq, Eq)]
+pub struct Fault {
+    pub kind: FaultKind,
+    pub at: u32,
+}
+
+/// The earlier of two faults; the first where neither is earlier.
 #[tactic(auto, unfolding(crate::specs::inner_contracts::FoundFaults::found_as, crate::specs::inner_contracts::FoundFaults::merged, crate::specs::definitions::Faults::earlier))]
-pub fn earlier(a: Found, b: Found) -> Found
+pub fn earlier(a: Option<Fault>, b: Option<Fault>) -> Option<Fault>
     ensures { found_as result ≡ merged (found_as a) (found_as b) }
 {
-    match a {
-        Found::Nothing => b,
-        Found::Fault { code: _, at } => match b {
-            Found::Nothing => a,
-            Found::Fault { code: _, at: other } => { if at <= other { a } else { b } }
-        },
+    match (a, b) {
+        (None, _) => b,
+        (_, None) => a,
+        (Some(first), Some(second)) => { if first.at <= second.at { a } else { b } }
     }
 }
 
-// A fault unless the test passes.
+/// A fault of this kind unless the test passes.
 #[tactic(auto, using(crate::proofs::laws::FaultLaws::earliest_passed, crate::proofs::laws::FaultLaws::earliest_failed), unfolding(crate::specs::inner_contracts::FoundFaults::found_as))]
-pub fn unless(ok: bool, code: u8, at: u32) -> Found
-    ensures { found_as result ≡ earliest (fault_unless ok code at) }
+pub fn unless(passed: bool, kind: FaultKind, at: u32) -> Option<Fault>
+    ensures { found_as result ≡ earliest (fault_unless passed (code_of kind) at) }
 {
-    if ok {
-        return Found::Nothing;
+    if passed {
+        return None;
     }
-    Found::Fault { code, at }
+    Some(Fault { kind, at })
 }
 
-// What a part of the file has: of its names, and of its kinds.
+/// The earliest faults of a part of a file: of its names, and of its kinds.
 #[derive(Clone, Copy)]
-pub struct Faulted {
-    pub names: Found,
-    pub kinds: Found,
+pub struct Faults {
+    pub names: Option<Fault>,
+    pub kinds: Option<Fault>,
+}
+
+impl Faults {
+    /// No fault.
+    pub const NONE: Faults = Faults {
+        names: None,
+        kinds: None,
+    };
+
+    /// With those of another part.
+    pub fn join(self, other: Faults) -> Faults
+        ensures names { found_as result.names ≡ merged (found_as self.names) (found_as other.names) }
+        ensures kinds { found_as result.kinds ≡ merged (found_as self.kinds) (found_as other.kinds) }
+    {
+        Faults {
+            names: earlier(self.names, other.names),
+            kinds: earlier(self.kinds, other.kinds),
+        }
+    }
 }

@@ -25,7 +25,7 @@ pub use columns::Columns;
 pub use counts::count_fault;
 pub use directory::build;
 pub use entities::{entity_faults, link_entities};
-pub use faults::{Faulted, Found, earlier, unless};
+pub use faults::{Fault, FaultKind, Faults, earlier, unless};
 pub use interfaces::interface_faults;
 pub use names::{Span, entity_name, entity_span};
 pub use resolver::resolve;

@@ -6,7 +6,7 @@ ghost use Rattle.checking.specs.inner_contracts.RuleParts.{Declaration, Repeated
 ghost use Rattle.checking.specs.inner_contracts.OfColumns.{name_of, of_file, of_names, of_tokens};
 
 use crate::columns::Columns;
-use crate::faults::{Found, earlier, unless};
+use crate::faults::{Fault, FaultKind, earlier, unless};
 use crate::layout::{
     ENTITY_INTERFACE_ROWS, INTERFACE_COUNT_ROW, NO_ENTITY, NO_INTERFACE, NO_MEMBER,
 };
@@ -24,7 +24,7 @@ pub struct Meaning {
 #[derive(Clone, Copy)]
 pub struct Cell {
     pub kind: u8,
-    pub names: Found,
+    pub fault: Option<Fault>,
 }
 
 // Does a token before one of this class declare a variable named as token number i? That token is number n.
@@ -60,22 +60,22 @@ pub fn declaration(columns: &Columns<'_>, start: usize, i: usize) -> usize
 
 // A fault if token number n, before one of this class, declares a variable that the rule has declared before.
 #[tactic(auto, using(crate::proofs::steps::RuleNames::repeated_other, crate::proofs::steps::RuleNames::repeated_again))]
-fn repeated_at(columns: &Columns<'_>, start: usize, class: u8, n: usize) -> Found
+fn repeated_at(columns: &Columns<'_>, start: usize, class: u8, n: usize) -> Option<Fault>
     ensures { of_tokens RepeatedAt columns.now start class n result }
 {
     if class != COLON {
-        return Found::Nothing;
+        return None;
     }
     let first = declaration(columns, start, n);
-    unless(first == n, 15, columns.offset(n))
+    unless(first == n, FaultKind::DeclaredAgain, columns.offset(n))
 }
 
 // The first variable that the rule which begins at `start` declares again.
 #[tactic(auto, using(crate::proofs::steps::RuleNames::repeating_none, crate::proofs::steps::RuleNames::repeating_on))]
-pub fn repeated(columns: &Columns<'_>, start: usize) -> Found
+pub fn repeated(columns: &Columns<'_>, start: usize) -> Option<Fault>
     ensures { of_tokens Repeated columns.now start result }
 {
-    let mut found = Found::Nothing;
+    let mut found = None;
     let mut n = start;
     while n < columns.classes.len() {
         let class = columns.class_at(n + 1);
@@ -142,22 +142,29 @@ pub fn cell_of(columns: &Columns<'_>, face: usize, want: u8, i: usize) -> Cell
     if NO_MEMBER <= m {
         return Cell {
             kind: 0,
-            names: unless(columns.row(INTERFACE_COUNT_ROW) <= face, 16, at),
+            fault: unless(
+                columns.row(INTERFACE_COUNT_ROW) <= face,
+                FaultKind::Unknown,
+                at,
+            ),
         };
     }
     let fits = sort_fits(want, columns.member_sort(face, m));
     Cell {
         kind: columns.member_kind(face, m),
-        names: unless(fits, 16, at),
+        fault: unless(fits, FaultKind::Unknown, at),
     }
 }
 
 // What is at fault where token number n is declared as a variable, with the interface that token number i names.
-pub fn declared(columns: &Columns<'_>, n: usize, i: usize) -> Found
+pub fn declared(columns: &Columns<'_>, n: usize, i: usize) -> Option<Fault>
     ensures { of_names Declared columns.now n i result }
 {
     let e = columns.entity_number(n);
     let k = columns.interface_number(i);
-    let taken = unless(NO_ENTITY <= e, 15, columns.offset(n));
-    earlier(taken, unless(k < NO_INTERFACE, 16, columns.offset(i)))
+    let taken = unless(NO_ENTITY <= e, FaultKind::DeclaredAgain, columns.offset(n));
+    earlier(
+        taken,
+        unless(k < NO_INTERFACE, FaultKind::Unknown, columns.offset(i)),
+    )
 }

@@ -14,9 +14,8 @@ use Rattle.values.specs.definitions.Fitting.{kinds_fit}
 use Rattle.text.specs.definitions.Tokens.{Token, NAME, WHOLE_NUMBER, REAL_NUMBER, ATTRIBUTE, WHOLE, BOOL, REAL, MINUS}
 use Rattle.text.specs.definitions.Syntax.{Name, Sort, attribute, event, action, Member, Interface, literal_kind, Assignment}
 use Rattle.text.specs.definitions.Grammar.{assignment_after}
-use Rattle.checking.specs.declared.faults.Found.{Found}
 use Rattle.checking.specs.definitions.Faults.{fault_unless, earliest}
-use Rattle.checking.specs.inner_contracts.FoundFaults.{found_as}
+use Rattle.checking.specs.inner_contracts.FoundFaults.{Found, found_as}
 use Rattle.checking.specs.definitions.Scope.{Indexed as Numbered, here_or_later, look_up, is_found, is_attribute, member_named}
 use Rattle.checking.specs.definitions.NameFaults.{is_of_sort, member_faults}
 use Rattle.checking.specs.definitions.KindFaults.{kind_if_found, member_kind, assignment_kind_faults}

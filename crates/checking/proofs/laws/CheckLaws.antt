@@ -19,11 +19,10 @@ use Rattle.text.proofs.laws.ListLaws.{some_injective}
 use Rattle.text.proofs.laws.SpotLaws.{stands_below, drop_stands}
 use Rattle.text.proofs.laws.RowLaws.{length_rows, drop_rows}
 use Rattle.text.proofs.laws.SyntaxLaws.{HasRoom, said, room_refused, file_room}
-use Rattle.checking.specs.declared.faults.Found.{Found}
-use Rattle.checking.specs.declared.faults.Found.TheVariants as variants
+use Rattle.std.specs.Prelude.{Some, None}
 use Rattle.checking.specs.declared.check.Checked.{Checked}
 use Rattle.checking.specs.declared.check.Checked.TheVariants.{Accepted, Refused, NoRoom}
-use Rattle.checking.specs.inner_contracts.FoundFaults.{found_as}
+use Rattle.checking.specs.inner_contracts.FoundFaults.{Found, found_as}
 use Rattle.checking.specs.definitions.Verdict.{refused_at, accepted, refused_by, MOST_BYTES, verdict, verdict_answer}
 use Rattle.checking.specs.inner_contracts.Directory.{DIRECTORY, ColumnsOf}
 use Rattle.checking.specs.inner_contracts.FileWalk.{Columned, Judged}
@@ -261,8 +260,8 @@ module _ {text cs os ls vs d e : List ℕ} {s : Syntax} where
 
       file_says : (y : Found) → found ≡ y → (concluded n y ≡ NoRoom → ⊥) × Says text columns e (concluded n y)
       unfolding concluded found_as refused_by
-      file_says variants.Nothing q = (accepted_room, accepts (ap found_as q))
-      file_says (variants.Fault code at) q = (refused_room, found_verdict ∙ ap (λ y. refused_by (found_as y) (accepted file.tree)) q)
+      file_says None q = (accepted_room, accepts (ap found_as q))
+      file_says (Some f) q = (refused_room, found_verdict ∙ ap (λ y. refused_by (found_as y) (accepted file.tree)) q)
 
     pub settles_file : {r : Checked} → r ≡ concluded n found → Settles text cs os ls vs d e s r
     settles_file q = room_told (λ z. file_short (sym x ∙ z)) λ t l k.

@@ -12,9 +12,8 @@ use Rattle.values.specs.definitions.Bytes.{same_bytes}
 use Rattle.text.specs.definitions.Tokens.{NAME, BRACE_CLOSE}
 use Rattle.text.specs.definitions.Syntax.{Name, Assignment}
 use Rattle.text.specs.definitions.Grammar.{assignment_after}
-use Rattle.checking.specs.declared.faults.Found.{Found}
 use Rattle.checking.specs.definitions.Faults.{Fault, fault_unless, earliest}
-use Rattle.checking.specs.inner_contracts.FoundFaults.{found_as, merged}
+use Rattle.checking.specs.inner_contracts.FoundFaults.{Found, found_as, merged}
 use Rattle.checking.specs.definitions.Scope.{Indexed as Numbered, here_or_later, look_up, is_found, is_attribute}
 use Rattle.checking.specs.definitions.NameFaults.{repeated_faults, again_faults, member_faults}
 use Rattle.checking.specs.definitions.KindFaults.{assignment_kind_faults}

@@ -8,12 +8,12 @@ use Rattle.values.specs.declared.Kind.TheVariants.{Wholes}
 use Rattle.values.specs.definitions.Fitting.{operands_fit}
 use Rattle.text.specs.definitions.Tokens.{WHOLE, BOOL, REAL}
 use Rattle.text.specs.definitions.Syntax.{Expression, to_real}
-use Rattle.checking.specs.declared.faults.Found.{Found}
-use Rattle.checking.specs.declared.faults.Found.TheVariants as variants
+use Rattle.std.specs.Prelude.{Some, None}
 use Rattle.checking.specs.declared.expressions.Kinded.{Kinded}
+use Rattle.checking.specs.declared.faults.Faults.{Faults}
 use Rattle.checking.specs.declared.conditions.Part.{Part}
 use Rattle.checking.specs.definitions.Faults.{Fault, fault_unless, earliest}
-use Rattle.checking.specs.inner_contracts.FoundFaults.{found_as, merged}
+use Rattle.checking.specs.inner_contracts.FoundFaults.{Found, found_as, merged}
 use Rattle.checking.specs.definitions.Scope.{Scope}
 use Rattle.checking.specs.definitions.NameFaults.{expression_name_faults}
 use Rattle.checking.specs.definitions.KindFaults.{kind_of, expression_kind_faults, matched_kind_faults}
@@ -31,19 +31,19 @@ unless_same : {here : Option Fault} {fit : Bool} (t : Bool) (offset : ℕ) → h
     → here ≡ earliest (fault_unless t 18 offset)
 unless_same t offset u e = rw e at u
 
-pub found_nothing : found_as variants.Nothing ≡ earliest []
+pub found_nothing : found_as None ≡ earliest []
 unfolding found_as earliest
 found_nothing = refl
 
 -- ---- expressions
 
-pub literal_checked : {next kind : ℕ} → LiteralChecked next kind (record { next = next; kind = kind; names = variants.Nothing; kinds = variants.Nothing })
+pub literal_checked : {next kind : ℕ} → LiteralChecked next kind (record { next = next; kind = kind; faults = record { names = None; kinds = None } })
 unfolding kind_of expression_name_faults expression_kind_faults kind_code
 literal_checked = record { next_is = refl; checked = λ s l e. record { kind = e; names = found_nothing; kinds = found_nothing } }
 
 module _ (offset : ℕ) {x : Kinded} where
   real_kinds : {fit : Bool} {here kinds : Option Fault} → KindsFit x.kind WHOLE fit → here ≡ earliest (fault_unless fit 18 offset)
-      → kinds ≡ merged here (found_as x.kinds) → (s : Scope) (a : Expression) → ExpressionChecked s a x
+      → kinds ≡ merged here (found_as x.faults.kinds) → (s : Scope) (a : Expression) → ExpressionChecked s a x
       → kinds ≡ earliest (expression_kind_faults s (to_real offset a))
   unfolding expression_kind_faults kind_code
   real_kinds f u m s a h =
@@ -51,23 +51,23 @@ module _ (offset : ℕ) {x : Kinded} where
       h.kinds
 
   module _ {next : ℕ} {fit : Bool} {here : Option Fault} {kinds : Found} (f : KindsFit x.kind WHOLE fit)
-      (u : here ≡ earliest (fault_unless fit 18 offset)) (m : found_as kinds ≡ merged here (found_as x.kinds)) where
-    pub made_real : x.kind ≡ WHOLE → RealChecked offset x next (record { next = next; kind = REAL; names = x.names; kinds = kinds })
+      (u : here ≡ earliest (fault_unless fit 18 offset)) (m : found_as kinds ≡ merged here (found_as x.faults.kinds)) where
+    pub made_real : x.kind ≡ WHOLE → RealChecked offset x next (record { next = next; kind = REAL; faults = record { names = x.faults.names; kinds = kinds } })
     unfolding kind_of expression_name_faults
     made_real e = record {
       next_is = refl;
       checked = λ s a h. record { kind = real_whole (kind_of s a) (sym h.kind ∙ e); names = h.names; kinds = real_kinds f u m s a h };
     }
 
-    pub not_made_real : (x.kind ≡ WHOLE → ⊥) → RealChecked offset x next (record { next = next; kind = 0; names = x.names; kinds = kinds })
+    pub not_made_real : (x.kind ≡ WHOLE → ⊥) → RealChecked offset x next (record { next = next; kind = 0; faults = record { names = x.faults.names; kinds = kinds } })
     unfolding kind_of expression_name_faults
     not_made_real n = record {
       next_is = refl;
       checked = λ s a h. record { kind = real_other (kind_of s a) (λ z. n (h.kind ∙ z)); names = h.names; kinds = real_kinds f u m s a h };
     }
 
-  pub not_negated : {here : Option Fault} {kinds : Found} → here ≡ earliest (fault_unless false 18 offset) → found_as kinds ≡ merged here (found_as x.kinds)
-      → x.kind ≡ BOOL → NegatedChecked offset x (record { next = x.next; kind = 0; names = x.names; kinds = kinds })
+  pub not_negated : {here : Option Fault} {kinds : Found} → here ≡ earliest (fault_unless false 18 offset) → found_as kinds ≡ merged here (found_as x.faults.kinds)
+      → x.kind ≡ BOOL → NegatedChecked offset x (record { next = x.next; kind = 0; faults = record { names = x.faults.names; kinds = kinds } })
   unfolding kind_of expression_name_faults expression_kind_faults
   not_negated u m e = record {
     next_is = refl;
@@ -76,7 +76,7 @@ module _ (offset : ℕ) {x : Kinded} where
         record { kind = k.0; names = h.names; kinds = found_both _ (expression_kind_faults s a) m (unless_same _ offset u (sym k.1)) h.kinds };
   }
 
-  pub negated : (x.kind ≡ BOOL → ⊥) → NegatedChecked offset x (record { next = x.next; kind = x.kind; names = x.names; kinds = x.kinds })
+  pub negated : (x.kind ≡ BOOL → ⊥) → NegatedChecked offset x x
   unfolding kind_of expression_name_faults expression_kind_faults fault_unless
   negated n = record {
     next_is = refl;
@@ -87,9 +87,9 @@ module _ (offset : ℕ) {x : Kinded} where
 
   pub applied : {y : Kinded} {fit : Bool} {kind : ℕ} {here inside : Option Fault} {names kinds : Found} → OperandsFit x.kind y.kind fit
       → here ≡ earliest (fault_unless fit 18 offset) → OperatedKind x.kind y.kind kind
-      → found_as names ≡ merged (found_as x.names) (found_as y.names)
-      → inside ≡ merged (found_as x.kinds) (found_as y.kinds) → found_as kinds ≡ merged here inside
-      → AppliedChecked offset x y (record { next = y.next; kind = kind; names = names; kinds = kinds })
+      → found_as names ≡ merged (found_as x.faults.names) (found_as y.faults.names)
+      → inside ≡ merged (found_as x.faults.kinds) (found_as y.faults.kinds) → found_as kinds ≡ merged here inside
+      → AppliedChecked offset x y (record { next = y.next; kind = kind; faults = record { names = names; kinds = kinds } })
   unfolding kind_of expression_name_faults expression_kind_faults
   applied f u o n i m = record {
     next_is = refl;
@@ -107,12 +107,12 @@ module _ (offset : ℕ) {x : Kinded} where
 
 -- ---- parts of a rule
 
-pub nothing_found : {next : ℕ} → NothingFound next (record { next = next; names = variants.Nothing; kinds = variants.Nothing })
+pub nothing_found : {next : ℕ} → NothingFound next (record { next = next; faults = record { names = None; kinds = None } })
 nothing_found = record { next_is = refl; part = record { names_found = found_nothing; kinds_found = found_nothing } }
 
 pub matched : {kind offset : ℕ} {e : Kinded} {fit : Bool} {here : Option Fault} {kinds : Found} → KindsFit kind e.kind fit
-    → here ≡ earliest (fault_unless fit 18 offset) → found_as kinds ≡ merged here (found_as e.kinds)
-    → Matched kind offset e (record { next = e.next; names = e.names; kinds = kinds })
+    → here ≡ earliest (fault_unless fit 18 offset) → found_as kinds ≡ merged here (found_as e.faults.kinds)
+    → Matched kind offset e (record { next = e.next; faults = record { names = e.faults.names; kinds = kinds } })
 unfolding matched_kind_faults
 matched {offset = offset} f u m = record {
   next_is = refl;
@@ -123,15 +123,15 @@ matched {offset = offset} f u m = record {
       };
 }
 
-pub after : {first : Found} {p : Part} {names : Found} → found_as names ≡ merged (found_as first) (found_as p.names)
-    → After first p (record { next = p.next; names = names; kinds = p.kinds })
+pub after : {first : Found} {p : Part} {names : Found} → found_as names ≡ merged (found_as first) (found_as p.faults.names)
+    → After first p (record { next = p.next; faults = record { names = names; kinds = p.faults.kinds } })
 after m = record {
   next_is = refl;
   part = λ zs xs ks e h. record { names_found = found_both zs xs m e h.names_found; kinds_found = h.kinds_found };
 }
 
-pub joined : {p q : Part} {names kinds : Found} → found_as names ≡ merged (found_as p.names) (found_as q.names)
-    → found_as kinds ≡ merged (found_as p.kinds) (found_as q.kinds) → Joined p q (record { next = q.next; names = names; kinds = kinds })
+pub joined : {p q : Part} {all : Faults} → found_as all.names ≡ merged (found_as p.faults.names) (found_as q.faults.names)
+    → found_as all.kinds ≡ merged (found_as p.faults.kinds) (found_as q.faults.kinds) → Joined p q (record { next = q.next; faults = all })
 joined m n = record {
   next_is = refl;
   part = λ xs ks ys ls g h. record {

@@ -47,8 +47,7 @@ use Rattle.checking.specs.inner_contracts.CountScan.{
 }
 use Rattle.checking.specs.inner_contracts.CountChecked.{ClassesOf, OffsetsOf, CountChecked}
 use Rattle.checking.specs.inner_contracts.ClassSearch.{FirstOf}
-use Rattle.checking.specs.inner_contracts.FoundFaults.{found_as, merged}
-use Rattle.checking.specs.declared.faults.Found.{Found}
+use Rattle.checking.specs.inner_contracts.FoundFaults.{Found, found_as, merged}
 use Rattle.checking.proofs.steps.CountLaws.{declared_late, ruled_late, late_earliest}
 
 -- ---- the columns at a token

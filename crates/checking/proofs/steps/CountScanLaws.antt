@@ -10,9 +10,8 @@ use lib.ListN.{get_or}
 use lib.Seq.{drop-nil}
 use borrow.Author.Tests.{ne_eqb, le-leb, lt-leb}
 use Rattle.text.specs.definitions.Tokens.{INTERFACE, ATTRIBUTE, EVENT, ACTION, ENTITY, WHEN, COLON}
-use Rattle.checking.specs.declared.faults.Found.{Found}
 use Rattle.checking.specs.definitions.Faults.{Fault, fault, earlier, earliest}
-use Rattle.checking.specs.inner_contracts.FoundFaults.{found_as, merged}
+use Rattle.checking.specs.inner_contracts.FoundFaults.{Found, found_as, merged}
 use Rattle.checking.specs.definitions.CountFaults.{beyond}
 use Rattle.checking.specs.inner_contracts.CountScan.{
   DeclaredSort,

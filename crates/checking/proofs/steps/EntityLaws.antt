@@ -9,11 +9,10 @@ use lib.ListN.{length, get_or, get_elem?}
 use borrow.Author.Tests.{lt-ltb}
 use Rattle.text.specs.definitions.Syntax.{Interface, Entity, File}
 use Rattle.checking.specs.inner_contracts.DirectoryReads.{Few}
-use Rattle.checking.specs.declared.faults.Found.{Found}
-use Rattle.checking.specs.declared.faults.Faulted.{Faulted}
+use Rattle.checking.specs.declared.faults.Faults.{Faults}
 use Rattle.checking.specs.declared.entities.Assigned.{Assigned}
 use Rattle.checking.specs.definitions.Faults.{Fault, fault_unless, earliest}
-use Rattle.checking.specs.inner_contracts.FoundFaults.{found_as, merged}
+use Rattle.checking.specs.inner_contracts.FoundFaults.{Found, found_as, merged}
 use Rattle.checking.specs.definitions.Scope.{Indexed as Numbered, look_up, item_of, is_found, is_attribute, interface_named}
 use Rattle.checking.specs.definitions.NameFaults.{again_faults, interface_faults, member_faults, unset_faults, entity_name_faults}
 use Rattle.checking.specs.definitions.KindFaults.{entity_kind_faults}
@@ -116,7 +115,7 @@ module _ {text classes offsets lengths d : List ℕ} (e : ℕ) {p face : ℕ} (a
       → EntityFound text classes offsets lengths d e (record { names = names; kinds = set.kinds })
   entity_told o k u f g h = record { names = λ w few x s. names_told w few x s o k u f g h; kinds = kinds_told }
 
-pub entity_beyond : {text classes offsets lengths d : List ℕ} {e : ℕ} {r : Faulted} → 32 ≤ e → EntityFound text classes offsets lengths d e r
+pub entity_beyond : {text classes offsets lengths d : List ℕ} {e : ℕ} {r : Faults} → 32 ≤ e → EntityFound text classes offsets lengths d e r
 entity_beyond {e = e} {r = r} h = record { names = λ w few x s. none_there w few x s; kinds = λ w few x s. none_there w few x s }
   where
     none_there : {text classes offsets lengths d : List ℕ} (w : Bench text classes offsets lengths d) → Few w.file → (x : Entity)
@@ -154,7 +153,7 @@ module _ {text classes offsets lengths d : List ℕ} {count : ℕ} (c : count �
   }
 
   module _ {names kinds : Found} {k : ℕ} (p : Walked text classes offsets lengths d names kinds k) where
-    pub walked_next : {one : Faulted} {names' kinds' : Found} → k < count → EntityFound text classes offsets lengths d k one
+    pub walked_next : {one : Faults} {names' kinds' : Found} → k < count → EntityFound text classes offsets lengths d k one
         → found_as names' ≡ merged (found_as names) (found_as one.names) → found_as kinds' ≡ merged (found_as kinds) (found_as one.kinds)
         → Walked text classes offsets lengths d names' kinds' (k + 1)
     walked_next m h f g = record {

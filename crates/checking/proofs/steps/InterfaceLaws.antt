@@ -7,9 +7,8 @@ use mathlib.Core.Option.{Option}
 use lib.ListN.{get_or}
 use Rattle.text.specs.definitions.Syntax.{Member, Interface}
 use Rattle.checking.specs.inner_contracts.DirectoryReads.{Few}
-use Rattle.checking.specs.declared.faults.Found.{Found}
 use Rattle.checking.specs.definitions.Faults.{Fault}
-use Rattle.checking.specs.inner_contracts.FoundFaults.{found_as, merged}
+use Rattle.checking.specs.inner_contracts.FoundFaults.{Found, found_as, merged}
 use Rattle.checking.specs.definitions.NameFaults.{again_faults, interface_name_faults}
 use Rattle.checking.specs.inner_contracts.Directory.{Bench}
 use Rattle.checking.specs.inner_contracts.DeclarationWalk.{RepeatedRows, InterfacesFound}

@@ -9,10 +9,11 @@ use lib.ListN.{length}
 use borrow.Author.Tests.{le-leb}
 use Rattle.text.specs.definitions.Syntax.{Member, Interface, Entity, Rule, File}
 use Rattle.text.proofs.laws.ListLaws.{none_some, flatMap_empty, number_member}
-use Rattle.checking.specs.declared.faults.Found.{Found}
-use Rattle.checking.specs.declared.faults.Faulted.{Faulted}
+use Rattle.std.specs.Prelude.{Some, None}
+use Rattle.std.specs.Option.{option_or}
+use Rattle.checking.specs.declared.faults.Faults.{Faults}
 use Rattle.checking.specs.definitions.Faults.{Fault, earliest}
-use Rattle.checking.specs.inner_contracts.FoundFaults.{found_as}
+use Rattle.checking.specs.inner_contracts.FoundFaults.{Found, found_as}
 use Rattle.checking.specs.definitions.PriorityFaults.{priority_faults}
 use Rattle.checking.specs.definitions.CountFaults.{interface_count_faults, count_faults}
 use Rattle.checking.specs.definitions.NameFaults.{name_faults}
@@ -61,9 +62,21 @@ unfolding or_else
 second_none none b h = h
 second_none (some f) b h = absurd (none_some (sym h))
 
+-- the first of four
+first_of : (p c n k : Found) → found_as (option_or (option_or (option_or p c) n) k) ≡ or_else (found_as p) (or_else (found_as c) (or_else (found_as n) (found_as k)))
+unfolding found_as or_else
+first_of None None None k = refl
+first_of None None (Some n) k = refl
+first_of None (Some c) n k = refl
+first_of (Some p) c n k = refl
+
+pub first_found : (p c n k : Found) {two three all : Found} → two ≡ option_or p c → three ≡ option_or two n → all ≡ option_or three k
+    → found_as all ≡ or_else (found_as p) (or_else (found_as c) (or_else (found_as n) (found_as k)))
+first_found p c n k e f g = rw (g, f, e) (first_of p c n k)
+
 -- ---- the steps
 
-module _ {text classes offsets lengths values d built e : List ℕ} {priorities counts : Found} {later after first : Option Fault} {done : Bool} {found : Faulted}
+module _ {text classes offsets lengths values d built e : List ℕ} {priorities counts : Found} {later after first : Option Fault} {done : Bool} {found : Faults}
     (z : PriorityChecked classes offsets values priorities) (c : CountChecked classes offsets counts)
     (b : DirectoryBuilt classes d built done) (size : length built ≡ length d) (l : EntitiesLinked text offsets lengths built e)
     (g : FileFound text classes offsets lengths e found) (o : later ≡ or_else (found_as found.names) (found_as found.kinds))

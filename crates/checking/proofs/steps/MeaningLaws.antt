@@ -15,9 +15,8 @@ use Rattle.text.specs.definitions.Grammar.{name_of}
 use Rattle.text.specs.inner_contracts.Walks.{no_token, nth_token, Steps}
 use Rattle.text.proofs.laws.ListLaws.{none_some}
 use Rattle.text.proofs.laws.WalkLaws.{getElem?_inside}
-use Rattle.checking.specs.declared.faults.Found.{Found as Fault-found}
 use Rattle.checking.specs.definitions.Faults.{Fault, fault_unless, earliest}
-use Rattle.checking.specs.inner_contracts.FoundFaults.{found_as, merged}
+use Rattle.checking.specs.inner_contracts.FoundFaults.{Found, found_as, merged}
 use Rattle.checking.specs.definitions.Scope.{
   Indexed,
   here_or_later,
@@ -311,9 +310,9 @@ module _ {want sort : ℕ} where
 
 module _ {text classes offsets lengths d : List ℕ} {want : ℕ} (face i : ℕ) {m : ℕ}
     (g : NumberOf text offsets lengths d 12 (FewMembers face) (λ f. member_number (get_elem? f.interfaces face) (name_in text offsets lengths i)) m) where
-  pub no_cell : 12 ≤ m → {count : ℕ} → count ≡ get_or d 0 0 → {at : ℕ} → at ≡ get_or offsets i 0 → {names : Fault-found}
+  pub no_cell : 12 ≤ m → {count : ℕ} → count ≡ get_or d 0 0 → {at : ℕ} → at ≡ get_or offsets i 0 → {names : Found}
       → found_as names ≡ earliest (fault_unless (leb count face) 16 at)
-      → CellOf text classes offsets lengths d face want i (record { kind = 0; names = names })
+      → CellOf text classes offsets lengths d face want i (record { kind = 0; fault = names })
   unfolding member_kind member_faults member_number kind_if_found is_of_sort kind_code member_named fault_unless earliest
   no_cell h {count} p {at} q {names} u = record {
     kind = λ w few. kind w few (get_elem? w.file.interfaces face) refl;
@@ -344,10 +343,10 @@ module _ {text classes offsets lengths d : List ℕ} {want : ℕ} (face i : ℕ)
           let k : face < count = omega arith in
           rw (lt-leb count face k, missing_in w few x e)
 
-  pub a_cell : m < 12 → {sort kind at : ℕ} {fits : Bool} {names : Fault-found} → MemberClass classes d face m (λ x. sort_class x.sort) sort
+  pub a_cell : m < 12 → {sort kind at : ℕ} {fits : Bool} {names : Found} → MemberClass classes d face m (λ x. sort_class x.sort) sort
       → SortFits want sort fits → at ≡ get_or offsets i 0 → found_as names ≡ earliest (fault_unless fits 16 at)
       → MemberClass classes d face m (λ x. kind_class x.kind) kind
-      → CellOf text classes offsets lengths d face want i (record { kind = kind; names = names })
+      → CellOf text classes offsets lengths d face want i (record { kind = kind; fault = names })
   unfolding member_kind member_faults member_number kind_if_found is_of_sort kind_code member_named
   a_cell h {sort} {kind} {at} {fits} {names} x y q u z = record {
     kind = λ w few. kind_is w few (get_elem? w.file.interfaces face) refl;
@@ -403,7 +402,7 @@ interface_known f n few =
 pub declared_found : {text offsets lengths d : List ℕ} (n i : ℕ) {e k : ℕ}
     → NumberOf text offsets lengths d 32 (λ f. length f.entities ≤ 32) (λ f. entity_number f (name_in text offsets lengths n)) e
     → NumberOf text offsets lengths d 16 (λ f. length f.interfaces ≤ 16) (λ f. interface_number f (name_in text offsets lengths i)) k
-    → {p q : ℕ} {a b : Option Fault} {r : Fault-found} → p ≡ get_or offsets n 0 → a ≡ earliest (fault_unless (leb 32 e) 15 p) → q ≡ get_or offsets i 0
+    → {p q : ℕ} {a b : Option Fault} {r : Found} → p ≡ get_or offsets n 0 → a ≡ earliest (fault_unless (leb 32 e) 15 p) → q ≡ get_or offsets i 0
     → b ≡ earliest (fault_unless (ltb k 16) 16 q) → found_as r ≡ merged a b → Declared text offsets lengths d n i r
 unfolding interface_faults
 declared_found {text} {offsets} {lengths} {d} n i g h {r = r} x u y v m = record { faults = λ classes w few. go classes w few }
@@ -423,7 +422,7 @@ map_map : {A B C : Type 0} (f : B → C) (g : A → B) (xs : List A) → map f (
 map_map f g [] = refl
 map_map f g (x ∷ xs) = ap (λ ys. f (g x) ∷ ys) (map_map f g xs)
 
-pub repeated_found : {text classes offsets lengths d : List ℕ} {start : ℕ} {r : Fault-found} → Repeated text classes offsets lengths start r
+pub repeated_found : {text classes offsets lengths d : List ℕ} {start : ℕ} {r : Found} → Repeated text classes offsets lengths start r
     → (c : RuleWorld text classes offsets lengths d start) → found_as r ≡ earliest (again_faults (map (λ v. v.name) (variables c.rule)))
 repeated_found {text} {classes} {offsets} {lengths} {d} {start} h c =
     h.faults

@@ -18,10 +18,9 @@ use Rattle.text.proofs.laws.ListLaws.{flatMap_flatMap}
 use Rattle.text.proofs.laws.SpotLaws.{Spots, over, skip, spot, spots_le}
 use Rattle.text.proofs.laws.RuleMarks.{PriorityAt}
 use Rattle.text.proofs.laws.FlatLaws.{priority_listed, file_marks, file_priorities}
-use Rattle.checking.specs.declared.faults.Found.{Found}
 use Rattle.checking.specs.definitions.Faults.{fault_unless, earliest}
 use Rattle.checking.specs.definitions.PriorityFaults.{MOST_PRIORITY, number_faults, given_faults, priority_faults}
-use Rattle.checking.specs.inner_contracts.FoundFaults.{found_as, merged}
+use Rattle.checking.specs.inner_contracts.FoundFaults.{Found, found_as, merged}
 use Rattle.checking.specs.inner_contracts.CountChecked.{ClassesOf, OffsetsOf}
 use Rattle.checking.specs.inner_contracts.CheckedBench.{ValuesOf}
 use Rattle.checking.specs.inner_contracts.PriorityScan.{number_fault_at, priority_scan, PriorityChecked}

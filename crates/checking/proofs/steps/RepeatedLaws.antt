@@ -13,9 +13,8 @@ use borrow.Author.Tests.{eq-eqb, ne_eqb}
 use Rattle.text.specs.definitions.Syntax.{Name}
 use Rattle.text.proofs.laws.ListLaws.{none_some, some_injective}
 use Rattle.text.proofs.laws.SpotLaws.{stands_drop}
-use Rattle.checking.specs.declared.faults.Found.{Found}
 use Rattle.checking.specs.definitions.Faults.{Fault, fault_unless, earliest}
-use Rattle.checking.specs.inner_contracts.FoundFaults.{found_as, merged}
+use Rattle.checking.specs.inner_contracts.FoundFaults.{Found, found_as, merged}
 use Rattle.checking.specs.definitions.Scope.{Indexed as Numbered, look_up, is_found}
 use Rattle.checking.specs.definitions.NameFaults.{repeated_faults, again_faults}
 use Rattle.checking.specs.inner_contracts.Directory.{Named, Bench, number_or}

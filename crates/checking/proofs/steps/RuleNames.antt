@@ -14,10 +14,9 @@ use Rattle.values.specs.definitions.Bytes.{same_bytes}
 use Rattle.text.specs.definitions.Tokens.{END, COLON}
 use Rattle.text.specs.definitions.Syntax.{Name}
 use Rattle.text.proofs.laws.WalkLaws.{class_inside}
-use Rattle.checking.specs.declared.faults.Found.{Found}
-use Rattle.checking.specs.declared.faults.Found.TheVariants as variants
+use Rattle.std.specs.Prelude.{Some, None}
 use Rattle.checking.specs.definitions.Faults.{fault_unless, earliest}
-use Rattle.checking.specs.inner_contracts.FoundFaults.{found_as, merged}
+use Rattle.checking.specs.inner_contracts.FoundFaults.{Found, found_as, merged}
 use Rattle.checking.specs.definitions.Scope.{Indexed as Numbered, here_or_later, look_up, is_found}
 use Rattle.checking.specs.definitions.NameFaults.{repeated_faults, again_faults}
 use Rattle.checking.specs.inner_contracts.Directory.{name_in}
@@ -183,7 +182,7 @@ module _ (text offsets lengths : List ℕ) (other n : ℕ) where
           (look_up (λ m. m) (name_in text offsets lengths n) (map (name_row text offsets lengths) ms)))))
 
 module _ {text classes offsets lengths : List ℕ} {start : ℕ} where
-  pub repeating_none : Repeating text classes offsets lengths start start variants.Nothing
+  pub repeating_none : Repeating text classes offsets lengths start start None
   unfolding merged again_faults found_as
   repeating_none = record { before = []; below = no_number; all = refl; same = refl }
 
@@ -243,7 +242,7 @@ module _ {text classes offsets lengths : List ℕ} {start : ℕ} where
                 }
 
   module _ {class n : ℕ} where
-    pub repeated_other : (class ≡ COLON → ⊥) → RepeatedAt text classes offsets lengths start class n variants.Nothing
+    pub repeated_other : (class ≡ COLON → ⊥) → RepeatedAt text classes offsets lengths start class n None
     unfolding found_as
     repeated_other h = record { other = λ z. refl; faults = λ e. absurd (h e) }
 

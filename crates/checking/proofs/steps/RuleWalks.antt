@@ -33,15 +33,14 @@ use Rattle.text.proofs.laws.ListLaws.{flatMap_append}
 use Rattle.text.proofs.laws.WalkLaws.{next_steps, getElem?_inside, walk_yields, walk_in}
 use Rattle.text.proofs.laws.ConditionWalks.{rule_walk}
 use Rattle.checking.specs.inner_contracts.DirectoryReads.{Few}
-use Rattle.checking.specs.declared.faults.Found.{Found}
-use Rattle.checking.specs.declared.faults.Found.TheVariants as variants
+use Rattle.std.specs.Prelude.{Some, None}
 use Rattle.checking.specs.declared.meanings.Meaning.{Meaning}
 use Rattle.checking.specs.declared.meanings.Cell.{Cell}
 use Rattle.checking.specs.declared.expressions.Kinded.{Kinded}
 use Rattle.checking.specs.declared.conditions.Part.{Part}
 use Rattle.checking.specs.declared.conditions.Place.{Place}
 use Rattle.checking.specs.definitions.Faults.{Fault, fault_unless, earliest}
-use Rattle.checking.specs.inner_contracts.FoundFaults.{found_as, merged}
+use Rattle.checking.specs.inner_contracts.FoundFaults.{Found, found_as, merged}
 use Rattle.checking.specs.definitions.Scope.{clauses, variables, scope_of, interface_in, is_attribute, is_action, is_event, is_member}
 use Rattle.checking.specs.definitions.NameFaults.{
   member_faults,
@@ -159,10 +158,10 @@ module _ {text classes offsets lengths d : List ℕ} where
 
     pub member_checked : (at i : ℕ) {owner : Meaning} {found : Cell} {next offset : ℕ} {a : Option Fault} {names : Found}
         → Meant text classes offsets lengths d start at owner → CellOf text classes offsets lengths d owner.face NAME i found
-        → offset ≡ get_or offsets at 0 → a ≡ earliest (fault_unless owner.known 16 offset) → found_as names ≡ merged a (found_as found.names)
+        → offset ≡ get_or offsets at 0 → a ≡ earliest (fault_unless owner.known 16 offset) → found_as names ≡ merged a (found_as found.fault)
         → (c : RuleWorld text classes offsets lengths d start) → at < length classes → i < length classes
         → ExpressionChecked (world_scope c) (member (name_of (nth_token c.bench.tokens at)) (name_of (nth_token c.bench.tokens i)))
-        (record { next = next; kind = found.kind; names = names; kinds = variants.Nothing })
+        (record { next = next; kind = found.kind; faults = record { names = names; kinds = None } })
     unfolding kind_of kind_in expression_name_faults expression_kind_faults
     member_checked at i {owner} {found} m g e u n c h k = rw (name_stands c.bench at h, name_stands c.bench i k) (record {
       kind = g.kind c.bench c.few ∙ rw (m.face c);
@@ -194,7 +193,7 @@ module _ {text classes offsets lengths d : List ℕ} where
       pub bare_checked : {next offset : ℕ} {names : Found} → offset ≡ get_or offsets at 0 → found_as names ≡ earliest (fault_unless owner.known 16 offset)
           → (c : RuleWorld text classes offsets lengths d start) → at < length classes
           → PlaceChecked text classes offsets lengths d start c (record { name = name_of (nth_token c.bench.tokens at); declares = none })
-          (record { next = next; face = owner.face; names = names })
+          (record { next = next; face = owner.face; fault = names })
       unfolding target_name_faults declaration_faults
       bare_checked e u c h = rw (name_stands c.bench at h) (record { face_is = m.face c; names_found = unknown_name m e u c })
 
@@ -202,7 +201,7 @@ module _ {text classes offsets lengths d : List ℕ} where
           → (c : RuleWorld text classes offsets lengths d start) → at < length classes → i < length classes
           → PlaceChecked text classes offsets lengths d start c
           (record { name = name_of (nth_token c.bench.tokens at); declares = some (name_of (nth_token c.bench.tokens i)) })
-          (record { next = next; face = owner.face; names = names })
+          (record { next = next; face = owner.face; fault = names })
       unfolding target_name_faults declaration_faults variable_faults scope_of
       declaring_checked i g c h k =
           rw (name_stands c.bench at h, name_stands c.bench i k) (record { face_is = m.face c; names_found = g.faults classes c.bench c.few })
@@ -216,7 +215,7 @@ module _ {text classes offsets lengths d : List ℕ} where
 
     pub filter_checked : (i j : ℕ) {face : ℕ} {found : Cell} {e : Kinded} {offset : ℕ} {p r : Part}
         → CellOf text classes offsets lengths d face ATTRIBUTE i found
-        → offset ≡ get_or offsets j 0 → Matched found.kind offset e p → After found.names p r → (c : RuleWorld text classes offsets lengths d start)
+        → offset ≡ get_or offsets j 0 → Matched found.kind offset e p → After found.fault p r → (c : RuleWorld text classes offsets lengths d start)
         → i < length classes → j < length classes → (a : Expression) → ExpressionChecked (world_scope c) a e
         → FilterChecked text classes offsets lengths d start face c
         (some (record { attribute = name_of (nth_token c.bench.tokens i); equals_at = (nth_token c.bench.tokens j).at; expression = a })) r
@@ -244,7 +243,7 @@ module _ {text classes offsets lengths d : List ℕ} where
     -- ---- conditions
 
     pub clause_checked : (at i : ℕ) {target : Place} {found : Cell} {f t p q r : Part} → CellOf text classes offsets lengths d target.face EVENT i found
-        → Joined f t p → After target.names p q → After found.names q r → (c : RuleWorld text classes offsets lengths d start) → i < length classes
+        → Joined f t p → After target.fault p q → After found.fault q r → (c : RuleWorld text classes offsets lengths d start) → i < length classes
         → (x : Target) (y : Option Filter) (z : Test) → PlaceChecked text classes offsets lengths d start c x target
         → FilterChecked text classes offsets lengths d start target.face c y f → TestChecked text classes offsets lengths d start found.kind c z t
         → ConditionYields text classes offsets lengths d start c
@@ -268,7 +267,7 @@ module _ {text classes offsets lengths d : List ℕ} where
 
     pub closed_condition : {p : Part} {next : ℕ} (c : RuleWorld text classes offsets lengths d start) (a : Condition)
         → ConditionYields text classes offsets lengths d start c a p
-        → ConditionYields text classes offsets lengths d start c a (record { next = next; names = p.names; kinds = p.kinds })
+        → ConditionYields text classes offsets lengths d start c a (record { next = next; faults = p.faults })
     closed_condition c a h = record { names_found = h.names_found; kinds_found = h.kinds_found }
 
     module _ {p q r : Part} (j : Joined p q r) (c : RuleWorld text classes offsets lengths d start) where
@@ -307,7 +306,7 @@ module _ {text classes offsets lengths d : List ℕ} where
 
     pub call_checked : (at i j : ℕ) {e : Kinded} {target : Place} {found : Cell} {offset : ℕ} {f p q s r : Part}
         → CellOf text classes offsets lengths d target.face ACTION i found → offset ≡ get_or offsets j 0 → Matched found.kind offset e p
-        → After target.names f q → Joined p q s → After found.names s r → (c : RuleWorld text classes offsets lengths d start)
+        → After target.fault f q → Joined p q s → After found.fault s r → (c : RuleWorld text classes offsets lengths d start)
         → i < length classes → j < length classes → (a : Expression) (x : Target) (y : Option Filter) → ExpressionChecked (world_scope c) a e
         → PlaceChecked text classes offsets lengths d start c x target → FilterChecked text classes offsets lengths d start target.face c y f
         → CallYields text classes offsets lengths d start c (record {
@@ -361,8 +360,8 @@ module _ {text classes offsets lengths d : List ℕ} {at : ℕ} where
         let reads : rule_after b.token (drop i w.tokens) ≡ read r b.used = rw (s.steps inside) b.reads in
         (walk_yields (rule_walked b.token) c (omega arith) reads).0 (omega arith)
 
-    pub rule_found : {again names : Found} → Repeated text classes offsets lengths at again → found_as names ≡ merged (found_as again) (found_as q.names)
-        → RuleFaults text classes offsets lengths d at (record { names = names; kinds = q.kinds })
+    pub rule_found : {again names : Found} → Repeated text classes offsets lengths at again → found_as names ≡ merged (found_as again) (found_as q.faults.names)
+        → RuleFaults text classes offsets lengths d at (record { names = names; kinds = q.faults.kinds })
     unfolding rule_name_faults rule_kind_faults
     rule_found {again} {names} e n = record { names = names_are; kinds = λ w few r b. (rule_part w few r b).kinds_found }
       where

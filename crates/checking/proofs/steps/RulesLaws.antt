@@ -7,10 +7,9 @@ use mathlib.Core.Option.{Option, none}
 use lib.ListN.{length, get_or}
 use Rattle.text.specs.definitions.Syntax.{Rule, File}
 use Rattle.checking.specs.inner_contracts.DirectoryReads.{Few}
-use Rattle.checking.specs.declared.faults.Found.{Found}
-use Rattle.checking.specs.declared.faults.Faulted.{Faulted}
+use Rattle.checking.specs.declared.faults.Faults.{Faults}
 use Rattle.checking.specs.definitions.Faults.{Fault, earliest}
-use Rattle.checking.specs.inner_contracts.FoundFaults.{found_as, merged}
+use Rattle.checking.specs.inner_contracts.FoundFaults.{Found, found_as, merged}
 use Rattle.checking.specs.definitions.NameFaults.{again_faults, interface_name_faults, entity_name_faults, rule_name_faults, name_faults}
 use Rattle.checking.specs.definitions.KindFaults.{entity_kind_faults, rule_kind_faults, kind_faults}
 use Rattle.checking.specs.inner_contracts.Directory.{Bench}
@@ -46,7 +45,7 @@ module _ {text classes offsets lengths d : List ℕ} {names kinds : Found} where
   }
 
   module _ {count k : ℕ} (c : count ≡ get_or d 2 0) (p : Ruled text classes offsets lengths d names kinds k) where
-    pub ruled_next : {at : ℕ} {one : Faulted} {names' kinds' : Found} → k < count → at ≡ get_or d (259 + k) 0
+    pub ruled_next : {at : ℕ} {one : Faults} {names' kinds' : Found} → k < count → at ≡ get_or d (259 + k) 0
         → RuleFaults text classes offsets lengths d at one → found_as names' ≡ merged (found_as names) (found_as one.names)
         → found_as kinds' ≡ merged (found_as kinds) (found_as one.kinds) → Ruled text classes offsets lengths d names' kinds' (k + 1)
     ruled_next m a h f g = record {
@@ -73,7 +72,7 @@ module _ {text classes offsets lengths d : List ℕ} {names kinds : Found} where
 
 -- ---- the parts of a file
 
-module _ {text classes offsets lengths d : List ℕ} {interfaces : Found} {entities rules : Faulted} (i : InterfacesFound text offsets lengths d interfaces)
+module _ {text classes offsets lengths d : List ℕ} {interfaces : Found} {entities rules : Faults} (i : InterfacesFound text offsets lengths d interfaces)
     (e : EntitiesFound text classes offsets lengths d entities) (r : RulesFound text classes offsets lengths d rules) where
   module _ (w : Bench text classes offsets lengths d) (few : Few w.file) (most : length w.file.rules ≤ 64) where
     abbrev again_interfaces : List Fault

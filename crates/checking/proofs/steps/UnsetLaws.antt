@@ -8,9 +8,8 @@ use mathlib.Core.Option.{none, some}
 use lib.ListN.{length, get_or, get_elem?, drop}
 use Rattle.text.specs.definitions.Syntax.{Member, Interface, Entity}
 use Rattle.text.proofs.laws.SpotLaws.{stands_drop}
-use Rattle.checking.specs.declared.faults.Found.{Found}
 use Rattle.checking.specs.definitions.Faults.{fault, fault_unless, earlier, earliest}
-use Rattle.checking.specs.inner_contracts.FoundFaults.{found_as, merged}
+use Rattle.checking.specs.inner_contracts.FoundFaults.{Found, found_as, merged}
 use Rattle.checking.specs.definitions.Scope.{look_up, is_found, is_attribute}
 use Rattle.checking.specs.definitions.NameFaults.{attribute_faults, unset_faults}
 use Rattle.checking.specs.inner_contracts.Directory.{Named}

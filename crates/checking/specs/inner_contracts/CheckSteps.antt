@@ -3,11 +3,11 @@ use Rattle.std.specs.Prelude.{ℕ, ◌≤◌, ◌≡◌, List, true, length}
 use Rattle.text.specs.declared.reading.Syntax.{Syntax}
 use Rattle.text.specs.inner_contracts.TokenTable.{TokenColumns, columns_of}
 use Rattle.text.specs.inner_contracts.Syntaxes.{ReadsText}
-use Rattle.checking.specs.declared.faults.Found.{Found}
-use Rattle.checking.specs.declared.faults.Found.TheVariants as found
+use Rattle.std.specs.Prelude.{Some, None}
 use Rattle.checking.specs.declared.check.Checked.{Checked}
 use Rattle.checking.specs.declared.check.Checked.TheVariants.{Accepted, Refused}
 use Rattle.checking.specs.declared.names.Span.{Span}
+use Rattle.checking.specs.inner_contracts.FoundFaults.{Found, code_of}
 use Rattle.checking.specs.definitions.Verdict.{MOST_BYTES}
 use Rattle.checking.specs.definitions.EntitySpan.{entity_span}
 use Rattle.checking.specs.inner_contracts.Directory.{DIRECTORY}
@@ -15,8 +15,8 @@ use Rattle.checking.specs.inner_contracts.CheckedBench.{has_room, Checks}
 
 -- a file of n tokens, by its fault
 unfoldable pub concluded : ℕ → Found → Checked
-concluded n found.Nothing = Accepted n
-concluded n (found.Fault code at) = Refused code at
+concluded n None = Accepted n
+concluded n (Some f) = Refused (code_of f.kind) f.at
 
 -- a refusal of a text within the limit
 pub record Refuses (code p : ℕ) (r : Checked) : Type 0 where

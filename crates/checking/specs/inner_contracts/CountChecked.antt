@@ -6,9 +6,8 @@ use Rattle.text.specs.definitions.Tokens.{Token}
 use Rattle.text.specs.definitions.Syntax.{File}
 use Rattle.text.specs.definitions.Readers.{read}
 use Rattle.text.specs.definitions.Grammar.{file_reader}
-use Rattle.checking.specs.declared.faults.Found.{Found}
 use Rattle.checking.specs.definitions.Faults.{earliest}
-use Rattle.checking.specs.inner_contracts.FoundFaults.{found_as}
+use Rattle.checking.specs.inner_contracts.FoundFaults.{Found, found_as}
 use Rattle.checking.specs.definitions.CountFaults.{count_faults}
 
 -- the column of the tokens' classes, and that of their offsets

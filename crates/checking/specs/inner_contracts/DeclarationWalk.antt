@@ -7,11 +7,10 @@ use Rattle.text.specs.definitions.Tokens.{Token, NAME, WHOLE_NUMBER, REAL_NUMBER
 use Rattle.text.specs.definitions.Syntax.{Name, Member, Interface, literal_kind, Assignment, Entity, File}
 use Rattle.text.specs.definitions.Grammar.{assignment_after}
 use Rattle.checking.specs.inner_contracts.DirectoryItems.{ItemsOf}
-use Rattle.checking.specs.declared.faults.Found.{Found}
-use Rattle.checking.specs.declared.faults.Faulted.{Faulted}
+use Rattle.checking.specs.declared.faults.Faults.{Faults}
 use Rattle.checking.specs.declared.entities.Assigned.{Assigned}
 use Rattle.checking.specs.definitions.Faults.{earliest}
-use Rattle.checking.specs.inner_contracts.FoundFaults.{found_as}
+use Rattle.checking.specs.inner_contracts.FoundFaults.{Found, found_as}
 use Rattle.checking.specs.definitions.Scope.{look_up, is_found, is_attribute}
 use Rattle.checking.specs.definitions.NameFaults.{again_faults, member_faults, interface_name_faults, unset_faults, entity_name_faults}
 use Rattle.checking.specs.definitions.KindFaults.{assignment_kind_faults, entity_kind_faults}
@@ -116,13 +115,13 @@ pub record UnsetFound (text classes offsets lengths d : List ℕ) (face from to 
 -- ---- whole entities
 
 -- entity number e
-pub record EntityFound (text classes offsets lengths d : List ℕ) (e : ℕ) (r : Faulted) : Type 0 where
+pub record EntityFound (text classes offsets lengths d : List ℕ) (e : ℕ) (r : Faults) : Type 0 where
   pub names : (w : Bench text classes offsets lengths d) → Few w.file → (x : Entity) → get_elem? w.file.entities e ≡ some x
       → found_as r.names ≡ earliest (entity_name_faults w.file x)
   pub kinds : (w : Bench text classes offsets lengths d) → Few w.file → (x : Entity) → get_elem? w.file.entities e ≡ some x
       → found_as r.kinds ≡ earliest (entity_kind_faults w.file x)
 
-pub record EntitiesFound (text classes offsets lengths d : List ℕ) (r : Faulted) : Type 0 where
+pub record EntitiesFound (text classes offsets lengths d : List ℕ) (r : Faults) : Type 0 where
   pub names : (w : Bench text classes offsets lengths d) → Few w.file
       → found_as r.names
       ≡ earliest (again_faults (map (λ e. e.name) w.file.entities) ++ flat_map (entity_name_faults w.file) w.file.entities)

@@ -6,10 +6,9 @@ use Rattle.text.specs.definitions.Tokens.{Token}
 use Rattle.text.specs.definitions.Syntax.{File}
 use Rattle.text.specs.definitions.Readers.{read}
 use Rattle.text.specs.definitions.Grammar.{file_reader}
-use Rattle.checking.specs.declared.faults.Found.{Found}
-use Rattle.checking.specs.declared.faults.Faulted.{Faulted}
+use Rattle.checking.specs.declared.faults.Faults.{Faults}
 use Rattle.checking.specs.definitions.Faults.{Fault, earliest}
-use Rattle.checking.specs.inner_contracts.FoundFaults.{found_as}
+use Rattle.checking.specs.inner_contracts.FoundFaults.{Found, found_as}
 use Rattle.checking.specs.definitions.CountFaults.{MOST_RULES}
 use Rattle.checking.specs.definitions.NameFaults.{rule_name_faults, name_faults}
 use Rattle.checking.specs.definitions.KindFaults.{rule_kind_faults, kind_faults}
@@ -18,13 +17,13 @@ use Rattle.checking.specs.inner_contracts.Directory.{ColumnsOf, DIRECTORY, Direc
 use Rattle.checking.specs.inner_contracts.DirectoryReads.{Few}
 use Rattle.checking.specs.inner_contracts.CheckedBench.{ValuesOf}
 
-pub record RulesFound (text classes offsets lengths d : List ℕ) (r : Faulted) : Type 0 where
+pub record RulesFound (text classes offsets lengths d : List ℕ) (r : Faults) : Type 0 where
   pub names : (w : Bench text classes offsets lengths d) → Few w.file → length w.file.rules ≤ MOST_RULES
       → found_as r.names ≡ earliest (flat_map (rule_name_faults w.file) w.file.rules)
   pub kinds : (w : Bench text classes offsets lengths d) → Few w.file → length w.file.rules ≤ MOST_RULES
       → found_as r.kinds ≡ earliest (flat_map (rule_kind_faults w.file) w.file.rules)
 
-pub record FileFound (text classes offsets lengths d : List ℕ) (r : Faulted) : Type 0 where
+pub record FileFound (text classes offsets lengths d : List ℕ) (r : Faults) : Type 0 where
   pub names : (w : Bench text classes offsets lengths d) → Few w.file → length w.file.rules ≤ MOST_RULES
       → found_as r.names ≡ earliest (name_faults w.file)
   pub kinds : (w : Bench text classes offsets lengths d) → Few w.file → length w.file.rules ≤ MOST_RULES

@@ -4,10 +4,9 @@ use Rattle.text.specs.definitions.Tokens.{Token, RANK}
 use Rattle.text.specs.definitions.Syntax.{File}
 use Rattle.text.specs.definitions.Readers.{read}
 use Rattle.text.specs.definitions.Grammar.{file_reader}
-use Rattle.checking.specs.declared.faults.Found.{Found}
 use Rattle.checking.specs.definitions.Faults.{Fault, fault_unless, earliest}
 use Rattle.checking.specs.definitions.PriorityFaults.{MOST_PRIORITY, priority_faults}
-use Rattle.checking.specs.inner_contracts.FoundFaults.{found_as}
+use Rattle.checking.specs.inner_contracts.FoundFaults.{Found, found_as}
 use Rattle.checking.specs.inner_contracts.CountChecked.{ClassesOf, OffsetsOf}
 use Rattle.checking.specs.inner_contracts.CheckedBench.{ValuesOf}
 

@@ -29,14 +29,13 @@ use Rattle.text.specs.definitions.Readers.{Parser}
 use Rattle.text.specs.definitions.Grammar.{rule_after}
 use Rattle.text.specs.inner_contracts.Walks.{Rows, Walks}
 use Rattle.checking.specs.inner_contracts.DirectoryReads.{Few}
-use Rattle.checking.specs.declared.faults.Found.{Found}
 use Rattle.checking.specs.declared.meanings.Meaning.{Meaning}
 use Rattle.checking.specs.declared.meanings.Cell.{Cell}
 use Rattle.checking.specs.declared.expressions.Kinded.{Kinded}
 use Rattle.checking.specs.declared.conditions.Part.{Part}
 use Rattle.checking.specs.declared.conditions.Place.{Place}
 use Rattle.checking.specs.definitions.Faults.{Fault, fault_unless, earliest}
-use Rattle.checking.specs.inner_contracts.FoundFaults.{found_as}
+use Rattle.checking.specs.inner_contracts.FoundFaults.{Found, found_as}
 use Rattle.checking.specs.definitions.Scope.{is_found, entity_named, clauses, Scope, scope_of, is_known, interface_in}
 use Rattle.checking.specs.definitions.NameFaults.{
   again_faults,
@@ -148,7 +147,7 @@ pub record CellOf (text classes offsets lengths d : List ℕ) (face want i : ℕ
   pub kind : (w : Bench text classes offsets lengths d) → Few w.file
       → r.kind ≡ kind_code (member_kind (get_elem? w.file.interfaces face) (name_row text offsets lengths i))
   pub names : (w : Bench text classes offsets lengths d) → Few w.file
-      → found_as r.names ≡ earliest (member_faults (sort_wanted want) (get_elem? w.file.interfaces face) (name_row text offsets lengths i))
+      → found_as r.fault ≡ earliest (member_faults (sort_wanted want) (get_elem? w.file.interfaces face) (name_row text offsets lengths i))
 
 -- ---- expressions
 
@@ -164,8 +163,8 @@ pub record OperatedKind (j k r : ℕ) : Type 0 where
 -- what the check of an expression gives
 pub record ExpressionChecked (s : Scope) (a : Expression) (r : Kinded) : Type 0 where
   pub kind : r.kind ≡ kind_code (kind_of s a)
-  pub names : found_as r.names ≡ earliest (expression_name_faults s a)
-  pub kinds : found_as r.kinds ≡ earliest (expression_kind_faults s a)
+  pub names : found_as r.faults.names ≡ earliest (expression_name_faults s a)
+  pub kinds : found_as r.faults.kinds ≡ earliest (expression_kind_faults s a)
 
 pub record LiteralChecked (next kind : ℕ) (r : Kinded) : Type 0 where
   pub next_is : r.next ≡ next
@@ -199,8 +198,8 @@ module _ (text classes offsets lengths d : List ℕ) (start : ℕ) where
 
 -- the earliest of some faults of names, and of some of kinds
 pub record PartOf (names kinds : List Fault) (r : Part) : Type 0 where
-  pub names_found : found_as r.names ≡ earliest names
-  pub kinds_found : found_as r.kinds ≡ earliest kinds
+  pub names_found : found_as r.faults.names ≡ earliest names
+  pub kinds_found : found_as r.faults.kinds ≡ earliest kinds
 
 pub record NothingFound (next : ℕ) (r : Part) : Type 0 where
   pub next_is : r.next ≡ next
@@ -232,7 +231,7 @@ module _ (text classes offsets lengths d : List ℕ) (start : ℕ) where
 
   pub record PlaceChecked (c : RuleWorld text classes offsets lengths d start) (t : Target) (r : Place) : Type 0 where
     pub face_is : FaceOf c r.face t
-    pub names_found : found_as r.names ≡ earliest (target_name_faults (world_scope c) t)
+    pub names_found : found_as r.fault ≡ earliest (target_name_faults (world_scope c) t)
 
   abbrev pub PlaceWalk : Parser Target → ℕ → Place → Type 0
   PlaceWalk r at v = Walks world_rows PlaceChecked r at v v.next

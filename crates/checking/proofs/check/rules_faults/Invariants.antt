@@ -5,7 +5,7 @@ use Rattle.checking.proofs.steps.RulesLaws.{Ruled}
 use Rattle.checking.proofs.check.rules_faults.Given as goal
 
 abbrev pub invariant-loop-k : goal.invariant-loop-k
-invariant-loop-k l = (l.k ≤ 64) × of_file Ruled l.columns l.names l.kinds l.k
+invariant-loop-k l = (l.k ≤ 64) × of_file Ruled l.columns l.found.names l.found.kinds l.k
 
 abbrev pub decreases-loop-k : goal.decreases-loop-k
 decreases-loop-k l = 64 - l.k

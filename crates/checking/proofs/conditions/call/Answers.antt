@@ -10,5 +10,5 @@ returns c =
     walk_next (c.after-2.ensures.next_is ∙ c.joined.ensures.next_is ∙ c.after.ensures.next_is)
     (call_walk c.skip-name.ensures c.skip-open.ensures c.skip.ensures c.expression-e.ensures c.skip-close.ensures c.skip-2.ensures
     c.target_place-target.ensures c.filter-f.ensures
-    λ w a x y s t u e p f. call_checked _ _ _ c.cell_of-found.ensures c.offset.ensures c.matched-first.ensures c.after.ensures
+    λ w a x y s t u e p f. call_checked _ _ _ c.cell_of-action.ensures c.offset.ensures c.matched-parameter.ensures c.after.ensures
     c.joined.ensures c.after-2.ensures w t.inside u.inside a x y e p f)

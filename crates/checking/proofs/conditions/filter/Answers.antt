@@ -14,4 +14,4 @@ pub returns : goal.returns
 returns c =
     walk_next (c.after.ensures.next_is ∙ c.matched.ensures.next_is)
     (filter_some _ (sym c.class_at.ensures ∙ c.if-class_at-ne-WITH.false) c.skip-name.ensures c.skip-equals.ensures c.skip.ensures c.expression-e.ensures
-    λ w a s t u x. filter_checked _ _ c.cell_of-found.ensures c.offset.ensures c.matched.ensures c.after.ensures w t.inside u.inside a x)
+    λ w a s t u x. filter_checked _ _ c.cell_of-attribute.ensures c.offset.ensures c.matched.ensures c.after.ensures w t.inside u.inside a x)

@@ -3,4 +3,4 @@ use Rattle.checking.proofs.steps.CheckedParts.{joined}
 use Rattle.checking.proofs.conditions.joined.Goals as goal
 
 pub returns : goal.returns
-returns c = joined c.earlier.ensures c.earlier-2.ensures
+returns c = joined c.join.ensures.names c.join.ensures.kinds

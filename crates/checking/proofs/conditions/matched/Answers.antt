@@ -3,4 +3,4 @@ use Rattle.checking.proofs.steps.CheckedParts.{matched}
 use Rattle.checking.proofs.conditions.matched.Goals as goal
 
 pub returns : goal.returns
-returns c = matched c.kinds_fit.ensures c.unless-here.ensures c.earlier.ensures
+returns c = matched c.kinds_fit.ensures c.unless-unfit.ensures c.earlier.ensures

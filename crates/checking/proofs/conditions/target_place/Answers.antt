@@ -12,4 +12,4 @@ returns-then-class_at-ne-COLON c =
 pub returns : goal.returns
 returns c =
     target_declares c.skip-colon.ensures (sym c.class_at.ensures ∙ c.if-class_at-ne-COLON.false) c.skip-name.ensures c.skip.ensures
-    λ w s t u. declaring_checked _ c.meaning_of-owner.ensures _ c.declared-names.ensures w s.inside u.inside
+    λ w s t u. declaring_checked _ c.meaning_of-owner.ensures _ c.declared.ensures w s.inside u.inside

@@ -12,7 +12,7 @@ pub returns-then-count-k : goal.returns-then-count-k
 returns-then-count-k c = repeating_all c.loop-k.invariant (λ few. c.if-count-k.true)
 
 pub loop-k-preserved : goal.loop-k-preserved
-loop-k-preserved c = repeating_on c.loop-k.invariant c.loop-k-test.true c.if-count-k.false c.row-i.ensures.0 c.first_named-first.ensures c.offset-at.ensures c.unless-one.ensures c.earlier-found.ensures
+loop-k-preserved c = repeating_on c.loop-k.invariant c.loop-k-test.true c.if-count-k.false c.row-i.ensures.0 c.first_named-first.ensures c.offset.ensures c.unless-again.ensures c.earlier-found.ensures
 
 pub returns : goal.returns
 returns c = repeating_all c.loop-k.invariant (λ few. omega arith)
