@@ -16,7 +16,7 @@ pub mod WalkedFaults
 pub mod SequenceLaws
 pub mod EntityTokens
 pub mod AssignmentLaws
-pub mod KindCodes
+pub mod KindLaws
 pub mod CalledLaws
 pub mod CheckLaws
 pub mod FaultCodes

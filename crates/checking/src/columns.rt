@@ -4,9 +4,9 @@ ghost use Rattle.std.proofs.Math.ListN.{get_elem?};
 ghost use Rattle.values.specs.definitions.Bytes.{same_bytes};
 ghost use Rattle.checking.specs.definitions.CountFaults;
 ghost use Rattle.checking.specs.inner_contracts.Directory;
-ghost use Rattle.checking.specs.inner_contracts.Directory.{sort_class, kind_class, interface_number};
+ghost use Rattle.checking.specs.inner_contracts.Directory.{sort_class, interface_number};
 ghost use Rattle.checking.specs.inner_contracts.Directory.{entity_number, member_number};
-ghost use Rattle.checking.specs.inner_contracts.DirectoryReads.{FirstNamed, NumberOf, MemberRow, MemberClass, FewMembers};
+ghost use Rattle.checking.specs.inner_contracts.DirectoryReads.{FirstNamed, NumberOf, MemberRow, MemberPart, FewMembers};
 ghost use Rattle.checking.specs.inner_contracts.Called.{FirstCalled};
 ghost use Rattle.checking.specs.inner_contracts.OfColumns.{name_of, of_names};
 
@@ -16,7 +16,7 @@ use crate::layout::{
 };
 use crate::table;
 use text::walks;
-use values::same_bytes;
+use values::{Kind, same_bytes};
 
 /// A text, a row of the token table's columns for each of its tokens, and the directory of its file.
 #[derive(Clone, Copy)]
@@ -59,14 +59,14 @@ impl<'a> Columns<'a> {
 
     /// The class that says the sort of member number m of interface number `face`.
     pub fn member_sort(&self, face: usize, m: usize) -> u8
-        ensures { MemberClass self.now.classes.now self.now.d.now face m (λ x. sort_class x.sort) result }
+        ensures { MemberPart self.now.classes.now self.now.d.now face m (λ x. sort_class x.sort) result }
     {
         table::member_sort(self.classes, self.d, face, m)
     }
 
-    /// The class that says the kind of member number m of interface number `face`.
-    pub fn member_kind(&self, face: usize, m: usize) -> u8
-        ensures { MemberClass self.now.classes.now self.now.d.now face m (λ x. kind_class x.kind) result }
+    /// The kind of member number m of interface number `face`.
+    pub fn member_kind(&self, face: usize, m: usize) -> Kind
+        ensures { MemberPart self.now.classes.now self.now.d.now face m (λ x. x.kind) result }
     {
         table::member_kind(self.classes, self.d, face, m)
     }

@@ -8,12 +8,14 @@ ghost use Rattle.checking.specs.inner_contracts.RuleParts.{CallWalk, CallsWalk};
 ghost use Rattle.checking.specs.inner_contracts.OfColumns.{of_file};
 
 use crate::columns::Columns;
-use crate::expressions::{Kinded, expression, kinds_fit};
+use crate::expressions::{Kinded, expression};
 use crate::faults::{Fault, FaultKind, Faults, earlier, unless};
+use crate::kinds::kinds_fit;
 use crate::meanings::{cell_of, declared, meaning_of};
 use text::classes::{ACTION, AND, ATTRIBUTE, CHANGED, COLON, COMMA, EVENT, OR, ROUND_OPEN, WITH};
 use text::grammar::OPENERS;
 use text::walks::skip;
+use values::Kind;
 
 /// A part of a rule up to token number `next`, and its earliest faults.
 #[derive(Clone, Copy)]
@@ -40,7 +42,7 @@ fn nothing(next: usize) -> Part
 }
 
 // An expression beside a cell of some kind, after a `=` or `(` at an offset.
-fn matched(kind: u8, offset: u32, e: Kinded) -> Part
+fn matched(kind: Option<Kind>, offset: u32, e: Kinded) -> Part
     ensures { Matched kind offset e result }
 {
     let unfit = unless(kinds_fit(kind, e.kind), FaultKind::UnfitKinds, offset);
@@ -121,7 +123,7 @@ fn filter(columns: &Columns<'_>, start: usize, target: Place, depth: u32) -> Par
 }
 
 // After `value`: `changed`, or `= expression` beside an event of some kind.
-fn test(columns: &Columns<'_>, start: usize, kind: u8, at: usize, depth: u32) -> Part
+fn test(columns: &Columns<'_>, start: usize, kind: Option<Kind>, at: usize, depth: u32) -> Part
     ensures { of_file TestWalk columns.now start
         kind (test_reader depth) at result }
 {

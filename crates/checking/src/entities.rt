@@ -1,6 +1,6 @@
 // The entities of a file: each one's interface by its number, and the faults of their names and kinds.
 ghost use Rattle.std.specs.Prelude.{◌≡◌};
-ghost use Rattle.checking.specs.inner_contracts.DeclarationWalk.{EntitiesLinked, literal_class, AssignmentEnd, Sets, AttributeMember};
+ghost use Rattle.checking.specs.inner_contracts.DeclarationWalk.{EntitiesLinked, AssignmentEnd, Sets, AttributeMember};
 ghost use Rattle.checking.specs.inner_contracts.DeclarationWalk.{AttributeFound, KindFound, AssignmentsFound, UnsetFound, EntityFound};
 ghost use Rattle.checking.specs.inner_contracts.DeclarationWalk.{EntitiesFound};
 ghost use Rattle.checking.specs.inner_contracts.OfColumns.{of_file, of_tokens};
@@ -8,6 +8,7 @@ ghost use Rattle.checking.specs.inner_contracts.OfColumns.{of_file, of_tokens};
 use crate::columns::Columns;
 use crate::faults::{Fault, FaultKind, Faults, earlier, unless};
 use crate::interfaces::repeated;
+use crate::kinds::{kinds_fit, literal_kind};
 use crate::layout::{
     DIRECTORY, ENTITY_COUNT_ROW, ENTITY_INTERFACE_ROWS, ENTITY_ROWS, ENTITY_ROWS_32,
     INTERFACE_COUNT_ROW, INTERFACE_ROWS_32, MEMBER_COUNT_ROWS, MOST_ENTITIES, MOST_ENTITIES_8,
@@ -55,20 +56,6 @@ struct Assigned {
     members: Option<Fault>,
     kinds: Option<Fault>,
     end: usize,
-}
-
-// The class of a literal's kind, by the class of its last token.
-#[tactic(auto, using(crate::proofs::laws::AssignmentLaws::literal_classes))]
-fn literal_kind(class: u8) -> u8
-    ensures { result ≡ literal_class class }
-{
-    if class == classes::WHOLE_NUMBER {
-        return classes::WHOLE;
-    }
-    if class == classes::REAL_NUMBER {
-        return classes::REAL;
-    }
-    classes::BOOL
 }
 
 // The last token of the assignment that begins at token number q.
@@ -145,10 +132,10 @@ fn kind_fault(
     if NO_MEMBER <= m {
         return None;
     }
-    let kind = columns.member_kind(face, m);
-    let given = literal_kind(columns.class_at(last));
+    let kind = Some(columns.member_kind(face, m));
+    let given = Some(literal_kind(columns.class_at(last)));
     let at = columns.offset(equals);
-    unless(kind == given, FaultKind::UnfitKinds, at)
+    unless(kinds_fit(kind, given), FaultKind::UnfitKinds, at)
 }
 
 // The assignments from token number `from` on, of an entity with interface number `face`.

@@ -3,70 +3,29 @@ ghost use Rattle.std.specs.Prelude.{◌≡◌};
 ghost use Rattle.text.specs.definitions.Readers.{halt};
 ghost use Rattle.text.specs.definitions.Grammar.{member_reader, simple_or, factor_reader, term_reader, expression_reader, is_factor_operator};
 ghost use Rattle.text.specs.definitions.Grammar.{is_term_operator};
-ghost use Rattle.checking.specs.inner_contracts.RuleParts.{KindsFit, OperandsFit, OperatedKind, LiteralChecked, ClosedChecked, RealChecked};
-ghost use Rattle.checking.specs.inner_contracts.RuleParts.{NegatedChecked};
-ghost use Rattle.checking.specs.inner_contracts.RuleParts.{AppliedChecked, ExpressionWalk};
+ghost use Rattle.checking.specs.inner_contracts.RuleParts.{LiteralChecked, ClosedChecked, RealChecked, NegatedChecked, AppliedChecked};
+ghost use Rattle.checking.specs.inner_contracts.RuleParts.{ExpressionWalk};
 ghost use Rattle.checking.specs.inner_contracts.OfColumns.{of_file};
 
 use crate::columns::Columns;
 use crate::faults::{FaultKind, Faults, earlier, unless};
+use crate::kinds::{fits_operator, kinds_fit, number_kind, operands_fit, operated_kind, real_kind};
 use crate::meanings::{cell_of, meaning_of};
 use text::classes::{
-    BOOL, DIVIDE, FALSE, MINUS, NAME, PLUS, REAL, REAL_NUMBER, ROUND_OPEN, TIMES, TRUE, WHOLE,
-    WHOLE_NUMBER,
+    DIVIDE, FALSE, MINUS, NAME, PLUS, REAL, REAL_NUMBER, ROUND_OPEN, TIMES, TRUE, WHOLE_NUMBER,
 };
 use text::walks::skip;
+use values::Kind;
 
-// An expression up to token number `next`: the class of its kind's word, 0 if it has none, and its earliest faults.
+/// An expression up to token number `next`, its kind, if it has one, and its earliest faults.
 #[derive(Clone, Copy)]
 pub struct Kinded {
     pub next: usize,
-    pub kind: u8,
+    pub kind: Option<Kind>,
     pub faults: Faults,
 }
 
-// One kind, or none, which fits anywhere.
-#[tactic(auto, using(crate::proofs::laws::KindCodes::none_fits, crate::proofs::laws::KindCodes::fits_none, crate::proofs::laws::KindCodes::fits_alike))]
-pub fn kinds_fit(j: u8, k: u8) -> bool
-    ensures { KindsFit j k result }
-{
-    if j == 0 {
-        return true;
-    }
-    if k == 0 {
-        return true;
-    }
-    j == k
-}
-
-// A bool never fits an operator.
-#[tactic(auto, using(crate::proofs::laws::KindCodes::left_bool, crate::proofs::laws::KindCodes::right_bool, crate::proofs::laws::KindCodes::no_bool))]
-fn operands_fit(j: u8, k: u8) -> bool
-    ensures { OperandsFit j k result }
-{
-    if j == BOOL {
-        return false;
-    }
-    if k == BOOL {
-        return false;
-    }
-    kinds_fit(j, k)
-}
-
-#[tactic(auto, using(crate::proofs::laws::KindCodes::bool_operated, crate::proofs::laws::KindCodes::other_operated, crate::proofs::laws::KindCodes::alike_operated))]
-fn operated_kind(j: u8, k: u8) -> u8
-    ensures { OperatedKind j k result }
-{
-    if j == BOOL {
-        return 0;
-    }
-    if j != k {
-        return 0;
-    }
-    j
-}
-
-fn literal(next: usize, kind: u8) -> Kinded
+fn literal(next: usize, kind: Option<Kind>) -> Kinded
     ensures { LiteralChecked next kind result }
 {
     Kinded {
@@ -83,26 +42,22 @@ fn closed(x: Kinded, next: usize) -> Kinded
     Kinded { next, ..x }
 }
 
-// Under `real`, which takes a whole.
+// Under `real`.
 fn made_real(offset: u32, x: Kinded, next: usize) -> Kinded
     ensures { RealChecked offset x next result }
 {
-    let unfit = unless(kinds_fit(x.kind, WHOLE), FaultKind::UnfitKinds, offset);
-    let faults = Faults {
-        names: x.faults.names,
-        kinds: earlier(unfit, x.faults.kinds),
-    };
-    if x.kind == WHOLE {
-        return Kinded {
-            next,
-            kind: REAL,
-            faults,
-        };
-    }
+    let unfit = unless(
+        kinds_fit(x.kind, Some(Kind::Wholes)),
+        FaultKind::UnfitKinds,
+        offset,
+    );
     Kinded {
         next,
-        kind: 0,
-        faults,
+        kind: real_kind(x.kind),
+        faults: Faults {
+            names: x.faults.names,
+            kinds: earlier(unfit, x.faults.kinds),
+        },
     }
 }
 
@@ -110,13 +65,10 @@ fn made_real(offset: u32, x: Kinded, next: usize) -> Kinded
 fn negated(offset: u32, x: Kinded) -> Kinded
     ensures { NegatedChecked offset x result }
 {
-    if x.kind != BOOL {
-        return x;
-    }
-    let unfit = unless(false, FaultKind::UnfitKinds, offset);
+    let unfit = unless(fits_operator(x.kind), FaultKind::UnfitKinds, offset);
     Kinded {
         next: x.next,
-        kind: 0,
+        kind: number_kind(x.kind),
         faults: Faults {
             names: x.faults.names,
             kinds: earlier(unfit, x.faults.kinds),
@@ -168,7 +120,7 @@ fn leaf(columns: &Columns<'_>, start: usize, at: usize) -> Kinded
 {
     let size = columns.classes.len();
     if size <= at {
-        return literal(at, 0);
+        return literal(at, None);
     }
     let class = columns.class_at(at);
     if class == NAME {
@@ -176,18 +128,18 @@ fn leaf(columns: &Columns<'_>, start: usize, at: usize) -> Kinded
     }
     let next = skip(at, size);
     if class == TRUE {
-        return literal(next, BOOL);
+        return literal(next, Some(Kind::Bools));
     }
     if class == FALSE {
-        return literal(next, BOOL);
+        return literal(next, Some(Kind::Bools));
     }
     if class == WHOLE_NUMBER {
-        return literal(next, WHOLE);
+        return literal(next, Some(Kind::Wholes));
     }
     if class == REAL_NUMBER {
-        return literal(next, REAL);
+        return literal(next, Some(Kind::Reals));
     }
-    literal(at, 0)
+    literal(at, None)
 }
 
 #[tactic(auto, unfolding(text::specs::definitions::Grammar::is_factor_operator))]

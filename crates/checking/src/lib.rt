@@ -10,6 +10,7 @@ pub mod entities; // the entities of a file
 pub mod expressions; // names and kinds of expressions
 pub mod faults; // what a walk of the check finds
 pub mod interfaces; // the interfaces of a file
+pub mod kinds; // kinds, and what fits
 pub mod layout; // the counts, and the rows of a directory
 pub mod meanings; // what the names in a rule mean
 pub mod names; // entities' names by their numbers

@@ -12,6 +12,7 @@ use crate::layout::{
 };
 use text::classes::{ACTION, COLON, END, EVENT, NAME};
 use text::walks::skip;
+use values::Kind;
 
 // Is it an entity or a variable of the rule, and the number of its interface; NO_INTERFACE if there is none.
 #[derive(Clone, Copy)]
@@ -20,10 +21,10 @@ pub struct Meaning {
     pub face: usize,
 }
 
-// A member by its name: the class of its kind's word, 0 if it is not there, and what is at fault in the name.
+/// A member by its name: its kind, if it is there, and what is at fault in the name.
 #[derive(Clone, Copy)]
 pub struct Cell {
-    pub kind: u8,
+    pub kind: Option<Kind>,
     pub fault: Option<Fault>,
 }
 
@@ -141,7 +142,7 @@ pub fn cell_of(columns: &Columns<'_>, face: usize, want: u8, i: usize) -> Cell
     let m = columns.member_number(face, i);
     if NO_MEMBER <= m {
         return Cell {
-            kind: 0,
+            kind: None,
             fault: unless(
                 columns.row(INTERFACE_COUNT_ROW) <= face,
                 FaultKind::Unknown,
@@ -151,7 +152,7 @@ pub fn cell_of(columns: &Columns<'_>, face: usize, want: u8, i: usize) -> Cell
     }
     let fits = sort_fits(want, columns.member_sort(face, m));
     Cell {
-        kind: columns.member_kind(face, m),
+        kind: Some(columns.member_kind(face, m)),
         fault: unless(fits, FaultKind::Unknown, at),
     }
 }

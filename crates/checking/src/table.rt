@@ -1,11 +1,13 @@
 // What a column of a token table and the directory of a file say.
 ghost use Rattle.std.specs.Prelude.{◌≡◌, ◌<◌, get_or};
-ghost use Rattle.checking.specs.inner_contracts.Directory.{sort_class, kind_class};
+ghost use Rattle.checking.specs.inner_contracts.Directory.{sort_class};
 ghost use Rattle.checking.specs.inner_contracts.ClassSearch.{FirstOf};
-ghost use Rattle.checking.specs.inner_contracts.DirectoryReads.{MemberRow, MemberClass};
+ghost use Rattle.checking.specs.inner_contracts.DirectoryReads.{MemberRow, MemberPart};
 
+use crate::kinds::kind_of;
 use crate::layout::{INTERFACE_COUNT_ROW, MEMBER_COUNT_ROWS, MEMBER_ROWS, MOST_MEMBERS};
 use text::walks::class_at;
+use values::Kind;
 
 // A row of the directory, or of the offsets.
 pub fn row(d: &[u16], i: usize) -> usize
@@ -47,15 +49,14 @@ pub fn member_at(d: &[u16], face: usize, m: usize) -> usize
 // The class that says the sort of member number m of interface number `face`.
 #[tactic(auto, using(crate::proofs::laws::DirectoryLaws::sort_stands))]
 pub fn member_sort(classes: &[u8], d: &[u16], face: usize, m: usize) -> u8
-    ensures { MemberClass classes.now d.now face m (λ x. sort_class x.sort) result }
+    ensures { MemberPart classes.now d.now face m (λ x. sort_class x.sort) result }
 {
     class_at(classes, member_at(d, face, m))
 }
 
-// The class that says the kind of member number m of interface number `face`.
-#[tactic(auto, using(crate::proofs::laws::DirectoryLaws::kind_stands))]
-pub fn member_kind(classes: &[u8], d: &[u16], face: usize, m: usize) -> u8
-    ensures { MemberClass classes.now d.now face m (λ x. kind_class x.kind) result }
+// The kind of member number m of interface number `face`.
+pub fn member_kind(classes: &[u8], d: &[u16], face: usize, m: usize) -> Kind
+    ensures { MemberPart classes.now d.now face m (λ x. x.kind) result }
 {
-    class_at(classes, member_at(d, face, m) + 3)
+    kind_of(class_at(classes, member_at(d, face, m) + 3))
 }

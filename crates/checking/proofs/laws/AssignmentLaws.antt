@@ -20,10 +20,10 @@ use Rattle.checking.specs.definitions.Scope.{Indexed as Numbered, here_or_later,
 use Rattle.checking.specs.definitions.NameFaults.{is_of_sort, member_faults}
 use Rattle.checking.specs.definitions.KindFaults.{kind_if_found, member_kind, assignment_kind_faults}
 use Rattle.checking.specs.inner_contracts.Directory.{name_in, ColumnsOf, Named, Bench, sort_class, kind_class, number_or, member_number}
-use Rattle.checking.specs.inner_contracts.DirectoryReads.{Few, MemberClass}
+use Rattle.checking.specs.inner_contracts.DirectoryReads.{Few, MemberPart}
+use Rattle.checking.specs.inner_contracts.Kinds.{literal_class}
 use Rattle.checking.specs.inner_contracts.Sequences.{Sequence}
 use Rattle.checking.specs.inner_contracts.DeclarationWalk.{
-  literal_class,
   literal_end,
   AssignmentEnd,
   Sets,
@@ -35,24 +35,8 @@ use Rattle.checking.proofs.laws.FaultLaws.{earliest_passed}
 use Rattle.checking.proofs.laws.LookUpLaws.{found_at}
 use Rattle.checking.proofs.laws.DirectoryLaws.{number_below, number_beyond, number_inside, column_bytes, column_offset}
 use Rattle.checking.proofs.laws.WalkedFaults.{unless_same}
-use Rattle.checking.proofs.laws.KindCodes.{same_class}
 use Rattle.checking.proofs.laws.SequenceLaws.{sequence_first, First, sequence_ends}
 use Rattle.checking.proofs.laws.EntityTokens.{AssignmentAt, assignment_stands}
-
--- ---- the class of a literal's kind
-
-module _ (c : ℕ) where
-  pub whole_class : c ≡ WHOLE_NUMBER → WHOLE ≡ literal_class c
-  unfolding literal_class
-  whole_class h = rw h
-
-  pub real_class : c ≡ REAL_NUMBER → REAL ≡ literal_class c
-  unfolding literal_class
-  real_class h = rw h
-
-  pub truth_class : (c ≡ WHOLE_NUMBER → ⊥) → (c ≡ REAL_NUMBER → ⊥) → BOOL ≡ literal_class c
-  unfolding literal_class
-  truth_class w h = rw (ne_eqb c WHOLE_NUMBER w, ne_eqb c REAL_NUMBER h, literal_class)
 
 -- ---- where an assignment ends
 
@@ -169,7 +153,7 @@ module _ {classes d : List ℕ} {face m : ℕ} where
   pub no_attribute : 12 ≤ m → AttributeMember classes d face m false
   no_attribute h = record { beyond = λ l. refl; is = λ l. absurd (omega arith) }
 
-  pub attribute_told : {c : ℕ} → m < 12 → MemberClass classes d face m (λ x. sort_class x.sort) c → AttributeMember classes d face m (eqb c ATTRIBUTE)
+  pub attribute_told : {c : ℕ} → m < 12 → MemberPart classes d face m (λ x. sort_class x.sort) c → AttributeMember classes d face m (eqb c ATTRIBUTE)
   attribute_told {c} h k = record {
     beyond = λ l. absurd (omega arith);
     is = λ l text offsets lengths w i x s t. ap (λ n. eqb n ATTRIBUTE) (k.is text offsets lengths w i x s t) ∙ attribute_class x.sort;
@@ -233,19 +217,19 @@ module _ {text classes offsets lengths d : List ℕ} (w : Bench text classes off
       go none at e = refl
       go (some r) at e = let l = number_below i.members r.number (at r refl) in let c = few.members face i s in absurd (omega arith)
 
-  kind_tests : {j given : ℕ} → m < 12 → MemberClass classes d face m (λ x. kind_class x.kind) j → given ≡ kind_class k → (o : Option Interface)
-      → get_elem? w.file.interfaces face ≡ o → m ≡ member_number o n.bytes → eqb j given ≡ kinds_fit (member_kind o n) (some k)
+  kind_tests : {j given : Kind} → m < 12 → MemberPart classes d face m (λ x. x.kind) j → given ≡ k → (o : Option Interface)
+      → get_elem? w.file.interfaces face ≡ o → m ≡ member_number o n.bytes → kinds_fit (some j) (some given) ≡ kinds_fit (member_kind o n) (some k)
   unfolding member_number member_kind member_named kinds_fit kind_if_found number_or
   kind_tests h c g none s e = absurd (omega arith)
   kind_tests {j} {given} h c g (some i) s e =
       go (look_up (λ x. x.name) n.bytes i.members) (λ r t. found_at (λ x. x.name) n.bytes i.members t) e
     where
       go : (o : Option (Numbered Member)) → ((r : Numbered Member) → o ≡ some r → get_elem? i.members r.number ≡ some r.item) → m ≡ number_or 12 o
-          → eqb j given ≡ kinds_fit (kind_if_found o) (some k)
+          → kinds_fit (some j) (some given) ≡ kinds_fit (kind_if_found o) (some k)
       go none at e = absurd (omega arith)
       go (some r) at e =
           let t : get_elem? i.members m ≡ some r.item = rw e (at r refl) in
-          ap₂ eqb (c.is text offsets lengths w i r.item s t) g ∙ same_class r.item.kind k
+          ap₂ (λ x y. kinds_fit (some x) (some y)) (c.is text offsets lengths w i r.item s t) g
 
 module _ {classes offsets d : List ℕ} {face m equals last : ℕ} where
   pub kind_unasked : 12 ≤ m → {r : Found} → found_as r ≡ none → KindFound classes offsets d face m equals last r
@@ -256,8 +240,8 @@ module _ {classes offsets d : List ℕ} {face m equals last : ℕ} where
         ∙ sym (earliest_passed 18 a.equals_at (kind_passes w few face a.name (literal_kind a.literal) h (get_elem? w.file.interfaces face) refl k));
   }
 
-  pub kind_asked : m < 12 → {j class given offset : ℕ} → MemberClass classes d face m (λ x. kind_class x.kind) j → class ≡ get_or classes last 0
-      → given ≡ literal_class class → offset ≡ get_or offsets equals 0 → {r : Found} → found_as r ≡ earliest (fault_unless (eqb j given) 18 offset)
+  pub kind_asked : m < 12 → {j given : Kind} {class offset : ℕ} → MemberPart classes d face m (λ x. x.kind) j → class ≡ get_or classes last 0
+      → given ≡ literal_class class → offset ≡ get_or offsets equals 0 → {r : Found} → found_as r ≡ earliest (fault_unless (kinds_fit (some j) (some given)) 18 offset)
       → KindFound classes offsets d face m equals last r
   unfolding assignment_kind_faults
   kind_asked h j l g o e = record {
@@ -265,9 +249,6 @@ module _ {classes offsets d : List ℕ} {face m equals last : ℕ} where
         e ∙ unless_same 18
         (kind_tests w few face a.name (literal_kind a.literal) h j (g ∙ ap literal_class l ∙ c) (get_elem? w.file.interfaces face) refl k) (o ∙ at);
   }
-
--- the class of a literal's kind
-pub ruleset literal_classes = (whole_class, real_class, truth_class)
 
 -- where an assignment ends
 pub ruleset assignment_ends = (end_short, end_signed, end_plain)

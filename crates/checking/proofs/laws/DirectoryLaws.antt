@@ -10,6 +10,7 @@ use lib.ListN.{length, get_or, get_elem?, take, drop, length-drop, drop_of_lengt
 use lib.Seq.{take_all, take-nil}
 use Rattle.values.specs.definitions.Bytes.{same_bytes}
 use Rattle.text.specs.definitions.Tokens.{Token}
+use Rattle.values.specs.declared.Kind.{Kind}
 use Rattle.text.specs.definitions.Syntax.{Name, Member, Interface, Entity}
 use Rattle.text.specs.definitions.Grammar.{name_of}
 use Rattle.text.proofs.laws.ListLaws.{none_some}
@@ -27,7 +28,7 @@ use Rattle.checking.specs.inner_contracts.Directory.{
   member_number,
   member_row,
 }
-use Rattle.checking.specs.inner_contracts.DirectoryReads.{first_number, is_named, FirstNamed, NumberOf, FewMembers, MemberRow, MemberClass}
+use Rattle.checking.specs.inner_contracts.DirectoryReads.{first_number, is_named, FirstNamed, NumberOf, FewMembers, MemberRow, MemberPart}
 
 -- ---- items by their numbers
 
@@ -258,16 +259,17 @@ module _ {classes d : List ℕ} {k m at : ℕ} (h : MemberRow d k m at) where
       let q = w.directory.member_count k i s in
       h.is (omega arith) (omega arith)
 
-  pub sort_stands : {r : ℕ} → r ≡ get_or classes at 0 → MemberClass classes d k m (λ x. sort_class x.sort) r
+  pub sort_stands : {r : ℕ} → r ≡ get_or classes at 0 → MemberPart classes d k m (λ x. sort_class x.sort) r
   sort_stands e = record {
     is = λ text offsets lengths w i x s t.
         e ∙ ap (λ (p : ℕ). get_or classes p 0) (row_stands w i x s t) ∙ class_stands w (get_or d (member_row k m) 0) (w.directory.member_sort k m i x s t);
   }
 
-  pub kind_stands : {r : ℕ} → r ≡ get_or classes (at + 3) 0 → MemberClass classes d k m (λ x. kind_class x.kind) r
-  kind_stands e = record {
+  pub kind_stands : {c : ℕ} {r : Kind} → c ≡ get_or classes (at + 3) 0 → ((j : Kind) → c ≡ kind_class j → r ≡ j) → MemberPart classes d k m (λ x. x.kind) r
+  kind_stands e f = record {
     is = λ text offsets lengths w i x s t.
-        e ∙ ap (λ (p : ℕ). get_or classes (p + 3) 0) (row_stands w i x s t) ∙ class_stands w (get_or d (member_row k m) 0 + 3) (w.directory.member_kind k m i x s t);
+        f x.kind
+        (e ∙ ap (λ (p : ℕ). get_or classes (p + 3) 0) (row_stands w i x s t) ∙ class_stands w (get_or d (member_row k m) 0 + 3) (w.directory.member_kind k m i x s t));
   }
 
 -- what the loop over the items needs

@@ -14,9 +14,10 @@ use Rattle.text.specs.definitions.Readers.{read, Parser, give, expect, pick, nex
 use Rattle.text.specs.definitions.Grammar.{name_of, number_reader, literal_reader, assignment_after, entity_after}
 use Rattle.text.proofs.laws.TreeLaws.{read_tree}
 use Rattle.text.proofs.laws.SpotLaws.{read_count, Starts, expect_starts, and_then_parts}
-use Rattle.checking.specs.inner_contracts.Directory.{ColumnsOf, Named, Begins, kind_class}
+use Rattle.checking.specs.inner_contracts.Directory.{ColumnsOf, Named, Begins}
+use Rattle.checking.specs.inner_contracts.Kinds.{literal_class}
 use Rattle.checking.specs.inner_contracts.Sequences.{Sequence}
-use Rattle.checking.specs.inner_contracts.DeclarationWalk.{literal_class, literal_end, BodyOf}
+use Rattle.checking.specs.inner_contracts.DeclarationWalk.{literal_end, BodyOf}
 use Rattle.checking.proofs.laws.SequenceLaws.{many_sequence}
 
 -- what is read by a choice is read by one of the two
@@ -35,13 +36,13 @@ by_next {A} {X} c r s us {a} {n} e f g = go (next_is c us) e
 record Plain (classes : List ℕ) (p : ℕ) (l : Literal) (n : ℕ) : Type 0 where
   count : n ≡ 1
   unsigned : eqb (get_or classes p 0) MINUS ≡ false
-  kind : literal_class (get_or classes p 0) ≡ kind_class (literal_kind l)
+  kind : literal_class (get_or classes p 0) ≡ literal_kind l
 
 -- a literal of n tokens, and the class of the last
 pub record LiteralOf (classes : List ℕ) (p : ℕ) (l : Literal) (n : ℕ) : Type 0 where
   pub next : literal_end classes p + 1 ≡ p + n
   pub onward : p ≤ literal_end classes p
-  pub kind : literal_class (get_or classes (literal_end classes p) 0) ≡ kind_class (literal_kind l)
+  pub kind : literal_class (get_or classes (literal_end classes p) 0) ≡ literal_kind l
 
 plain_literal : {classes : List ℕ} {p : ℕ} {l : Literal} {n : ℕ} → Plain classes p l n → LiteralOf classes p l n
 unfolding literal_end
@@ -60,7 +61,7 @@ signed_literal {classes} {p} c h i =
 
 module _ {text classes offsets lengths : List ℕ} {ts : List Token} (columns : ColumnsOf text classes offsets lengths ts) where
   one_token : (c p : ℕ) (make : Token → Literal) {l : Literal} {n : ℕ} → eqb c MINUS ≡ false
-      → ((t : Token) → literal_class c ≡ kind_class (literal_kind (make t))) → expect c (λ t. give (make t)) (drop p ts) ≡ read l n → Plain classes p l n
+      → ((t : Token) → literal_class c ≡ literal_kind (make t)) → expect c (λ t. give (make t)) (drop p ts) ≡ read l n → Plain classes p l n
   unfolding give
   one_token c p make {l} {n} u k e = go (expect_starts ts p c (λ t. give (make t)) l n e)
     where
@@ -68,10 +69,10 @@ module _ {text classes offsets lengths : List ℕ} {ts : List Token} (columns : 
       go (s, i) =
           let f : get_or classes p 0 ≡ c = sym (columns.class p s.token s.stands) ∙ s.class in
           let z : 0 ≡ s.used = read_count s.reads in
-          record { count = omega arith; unsigned = rw f u; kind = rw f (k s.token ∙ ap (λ m. kind_class (literal_kind m)) (read_tree s.reads)) }
+          record { count = omega arith; unsigned = rw f u; kind = rw f (k s.token ∙ ap literal_kind (read_tree s.reads)) }
 
   number_stands : (negative : Bool) (p : ℕ) {l : Literal} {n : ℕ} → number_reader negative (drop p ts) ≡ read l n → Plain classes p l n
-  unfolding number_reader literal_class kind_class literal_kind
+  unfolding number_reader literal_class literal_kind
   number_stands negative p {l} {n} e =
       by_next WHOLE_NUMBER (expect WHOLE_NUMBER λ t. give (whole_number negative t.value))
       (expect REAL_NUMBER λ t. give (real_number negative t.value)) (drop p ts) e
@@ -79,7 +80,7 @@ module _ {text classes offsets lengths : List ℕ} {ts : List Token} (columns : 
       (one_token REAL_NUMBER p (λ t. real_number negative t.value) refl (λ t. refl))
 
   pub literal_stands : (p : ℕ) {l : Literal} {n : ℕ} → literal_reader (drop p ts) ≡ read l n → LiteralOf classes p l n
-  unfolding literal_reader literal_class kind_class literal_kind
+  unfolding literal_reader literal_class literal_kind
   literal_stands p {l} {n} e =
       by_next TRUE (expect TRUE λ t. give (truth true)) (if_next FALSE (expect FALSE λ t. give (truth false)) signed_or_number) (drop p ts) e
       (λ h. plain_literal (one_token TRUE p (λ t. truth true) refl (λ t. refl) h)) λ e.
@@ -102,7 +103,7 @@ pub record AssignmentAt (classes offsets : List ℕ) (ts : List Token) (q : ℕ)
   pub equals : get_or offsets (q + 1) 0 ≡ a.equals_at
   pub next : literal_end classes (q + 2) + 1 ≡ q + 1 + used
   pub onward : q + 2 ≤ literal_end classes (q + 2)
-  pub kind : literal_class (get_or classes (literal_end classes (q + 2)) 0) ≡ kind_class (literal_kind a.literal)
+  pub kind : literal_class (get_or classes (literal_end classes (q + 2)) 0) ≡ literal_kind a.literal
 
 module _ {text classes offsets lengths : List ℕ} {ts : List Token} (columns : ColumnsOf text classes offsets lengths ts) where
   pub assignment_stands : {q : ℕ} {a : Assignment} (b : Begins ts q NAME assignment_after a) → AssignmentAt classes offsets ts q a b.used
@@ -129,7 +130,7 @@ module _ {text classes offsets lengths : List ℕ} {ts : List Token} (columns : 
             equals = sym (columns.offset (q + 1) e s) ∙ ap (λ x. x.equals_at) t;
             next = omega (arith, h.next);
             onward = h.onward;
-            kind = h.kind ∙ ap (λ x. kind_class (literal_kind x.literal)) t;
+            kind = h.kind ∙ ap (λ x. literal_kind x.literal) t;
           }
 
       by_equals : (s : Starts ts (q + 1) EQUALS tail a) × (suc s.used ≡ b.used) → AssignmentAt classes offsets ts q a b.used

@@ -1,12 +1,13 @@
 -- What the check gives of an expression, a condition or a call, from what it gives of the parts.
 use Prim.Native.Nat.{ℕ}
-use mathlib.Core.Path.{◌≡◌, refl, sym, ap, ◌∙◌}
+use mathlib.Core.Path.{◌≡◌, refl, sym, ap, ap₂, ◌∙◌}
 use mathlib.Core.Bool.{Bool, false}
 use mathlib.Core.List.{List, [], ◌++◌, append_assoc}
 use mathlib.Core.Option.{Option, some}
+use Rattle.std.specs.Prelude as code
+use Rattle.values.specs.declared.Kind.{Kind}
 use Rattle.values.specs.declared.Kind.TheVariants.{Wholes}
-use Rattle.values.specs.definitions.Fitting.{operands_fit}
-use Rattle.text.specs.definitions.Tokens.{WHOLE, BOOL, REAL}
+use Rattle.values.specs.definitions.Fitting.{number_kind, operand_fits, operands_fit, kinds_fit}
 use Rattle.text.specs.definitions.Syntax.{Expression, to_real}
 use Rattle.std.specs.Prelude.{Some, None}
 use Rattle.checking.specs.declared.expressions.Kinded.{Kinded}
@@ -14,12 +15,13 @@ use Rattle.checking.specs.declared.faults.Faults.{Faults}
 use Rattle.checking.specs.declared.conditions.Part.{Part}
 use Rattle.checking.specs.definitions.Faults.{Fault, fault_unless, earliest}
 use Rattle.checking.specs.inner_contracts.FoundFaults.{Found, found_as, merged}
+use Rattle.checking.specs.inner_contracts.Kinds.{kind_as, real_of, number_of, operated_of}
 use Rattle.checking.specs.definitions.Scope.{Scope}
 use Rattle.checking.specs.definitions.NameFaults.{expression_name_faults}
 use Rattle.checking.specs.definitions.KindFaults.{kind_of, expression_kind_faults, matched_kind_faults}
-use Rattle.checking.specs.inner_contracts.RuleParts.{kind_code, KindsFit, OperandsFit, OperatedKind, ExpressionChecked, LiteralChecked, RealChecked, NegatedChecked, AppliedChecked, NothingFound, Matched, After, Joined}
+use Rattle.checking.specs.inner_contracts.RuleParts.{ExpressionChecked, LiteralChecked, RealChecked, NegatedChecked, AppliedChecked, NothingFound, Matched, After, Joined}
 use Rattle.checking.proofs.laws.FaultLaws.{earliest_append}
-use Rattle.checking.proofs.laws.KindCodes.{real_fits, real_whole, real_other, negated_bool, negated_other}
+use Rattle.checking.proofs.laws.KindLaws.{real_fits, real_bound, number_bound, operated_bound}
 
 -- ---- faults, one after the other
 
@@ -37,80 +39,65 @@ found_nothing = refl
 
 -- ---- expressions
 
-pub literal_checked : {next kind : ℕ} → LiteralChecked next kind (record { next = next; kind = kind; faults = record { names = None; kinds = None } })
-unfolding kind_of expression_name_faults expression_kind_faults kind_code
+pub literal_checked : {next : ℕ} {kind : code.Option Kind}
+    → LiteralChecked next kind (record { next = next; kind = kind; faults = record { names = None; kinds = None } })
+unfolding kind_of expression_name_faults expression_kind_faults
 literal_checked = record { next_is = refl; checked = λ s l e. record { kind = e; names = found_nothing; kinds = found_nothing } }
 
-module _ (offset : ℕ) {x : Kinded} where
-  real_kinds : {fit : Bool} {here kinds : Option Fault} → KindsFit x.kind WHOLE fit → here ≡ earliest (fault_unless fit 18 offset)
-      → kinds ≡ merged here (found_as x.faults.kinds) → (s : Scope) (a : Expression) → ExpressionChecked s a x
-      → kinds ≡ earliest (expression_kind_faults s (to_real offset a))
-  unfolding expression_kind_faults kind_code
-  real_kinds f u m s a h =
-      found_both _ (expression_kind_faults s a) m (unless_same _ offset u (f.fits (kind_of s a) (some Wholes) h.kind refl ∙ real_fits (kind_of s a)))
-      h.kinds
-
-  module _ {next : ℕ} {fit : Bool} {here : Option Fault} {kinds : Found} (f : KindsFit x.kind WHOLE fit)
-      (u : here ≡ earliest (fault_unless fit 18 offset)) (m : found_as kinds ≡ merged here (found_as x.faults.kinds)) where
-    pub made_real : x.kind ≡ WHOLE → RealChecked offset x next (record { next = next; kind = REAL; faults = record { names = x.faults.names; kinds = kinds } })
-    unfolding kind_of expression_name_faults
-    made_real e = record {
-      next_is = refl;
-      checked = λ s a h. record { kind = real_whole (kind_of s a) (sym h.kind ∙ e); names = h.names; kinds = real_kinds f u m s a h };
-    }
-
-    pub not_made_real : (x.kind ≡ WHOLE → ⊥) → RealChecked offset x next (record { next = next; kind = 0; faults = record { names = x.faults.names; kinds = kinds } })
-    unfolding kind_of expression_name_faults
-    not_made_real n = record {
-      next_is = refl;
-      checked = λ s a h. record { kind = real_other (kind_of s a) (λ z. n (h.kind ∙ z)); names = h.names; kinds = real_kinds f u m s a h };
-    }
-
-  pub not_negated : {here : Option Fault} {kinds : Found} → here ≡ earliest (fault_unless false 18 offset) → found_as kinds ≡ merged here (found_as x.faults.kinds)
-      → x.kind ≡ BOOL → NegatedChecked offset x (record { next = x.next; kind = 0; faults = record { names = x.faults.names; kinds = kinds } })
+-- an expression under `real` or unary `-`: its operand fits or not, and what is given then
+module _ (offset : ℕ) {x : Kinded} {fit : Bool} {kind : code.Option Kind} {here : Option Fault} {kinds : Found}
+    (u : here ≡ earliest (fault_unless fit 18 offset)) (m : found_as kinds ≡ merged here (found_as x.faults.kinds)) where
+  pub made_real : {next : ℕ} → fit ≡ kinds_fit (kind_as x.kind) (some Wholes) → kind_as kind ≡ real_of (kind_as x.kind)
+      → RealChecked offset x next (record { next = next; kind = kind; faults = record { names = x.faults.names; kinds = kinds } })
   unfolding kind_of expression_name_faults expression_kind_faults
-  not_negated u m e = record {
+  made_real f k = record {
     next_is = refl;
-    checked = λ s a h.
-        let k = negated_bool (kind_of s a) (sym h.kind ∙ e) in
-        record { kind = k.0; names = h.names; kinds = found_both _ (expression_kind_faults s a) m (unless_same _ offset u (sym k.1)) h.kinds };
+    checked = λ s a h. record {
+      kind = k ∙ ap real_of h.kind ∙ real_bound (kind_of s a);
+      names = h.names;
+      kinds = found_both _ (expression_kind_faults s a) m
+          (unless_same _ offset u (f ∙ ap (λ j. kinds_fit j (some Wholes)) h.kind ∙ real_fits (kind_of s a))) h.kinds;
+    };
   }
 
-  pub negated : (x.kind ≡ BOOL → ⊥) → NegatedChecked offset x x
-  unfolding kind_of expression_name_faults expression_kind_faults fault_unless
-  negated n = record {
-    next_is = refl;
-    checked = λ s a h.
-        let k = negated_other (kind_of s a) (λ z. n (h.kind ∙ z)) in
-        record { kind = h.kind ∙ k.0; names = h.names; kinds = h.kinds ∙ rw k.1 };
-  }
-
-  pub applied : {y : Kinded} {fit : Bool} {kind : ℕ} {here inside : Option Fault} {names kinds : Found} → OperandsFit x.kind y.kind fit
-      → here ≡ earliest (fault_unless fit 18 offset) → OperatedKind x.kind y.kind kind
-      → found_as names ≡ merged (found_as x.faults.names) (found_as y.faults.names)
-      → inside ≡ merged (found_as x.faults.kinds) (found_as y.faults.kinds) → found_as kinds ≡ merged here inside
-      → AppliedChecked offset x y (record { next = y.next; kind = kind; faults = record { names = names; kinds = kinds } })
+  pub negated : fit ≡ operand_fits number_kind (kind_as x.kind) → kind_as kind ≡ number_of (kind_as x.kind)
+      → NegatedChecked offset x (record { next = x.next; kind = kind; faults = record { names = x.faults.names; kinds = kinds } })
   unfolding kind_of expression_name_faults expression_kind_faults
-  applied f u o n i m = record {
+  negated f k = record {
     next_is = refl;
-    checked = λ s p a b g h.
-        let e = f.fits (kind_of s a) (kind_of s b) g.kind h.kind in
-        record {
-          kind = o.is (kind_of s a) (kind_of s b) g.kind h.kind;
-          names = found_both (expression_name_faults s a) (expression_name_faults s b) n g.names h.names;
-          kinds = found_both _ (expression_kind_faults s a ++ expression_kind_faults s b) m (unless_same _ offset u e)
-              (found_both (expression_kind_faults s a) (expression_kind_faults s b) i g.kinds h.kinds)
-              ∙ ap earliest (sym (append_assoc (fault_unless (operands_fit (kind_of s a) (kind_of s b)) 18 offset) (expression_kind_faults s a)
-              (expression_kind_faults s b)));
-        };
+    checked = λ s a h. record {
+      kind = k ∙ ap number_of h.kind ∙ number_bound (kind_of s a);
+      names = h.names;
+      kinds = found_both _ (expression_kind_faults s a) m (unless_same _ offset u (f ∙ ap (operand_fits number_kind) h.kind)) h.kinds;
+    };
   }
+
+pub applied : (offset : ℕ) {x y : Kinded} {fit : Bool} {kind : code.Option Kind} {here inside : Option Fault} {names kinds : Found}
+    → fit ≡ operands_fit (kind_as x.kind) (kind_as y.kind) → here ≡ earliest (fault_unless fit 18 offset)
+    → kind_as kind ≡ operated_of (kind_as x.kind) (kind_as y.kind)
+    → found_as names ≡ merged (found_as x.faults.names) (found_as y.faults.names)
+    → inside ≡ merged (found_as x.faults.kinds) (found_as y.faults.kinds) → found_as kinds ≡ merged here inside
+    → AppliedChecked offset x y (record { next = y.next; kind = kind; faults = record { names = names; kinds = kinds } })
+unfolding kind_of expression_name_faults expression_kind_faults
+applied offset f u o n i m = record {
+  next_is = refl;
+  checked = λ s p a b g h. record {
+    kind = o ∙ ap₂ operated_of g.kind h.kind ∙ operated_bound (kind_of s a) (kind_of s b);
+    names = found_both (expression_name_faults s a) (expression_name_faults s b) n g.names h.names;
+    kinds = found_both _ (expression_kind_faults s a ++ expression_kind_faults s b) m (unless_same _ offset u (f ∙ ap₂ operands_fit g.kind h.kind))
+        (found_both (expression_kind_faults s a) (expression_kind_faults s b) i g.kinds h.kinds)
+        ∙ ap earliest (sym (append_assoc (fault_unless (operands_fit (kind_of s a) (kind_of s b)) 18 offset) (expression_kind_faults s a)
+        (expression_kind_faults s b)));
+  };
+}
 
 -- ---- parts of a rule
 
 pub nothing_found : {next : ℕ} → NothingFound next (record { next = next; faults = record { names = None; kinds = None } })
 nothing_found = record { next_is = refl; part = record { names_found = found_nothing; kinds_found = found_nothing } }
 
-pub matched : {kind offset : ℕ} {e : Kinded} {fit : Bool} {here : Option Fault} {kinds : Found} → KindsFit kind e.kind fit
+pub matched : {kind : code.Option Kind} {offset : ℕ} {e : Kinded} {fit : Bool} {here : Option Fault} {kinds : Found}
+    → fit ≡ kinds_fit (kind_as kind) (kind_as e.kind)
     → here ≡ earliest (fault_unless fit 18 offset) → found_as kinds ≡ merged here (found_as e.faults.kinds)
     → Matched kind offset e (record { next = e.next; faults = record { names = e.faults.names; kinds = kinds } })
 unfolding matched_kind_faults
@@ -119,7 +106,7 @@ matched {offset = offset} f u m = record {
   part = λ s k a p h.
       record {
         names_found = h.names;
-        kinds_found = found_both _ (expression_kind_faults s a) m (unless_same _ offset u (f.fits k (kind_of s a) p h.kind)) h.kinds;
+        kinds_found = found_both _ (expression_kind_faults s a) m (unless_same _ offset u (f ∙ ap₂ kinds_fit p h.kind)) h.kinds;
       };
 }
 

@@ -8,6 +8,8 @@ use mathlib.Core.Option.{Option, none, some}
 use lib.Dec.{eqb, leb, ltb}
 use lib.ListN.{length, get_or, get_elem?}
 use borrow.Author.Tests.{eq-eqb, ne_eqb, le-leb, lt-leb, lt-ltb, le-ltb}
+use Rattle.values.specs.declared.Kind.{Kind}
+use Rattle.std.specs.Prelude.{Some, None}
 use Rattle.values.specs.definitions.Bytes.{same_bytes}
 use Rattle.text.specs.definitions.Tokens.{NAME, EVENT, ACTION}
 use Rattle.text.specs.definitions.Syntax.{Name, Member, Interface, Entity, File}
@@ -41,14 +43,13 @@ use Rattle.checking.specs.definitions.KindFaults.{kind_if_found, member_kind}
 use Rattle.checking.specs.inner_contracts.Directory.{
   name_in,
   sort_class,
-  kind_class,
   number_or,
   interface_number,
   entity_number,
   member_number,
   Bench,
 }
-use Rattle.checking.specs.inner_contracts.DirectoryReads.{Few, NumberOf, FewMembers, MemberClass}
+use Rattle.checking.specs.inner_contracts.DirectoryReads.{Few, NumberOf, FewMembers, MemberPart}
 use Rattle.checking.specs.inner_contracts.RuleParts.{
   name_row,
   first_alike,
@@ -58,7 +59,6 @@ use Rattle.checking.specs.inner_contracts.RuleParts.{
   world_scope,
   world_rows,
   Meant,
-  kind_code,
   sort_wanted,
   SortFits,
   CellOf,
@@ -312,8 +312,8 @@ module _ {text classes offsets lengths d : List ℕ} {want : ℕ} (face i : ℕ)
     (g : NumberOf text offsets lengths d 12 (FewMembers face) (λ f. member_number (get_elem? f.interfaces face) (name_in text offsets lengths i)) m) where
   pub no_cell : 12 ≤ m → {count : ℕ} → count ≡ get_or d 0 0 → {at : ℕ} → at ≡ get_or offsets i 0 → {names : Found}
       → found_as names ≡ earliest (fault_unless (leb count face) 16 at)
-      → CellOf text classes offsets lengths d face want i (record { kind = 0; fault = names })
-  unfolding member_kind member_faults member_number kind_if_found is_of_sort kind_code member_named fault_unless earliest
+      → CellOf text classes offsets lengths d face want i (record { kind = None; fault = names })
+  unfolding member_kind member_faults member_number kind_if_found is_of_sort member_named fault_unless earliest
   no_cell h {count} p {at} q {names} u = record {
     kind = λ w few. kind w few (get_elem? w.file.interfaces face) refl;
     names = λ w few. (rw q at u) ∙ faults w few (get_elem? w.file.interfaces face) refl;
@@ -326,7 +326,7 @@ module _ {text classes offsets lengths d : List ℕ} {want : ℕ} (face i : ℕ)
           number_none (λ (y : Member). y.name) (name_in text offsets lengths i) x.members 12 (few.members face x e) (omega arith)
 
       kind : (w : Bench text classes offsets lengths d) → Few w.file → (o : Option Interface) → get_elem? w.file.interfaces face ≡ o
-          → 0 ≡ kind_code (member_kind o (name_row text offsets lengths i))
+          → none ≡ member_kind o (name_row text offsets lengths i)
       kind w few none e = refl
       kind w few (some x) e = rw (missing_in w few x e)
 
@@ -343,12 +343,12 @@ module _ {text classes offsets lengths d : List ℕ} {want : ℕ} (face i : ℕ)
           let k : face < count = omega arith in
           rw (lt-leb count face k, missing_in w few x e)
 
-  pub a_cell : m < 12 → {sort kind at : ℕ} {fits : Bool} {names : Found} → MemberClass classes d face m (λ x. sort_class x.sort) sort
+  pub a_cell : m < 12 → {kind : Kind} {sort at : ℕ} {fits : Bool} {names : Found} → MemberPart classes d face m (λ x. sort_class x.sort) sort
       → SortFits want sort fits → at ≡ get_or offsets i 0 → found_as names ≡ earliest (fault_unless fits 16 at)
-      → MemberClass classes d face m (λ x. kind_class x.kind) kind
-      → CellOf text classes offsets lengths d face want i (record { kind = kind; fault = names })
-  unfolding member_kind member_faults member_number kind_if_found is_of_sort kind_code member_named
-  a_cell h {sort} {kind} {at} {fits} {names} x y q u z = record {
+      → MemberPart classes d face m (λ x. x.kind) kind
+      → CellOf text classes offsets lengths d face want i (record { kind = Some kind; fault = names })
+  unfolding member_kind member_faults member_number kind_if_found is_of_sort member_named
+  a_cell h {kind} {sort} {at} {fits} {names} x y q u z = record {
     kind = λ w few. kind_is w few (get_elem? w.file.interfaces face) refl;
     names = λ w few. (rw q at u) ∙ faults w few (get_elem? w.file.interfaces face) refl;
   }
@@ -364,13 +364,13 @@ module _ {text classes offsets lengths d : List ℕ} {want : ℕ} (face i : ℕ)
           (f, p, ap (get_elem? j.members) (k ∙ sym r) ∙ found_at (λ (v : Member). v.name) (name_in text offsets lengths i) j.members p)
 
       kind_is : (w : Bench text classes offsets lengths d) → Few w.file → (o : Option Interface) → get_elem? w.file.interfaces face ≡ o
-          → kind ≡ kind_code (member_kind o (name_row text offsets lengths i))
+          → some kind ≡ member_kind o (name_row text offsets lengths i)
       kind_is w few none e = absurd (none_there w few e)
       kind_is w few (some j) e = on (found_in w few j e)
         where
           on : (f : Indexed Member) × (member_named j (name_in text offsets lengths i) ≡ some f) × (get_elem? j.members m ≡ some f.item)
-              → kind ≡ kind_code (kind_if_found (member_named j (name_in text offsets lengths i)))
-          on (f, p, r) = rw p (z.is text offsets lengths w j f.item e r)
+              → some kind ≡ kind_if_found (member_named j (name_in text offsets lengths i))
+          on (f, p, r) = rw p (ap some (z.is text offsets lengths w j f.item e r))
 
       faults : (w : Bench text classes offsets lengths d) → Few w.file → (o : Option Interface) → get_elem? w.file.interfaces face ≡ o
           → earliest (fault_unless fits 16 (get_or offsets i 0)) ≡ earliest (member_faults (sort_wanted want) o (name_row text offsets lengths i))

@@ -4,6 +4,8 @@ use native.Mathlib.Omega.{arith}
 use mathlib.Core.Path.{◌≡◌, refl, sym, ap, ◌∙◌, fun_ext}
 use mathlib.Core.List.{List, [], ◌∷◌, ◌++◌, map, flat_map, append_assoc, append-nil}
 use mathlib.Core.Option.{Option, none, some}
+use Rattle.std.specs.Prelude as code
+use Rattle.values.specs.declared.Kind.{Kind}
 use lib.ListN.{length, get_or, drop}
 use Rattle.text.specs.definitions.Tokens.{Token, NAME, ATTRIBUTE, EVENT, ACTION, WHEN, COMMA}
 use Rattle.text.specs.definitions.Syntax.{
@@ -77,7 +79,6 @@ use Rattle.checking.specs.inner_contracts.RuleParts.{
   world_scope,
   world_rows,
   Meant,
-  kind_code,
   sort_wanted,
   CellOf,
   ExpressionChecked,
@@ -229,12 +230,12 @@ module _ {text classes offsets lengths d : List ℕ} where
           (g.kind c.bench c.few ∙ rw e) x);
     })
 
-    pub changed_checked : (kind : ℕ) {next : ℕ} {r : Part} → NothingFound next r → (c : RuleWorld text classes offsets lengths d start)
+    pub changed_checked : (kind : code.Option Kind) {next : ℕ} {r : Part} → NothingFound next r → (c : RuleWorld text classes offsets lengths d start)
         → TestChecked text classes offsets lengths d start kind c changed r
     unfolding test_name_faults test_kind_faults
     changed_checked kind h c = record { part = λ k e. h.part }
 
-    pub equals_checked : (at : ℕ) {kind offset : ℕ} {e : Kinded} {r : Part} → offset ≡ get_or offsets at 0 → Matched kind offset e r
+    pub equals_checked : (at : ℕ) {kind : code.Option Kind} {offset : ℕ} {e : Kinded} {r : Part} → offset ≡ get_or offsets at 0 → Matched kind offset e r
         → (c : RuleWorld text classes offsets lengths d start) → at < length classes → (a : Expression) → ExpressionChecked (world_scope c) a e
         → TestChecked text classes offsets lengths d start kind c (equals (nth_token c.bench.tokens at).at a) r
     unfolding test_name_faults test_kind_faults
@@ -253,7 +254,7 @@ module _ {text classes offsets lengths d : List ℕ} where
         let s = world_scope c in
         let o = interface_in s x.name.bytes in
         let e = name_row text offsets lengths i in
-        let k = g.kind c.bench c.few ∙ ap (λ o. kind_code (member_kind o e)) u.face_is in
+        let k = g.kind c.bench c.few ∙ ap (λ o. member_kind o e) u.face_is in
         let mf = member_faults is_event o e in
         let tn = target_name_faults s x in
         let fn = filter_name_faults s x y in
@@ -322,7 +323,7 @@ module _ {text classes offsets lengths d : List ℕ} where
         let s = world_scope c in
         let o = interface_in s x.name.bytes in
         let e = name_row text offsets lengths i in
-        let z = g.kind c.bench c.few ∙ ap (λ o. kind_code (member_kind o e)) v.face_is in
+        let z = g.kind c.bench c.few ∙ ap (λ o. member_kind o e) v.face_is in
         let mf = member_faults is_action o e in
         let en = expression_name_faults s a in
         let tn = target_name_faults s x in

@@ -3,7 +3,7 @@ use Rattle.std.specs.Prelude.{ℕ, ◌+◌, ◌≤◌, ◌<◌, ◌≡◌, Bool,
 use mathlib.Core.List.{List, ◌++◌, map, flat_map}
 use Rattle.std.proofs.Math.Option.{some}
 use Rattle.std.proofs.Math.ListN.{get_elem?}
-use Rattle.text.specs.definitions.Tokens.{Token, NAME, WHOLE_NUMBER, REAL_NUMBER, WHOLE, BOOL, REAL, BRACE_CLOSE, MINUS}
+use Rattle.text.specs.definitions.Tokens.{Token, NAME, BRACE_CLOSE, MINUS}
 use Rattle.text.specs.definitions.Syntax.{Name, Member, Interface, literal_kind, Assignment, Entity, File}
 use Rattle.text.specs.definitions.Grammar.{assignment_after}
 use Rattle.checking.specs.inner_contracts.DirectoryItems.{ItemsOf}
@@ -14,9 +14,10 @@ use Rattle.checking.specs.inner_contracts.FoundFaults.{Found, found_as}
 use Rattle.checking.specs.definitions.Scope.{look_up, is_found, is_attribute}
 use Rattle.checking.specs.definitions.NameFaults.{again_faults, member_faults, interface_name_faults, unset_faults, entity_name_faults}
 use Rattle.checking.specs.definitions.KindFaults.{assignment_kind_faults, entity_kind_faults}
-use Rattle.checking.specs.inner_contracts.Directory.{name_in, ColumnsOf, Named, kind_class, NO_MEMBER, member_number, ENTITY_COUNT_ROW, ENTITY_INTERFACE_ROWS, DIRECTORY, DirectoryOf, Bench}
+use Rattle.checking.specs.inner_contracts.Directory.{name_in, ColumnsOf, Named, NO_MEMBER, member_number, ENTITY_COUNT_ROW, ENTITY_INTERFACE_ROWS, DIRECTORY, DirectoryOf, Bench}
 use Rattle.checking.specs.definitions.CountFaults.{MOST_RULES}
 use Rattle.checking.specs.inner_contracts.DirectoryReads.{Few}
+use Rattle.checking.specs.inner_contracts.Kinds.{literal_class}
 use Rattle.checking.specs.inner_contracts.Sequences.{Sequence}
 
 -- ---- interfaces
@@ -42,10 +43,6 @@ pub record EntitiesLinked (text offsets lengths d e : List ℕ) : Type 0 where
       → Few f → length f.rules ≤ MOST_RULES → DirectoryOf f ts e
 
 -- ---- the assignments of an entity
-
--- the class of the kind of a literal, by the class of its last token
-unfoldable pub literal_class : ℕ → ℕ
-literal_class c = elim (eqb c WHOLE_NUMBER) [ true ↦ WHOLE | false ↦ elim (eqb c REAL_NUMBER) [ true ↦ REAL | false ↦ BOOL ] ]
 
 -- the last token of the literal that begins at token number p: the one after a `-`
 unfoldable pub literal_end : List ℕ → ℕ → ℕ
@@ -78,7 +75,7 @@ pub record AttributeFound (classes offsets d : List ℕ) (face m q : ℕ) (r : F
 pub record KindFound (classes offsets d : List ℕ) (face m equals last : ℕ) (r : Found) : Type 0 where
   pub is : (text lengths : List ℕ) (w : Bench text classes offsets lengths d) → Few w.file → (a : Assignment)
       → m ≡ member_number (get_elem? w.file.interfaces face) a.name.bytes → get_or offsets equals 0 ≡ a.equals_at
-      → literal_class (get_or classes last 0) ≡ kind_class (literal_kind a.literal)
+      → literal_class (get_or classes last 0) ≡ literal_kind a.literal
       → found_as r ≡ earliest (assignment_kind_faults (get_elem? w.file.interfaces face) a)
 
 -- the assignments of an entity and its `}`, from token number `from` on

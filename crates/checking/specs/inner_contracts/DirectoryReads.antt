@@ -43,7 +43,7 @@ pub record MemberRow (d : List ℕ) (k m r : ℕ) : Type 0 where
   pub within : r < 65536
   pub is : k < get_or d INTERFACE_COUNT_ROW 0 → m < get_or d (member_count_row k) 0 → r ≡ get_or d (member_row k m) 0
 
--- a class of the token table that says something of member number m of interface number k
-pub record MemberClass (classes d : List ℕ) (k m : ℕ) (class_of : Member → ℕ) (r : ℕ) : Type 0 where
+-- what is said of member number m of interface number k
+pub record MemberPart {A : Type 0} (classes d : List ℕ) (k m : ℕ) (part : Member → A) (r : A) : Type 0 where
   pub is : (text offsets lengths : List ℕ) (w : Bench text classes offsets lengths d) (i : Interface) (x : Member)
-      → get_elem? w.file.interfaces k ≡ some i → get_elem? i.members m ≡ some x → r ≡ class_of x
+      → get_elem? w.file.interfaces k ≡ some i → get_elem? i.members m ≡ some x → r ≡ part x

@@ -1,11 +1,11 @@
 -- What the walks over the parts of a rule promise, and what they ask of the names in it.
 use Rattle.std.specs.Prelude.{ℕ, ◌+◌, ◌≡◌, Bool, true, false, not, ◌&&◌, ◌||◌, eqb, length, get_or, drop}
 use mathlib.Core.List.{List, [], ◌∷◌, ◌++◌, map, flat_map}
-use Rattle.std.proofs.Math.Option.{Option, none, some, bind}
+use Rattle.std.specs.Prelude as code
+use Rattle.std.proofs.Math.Option.{Option, none, some}
 use Rattle.std.proofs.Math.ListN.{get_elem?}
 use Rattle.values.specs.definitions.Bytes.{same_bytes}
 use Rattle.values.specs.declared.Kind.{Kind}
-use Rattle.values.specs.definitions.Fitting.{operated_kind, operands_fit, kinds_fit}
 use Rattle.text.specs.definitions.Tokens.{NAME, EVENT, ACTION, WHEN, END, COLON}
 use Rattle.text.specs.definitions.Syntax.{
   Name,
@@ -36,6 +36,7 @@ use Rattle.checking.specs.declared.conditions.Part.{Part}
 use Rattle.checking.specs.declared.conditions.Place.{Place}
 use Rattle.checking.specs.definitions.Faults.{Fault, fault_unless, earliest}
 use Rattle.checking.specs.inner_contracts.FoundFaults.{Found, found_as}
+use Rattle.checking.specs.inner_contracts.Kinds.{kind_as}
 use Rattle.checking.specs.definitions.Scope.{is_found, entity_named, clauses, Scope, scope_of, is_known, interface_in}
 use Rattle.checking.specs.definitions.NameFaults.{
   again_faults,
@@ -58,7 +59,7 @@ use Rattle.checking.specs.definitions.KindFaults.{
   clause_kind_faults,
   call_kind_faults,
 }
-use Rattle.checking.specs.inner_contracts.Directory.{name_in, Begins, sort_class, kind_class, Bench}
+use Rattle.checking.specs.inner_contracts.Directory.{name_in, Begins, sort_class, Bench}
 
 -- ---- names
 
@@ -128,12 +129,6 @@ pub record Meant (text classes offsets lengths d : List ℕ) (start i : ℕ) (r 
   pub face : (c : RuleWorld text classes offsets lengths d start)
       → get_elem? c.bench.file.interfaces r.face ≡ interface_in (world_scope c) (name_in text offsets lengths i)
 
--- the class of a kind's word; 0 for no kind
-unfoldable pub kind_code : Option Kind → ℕ
-unfolding kind_class
-kind_code none = 0
-kind_code (some k) = kind_class k
-
 -- members that may stand where an attribute, an event, an action or, by the class of names, any member is wanted
 unfoldable pub sort_wanted : ℕ → Sort → Bool
 unfolding sort_class
@@ -145,30 +140,21 @@ pub record SortFits (want sort : ℕ) (r : Bool) : Type 0 where
 -- the member of interface number `face` that token number i names: its kind, and a fault where there is none of a wanted sort
 pub record CellOf (text classes offsets lengths d : List ℕ) (face want i : ℕ) (r : Cell) : Type 0 where
   pub kind : (w : Bench text classes offsets lengths d) → Few w.file
-      → r.kind ≡ kind_code (member_kind (get_elem? w.file.interfaces face) (name_row text offsets lengths i))
+      → kind_as r.kind ≡ member_kind (get_elem? w.file.interfaces face) (name_row text offsets lengths i)
   pub names : (w : Bench text classes offsets lengths d) → Few w.file
       → found_as r.fault ≡ earliest (member_faults (sort_wanted want) (get_elem? w.file.interfaces face) (name_row text offsets lengths i))
 
 -- ---- expressions
 
-pub record KindsFit (j k : ℕ) (r : Bool) : Type 0 where
-  pub fits : (a b : Option Kind) → j ≡ kind_code a → k ≡ kind_code b → r ≡ kinds_fit a b
-
-pub record OperandsFit (j k : ℕ) (r : Bool) : Type 0 where
-  pub fits : (a b : Option Kind) → j ≡ kind_code a → k ≡ kind_code b → r ≡ operands_fit a b
-
-pub record OperatedKind (j k r : ℕ) : Type 0 where
-  pub is : (a b : Option Kind) → j ≡ kind_code a → k ≡ kind_code b → r ≡ kind_code (bind a λ x. bind b λ y. operated_kind x y)
-
 -- what the check of an expression gives
 pub record ExpressionChecked (s : Scope) (a : Expression) (r : Kinded) : Type 0 where
-  pub kind : r.kind ≡ kind_code (kind_of s a)
+  pub kind : kind_as r.kind ≡ kind_of s a
   pub names : found_as r.faults.names ≡ earliest (expression_name_faults s a)
   pub kinds : found_as r.faults.kinds ≡ earliest (expression_kind_faults s a)
 
-pub record LiteralChecked (next kind : ℕ) (r : Kinded) : Type 0 where
+pub record LiteralChecked (next : ℕ) (kind : code.Option Kind) (r : Kinded) : Type 0 where
   pub next_is : r.next ≡ next
-  pub checked : (s : Scope) (l : Literal) → kind ≡ kind_class (literal_kind l) → ExpressionChecked s (literal l) r
+  pub checked : (s : Scope) (l : Literal) → kind_as kind ≡ some (literal_kind l) → ExpressionChecked s (literal l) r
 
 pub record ClosedChecked (x : Kinded) (next : ℕ) (r : Kinded) : Type 0 where
   pub next_is : r.next ≡ next
@@ -205,9 +191,9 @@ pub record NothingFound (next : ℕ) (r : Part) : Type 0 where
   pub next_is : r.next ≡ next
   pub part : PartOf [] [] r
 
-pub record Matched (kind offset : ℕ) (e : Kinded) (r : Part) : Type 0 where
+pub record Matched (kind : code.Option Kind) (offset : ℕ) (e : Kinded) (r : Part) : Type 0 where
   pub next_is : r.next ≡ e.next
-  pub part : (s : Scope) (k : Option Kind) (a : Expression) → kind ≡ kind_code k → ExpressionChecked s a e
+  pub part : (s : Scope) (k : Option Kind) (a : Expression) → kind_as kind ≡ k → ExpressionChecked s a e
       → PartOf (expression_name_faults s a) (matched_kind_faults s k offset a) r
 
 pub record After (first : Found) (p r : Part) : Type 0 where
@@ -244,10 +230,10 @@ module _ (text classes offsets lengths d : List ℕ) (start : ℕ) where
   FilterWalk face r at v = Walks world_rows (FilterChecked face) r at v v.next
 
   -- where the test's event has this kind
-  pub record TestChecked (kind : ℕ) (c : RuleWorld text classes offsets lengths d start) (e : Test) (r : Part) : Type 0 where
-    pub part : (k : Option Kind) → kind ≡ kind_code k → PartOf (test_name_faults (world_scope c) e) (test_kind_faults (world_scope c) k e) r
+  pub record TestChecked (kind : code.Option Kind) (c : RuleWorld text classes offsets lengths d start) (e : Test) (r : Part) : Type 0 where
+    pub part : (k : Option Kind) → kind_as kind ≡ k → PartOf (test_name_faults (world_scope c) e) (test_kind_faults (world_scope c) k e) r
 
-  abbrev pub TestWalk : ℕ → Parser Test → ℕ → Part → Type 0
+  abbrev pub TestWalk : code.Option Kind → Parser Test → ℕ → Part → Type 0
   TestWalk kind r at v = Walks world_rows (TestChecked kind) r at v v.next
 
   abbrev pub ConditionYields : RuleWorld text classes offsets lengths d start → Condition → Part → Type 0
