@@ -1,9 +1,7 @@
 // A record: its sender and number, and its values as inputs in lent memory.
 ghost use Rattle.std.specs.Prelude.{◌≡◌, [], ◌∷◌, ◌++◌, ℕ, ◌+◌, ◌*◌, ◌≤◌, ◌<◌, length, get_or, drop};
 ghost use Rattle.std.proofs.Math.Option.{none};
-ghost use Rattle.values.specs.declared.Kind.{Kind};
 ghost use Rattle.values.specs.definitions.Bytes.{overwritten};
-ghost use Rattle.checking.specs.inner_contracts.Directory.{kind_class};
 ghost use Rattle.checking.specs.definitions.CountFaults;
 ghost use Rattle.cycles.specs.definitions.Record.{as_truth};
 ghost use Rattle.cycles.specs.definitions.Planes;
@@ -17,10 +15,7 @@ use crate::layout::{
 };
 use checking::layout::ENTITY_INTERFACE_ROWS;
 use checking::{member_kind, row};
-use text::classes::{BOOL, WHOLE};
-use values::{
-    Field, Kind, Number, Value, magnitude, put_cell, put_word, read_event, read_presence,
-};
+use values::{Field, Number, Value, magnitude, put_cell, put_word, read_event, read_presence};
 
 // How many bytes at a record's front are its sender's, and its number; or no record.
 #[derive(Clone, Copy)]
@@ -111,20 +106,6 @@ fn put_said(cells: &mut [u8], i: usize, field: Field)
     }
 }
 
-// The kind that a class says.
-#[tactic(auto, using(crate::proofs::laws::RecordLaws::whole_class, crate::proofs::laws::RecordLaws::bool_class, crate::proofs::laws::RecordLaws::real_class))]
-fn kind_of(class: u8) -> Kind
-    ensures { (k : Kind) → class ≡ kind_class k → result ≡ k }
-{
-    if class == WHOLE {
-        return Kind::Wholes;
-    }
-    if class == BOOL {
-        return Kind::Bools;
-    }
-    Kind::Reals
-}
-
 // Puts a field, read in column number `column`, in its place; false if it is ill formed there.
 #[tactic(auto, using(crate::proofs::steps::InputLaws::presence_is_put, crate::proofs::steps::InputLaws::event_is_put))]
 fn put_input(
@@ -148,7 +129,7 @@ fn put_input(
         return well_formed(presence);
     }
     let face = row(d, ENTITY_INTERFACE_ROWS + e);
-    let event = read_event(field, kind_of(member_kind(classes, d, face, m)));
+    let event = read_event(field, member_kind(classes, d, face, m));
     put_said(cells, e * ENTITY_CELLS + m, event);
     well_formed(event)
 }

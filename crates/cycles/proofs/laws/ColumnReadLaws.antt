@@ -14,7 +14,7 @@ use Rattle.text.specs.definitions.Syntax.{Sort, attribute, event, action, Member
 use Rattle.text.proofs.laws.ListLaws.{some_injective, none_some}
 use Rattle.checking.specs.definitions.Scope.{Indexed, look_up, item_of, entity_named, member_named, interface_of_entity, interface_of}
 use Rattle.checking.specs.inner_contracts.Directory.{Bench, sort_class, entity_number, member_number}
-use Rattle.checking.specs.inner_contracts.DirectoryReads.{Few, NumberOf, MemberClass, FewMembers}
+use Rattle.checking.specs.inner_contracts.DirectoryReads.{Few, NumberOf, MemberPart, FewMembers}
 use Rattle.checking.proofs.laws.WithinCounts.{WithinCounts}
 use Rattle.checking.proofs.laws.LookUpLaws.{found_at, entity_found}
 use Rattle.checking.proofs.laws.DirectoryLaws.{number_below}
@@ -158,7 +158,7 @@ module _ (text classes offsets lengths d owner : List ℕ) {e : ℕ}
               k.is classes w (few.members face) ∙ ap (λ (i : Option Interface). member_number i member) o in
               rw (q, by_interface w few r.number (interface_of w.file r.number) o h)
 
-      module _ (y : m ≡ 12 → ⊥) {s : ℕ} (t : MemberClass classes d face m (λ x. sort_class x.sort) s) where
+      module _ (y : m ≡ 12 → ⊥) {s : ℕ} (t : MemberPart classes d face m (λ x. sort_class x.sort) s) where
         there : (w : Bench text classes offsets lengths d) → Few w.file → There w.file owner member e m s
         unfolding member_number member_named
         there w few = by_entity (named_some w few z)

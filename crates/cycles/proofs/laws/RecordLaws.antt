@@ -9,41 +9,16 @@ use lib.Dec.{leb, eqb}
 use lib.ListN.{length, take, drop, length-take}
 use lib.Seq.{length-take-le}
 use borrow.Author.Tests.{le-leb, lt-leb, eqb-true}
-use Rattle.values.specs.declared.Kind.{Kind}
-use Rattle.values.specs.declared.Kind.TheVariants.{Wholes, Bools, Reals}
 use Rattle.values.specs.declared.Number.{Number}
 use Rattle.values.specs.declared.Number.TheVariants.{Is, Not}
 use Rattle.values.specs.definitions.Forms.{magnitude}
-use Rattle.text.specs.definitions.Tokens.{WHOLE, BOOL}
 use Rattle.text.proofs.laws.ListLaws.{some_injective, none_some}
-use Rattle.checking.specs.inner_contracts.Directory.{kind_class}
 use Rattle.cycles.specs.declared.record.Sent.TheVariants.{Refused, Got}
 use Rattle.cycles.specs.definitions.Fields.{split, fields, is_empty, has_byte}
 use Rattle.cycles.specs.definitions.Record.{Sent, sent_as, sent_fields, record_of}
 use Rattle.cycles.specs.inner_contracts.FieldReads.{FieldEnd, none_empty, first_length, first_size}
 use Rattle.cycles.specs.inner_contracts.LineReads.{sent_answer, SentRead}
 use Rattle.cycles.proofs.laws.FieldLaws.{part_to_end, split_first}
-
--- ---- the kind that a class says
-
-module _ {class : ℕ} where
-  pub whole_class : (k : Kind) → class ≡ kind_class k → class ≡ WHOLE → Wholes ≡ k
-  unfolding kind_class
-  whole_class Wholes e h = refl
-  whole_class Bools e h = absurd (omega arith)
-  whole_class Reals e h = absurd (omega arith)
-
-  pub bool_class : (k : Kind) → class ≡ kind_class k → class ≡ BOOL → Bools ≡ k
-  unfolding kind_class
-  bool_class Wholes e h = absurd (omega arith)
-  bool_class Bools e h = refl
-  bool_class Reals e h = absurd (omega arith)
-
-  pub real_class : (k : Kind) → class ≡ kind_class k → (class ≡ WHOLE → ⊥) → (class ≡ BOOL → ⊥) → Reals ≡ k
-  unfolding kind_class
-  real_class Wholes e h g = absurd (h e)
-  real_class Bools e h g = absurd (g e)
-  real_class Reals e h g = refl
 
 -- ---- the sender and the number of a record
 

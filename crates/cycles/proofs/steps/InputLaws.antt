@@ -17,8 +17,8 @@ use Rattle.values.proofs.laws.ByteLaws.{overwritten_parts}
 use Rattle.text.specs.definitions.Syntax.{Interface, File}
 use Rattle.text.proofs.laws.ListLaws.{none_some}
 use Rattle.checking.specs.definitions.Scope.{interface_of, nth_member, member_of}
-use Rattle.checking.specs.inner_contracts.Directory.{Bench, kind_class}
-use Rattle.checking.specs.inner_contracts.DirectoryReads.{Few, MemberClass}
+use Rattle.checking.specs.inner_contracts.Directory.{Bench}
+use Rattle.checking.specs.inner_contracts.DirectoryReads.{Few, MemberPart}
 use Rattle.checking.proofs.laws.CalledLaws.{row_interface}
 use Rattle.cycles.specs.definitions.Spots.{Spot}
 use Rattle.cycles.specs.definitions.Header.{Column, is_presence, is_member_number}
@@ -82,8 +82,8 @@ module _ (classes d : List ℕ) (number : ℕ) (x flags cells : List ℕ) where
             rw z,
           )
 
-  module _ (h : number % 13 ≡ 12 → ⊥) {face class : ℕ} (r : face ≡ get_or d (323 + number / 13) 0)
-      (n : MemberClass classes d face (number % 13) (λ y. kind_class y.kind) class) {kind : Kind} (l : (k : Kind) → class ≡ kind_class k → kind ≡ k) where
+  module _ (h : number % 13 ≡ 12 → ⊥) {face : ℕ} (r : face ≡ get_or d (323 + number / 13) 0) {kind : Kind}
+      (n : MemberPart classes d face (number % 13) (λ y. y.kind) kind) where
     -- the kind that was found is the event's
     kind_found : {text offsets lengths : List ℕ} (w : Bench text classes offsets lengths d) → Few w.file → (c : Column) → ColumnStands w.file c
         → (p : Spot) → c.event ≡ some p → p.member ≡ number % 13 → c.entity ≡ number / 13 → kind ≡ p.what.kind
@@ -96,7 +96,7 @@ module _ (classes d : List ℕ) (number : ℕ) (x flags cells : List ℕ) where
       where
         by_interface : (o : Option Interface) → get_elem? w.file.interfaces face ≡ o → nth_member o p.member ≡ some p.what → kind ≡ p.what.kind
         by_interface none e g = absurd (none_some g)
-        by_interface (some a) e g = l p.what.kind (n.is text offsets lengths w a p.what e (rw i at g))
+        by_interface (some a) e g = n.is text offsets lengths w a p.what e (rw i at g)
 
     pub event_is_put : {f : Field} → f ≡ event_field kind x → {ok : Bool} → ok ≡ is_well_formed f → {left : List ℕ}
         → left ≡ overwritten cells ((number / 13 * 12 + number % 13) * 9) (input_bytes (said f)) → InputPut classes d number x flags cells flags left ok
