@@ -42,8 +42,8 @@ fn present_byte(present: u8, flag: u8) -> u8
 // Puts the flags of n entities after the line.
 #[tactic(auto, using(crate::proofs::laws::TableLaws::flag_fill), unfolding(crate::specs::definitions::Planes::table))]
 fn see_flags(n: usize, present: &[u8], inputs: &Inputs<'_>, seen: &mut [u8])
-    requires { (n ≤ length present.now) × (n ≤ length inputs.now.flags) × (n ≤ length seen.old) }
-    ensures { seen.new ≡ table (seen_flag present.now inputs.now.flags) 0 n ++ drop n seen.old }
+    requires { (n ≤ length present.now) × (n ≤ length inputs.now.flags.now) × (n ≤ length seen.old) }
+    ensures { seen.new ≡ table (seen_flag present.now inputs.now.flags.now) 0 n ++ drop n seen.old }
 {
     let mut e = 0;
     while e < n {
@@ -72,11 +72,11 @@ fn seen_value(
     i: usize,
 ) -> Value
     requires i_bound { (i < Planes.ENTITY_CELLS * length before.now.flags) × (i < Planes.ENTITY_CELLS * length seen.now) }
-    requires i_in_bounds { (i * Planes.CELL_BYTES + Planes.CELL_BYTES ≤ length before.now.cells) × (i * Planes.CELL_BYTES + Planes.CELL_BYTES ≤ length inputs.now.cells) }
+    requires i_in_bounds { (i * Planes.CELL_BYTES + Planes.CELL_BYTES ≤ length before.now.cells) × (i * Planes.CELL_BYTES + Planes.CELL_BYTES ≤ length inputs.now.cells.now) }
     ensures { ValueOf rules.now.columns.classes.now rules.now.columns.d.now
-        (seen_value before.now.flags seen.now before.now.cells inputs.now.cells) i result }
+        (seen_value before.now.flags seen.now before.now.cells inputs.now.cells.now) i result }
 {
-    let Inputs { cells, .. } = inputs;
+    let cells = inputs.cells;
     let at = i * CELL_BYTES;
     if cells[at] != NO_READING {
         return cell(cells, i);
@@ -101,10 +101,10 @@ fn see_cells(
     out: &mut [u8],
 )
     requires n_in_bounds { (n ≤ length before.now.flags) × (n ≤ length seen.now) }
-    requires n_in_bounds_2 { (Planes.ENTITY_CELL_BYTES * n ≤ length before.now.cells) × (Planes.ENTITY_CELL_BYTES * n ≤ length inputs.now.cells)
+    requires n_in_bounds_2 { (Planes.ENTITY_CELL_BYTES * n ≤ length before.now.cells) × (Planes.ENTITY_CELL_BYTES * n ≤ length inputs.now.cells.now)
         × (Planes.ENTITY_CELL_BYTES * n ≤ length out.old) }
     ensures { MembersPut rules.now.columns.classes.now rules.now.columns.d.now any_sort
-        (seen_value before.now.flags seen.now before.now.cells inputs.now.cells) (Planes.ENTITY_CELLS * n)
+        (seen_value before.now.flags seen.now before.now.cells inputs.now.cells.now) (Planes.ENTITY_CELLS * n)
         out.old out.new }
 {
     let end = ENTITY_CELLS * n;
@@ -157,10 +157,10 @@ fn put_next(rules: &Rules<'_>, n: usize, cells: &[u8], area: &mut [u8])
 // The cycle of a line. The area of writes begins as unset cells to which nothing was written: bytes of 0.
 #[tactic(auto, using(crate::proofs::steps::CycleMemoryLaws::cycle_impossible))]
 pub fn cycle(rules: &Rules<'_>, inputs: &Inputs<'_>, stores: &mut [u8])
-    requires in_bounds { (CountFaults.MOST_ENTITIES ≤ length inputs.now.flags) × (Planes.MOST_CELL_BYTES ≤ length inputs.now.cells) }
+    requires in_bounds { (CountFaults.MOST_ENTITIES ≤ length inputs.now.flags.now) × (Planes.MOST_CELL_BYTES ≤ length inputs.now.cells.now) }
     requires in_bounds_2 { Planes.MOST_STORES_BYTES ≤ length stores.old }
     ensures { Cycled rules.now.columns.classes.now rules.now.literals.now rules.now.columns.d.now rules.now.references.now rules.now.scopes.now
-        inputs.now.flags inputs.now.cells stores.old stores.new }
+        inputs.now.flags.now inputs.now.cells.now stores.old stores.new }
 {
     let n = rules.row(ENTITY_COUNT_ROW);
     if MOST_ENTITIES < n {

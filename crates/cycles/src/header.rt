@@ -1,5 +1,5 @@
 // A header: the numbers of its columns, read into lent memory from the last to the first.
-ghost use Rattle.std.specs.Prelude.{◌≡◌, ◌≤◌, length};
+ghost use Rattle.std.specs.Prelude.{ℕ, ◌≡◌, ◌≤◌, ◌<◌, length, get_or};
 ghost use Rattle.checking.specs.definitions.Scope.{entity_named};
 ghost use Rattle.cycles.specs.definitions.Fields.{split};
 ghost use Rattle.cycles.specs.definitions.Header.{column_of_entity, column};
@@ -15,6 +15,27 @@ use checking::Columns;
 use checking::layout::{ENTITY_INTERFACE_ROWS, NO_ENTITY, NO_MEMBER};
 use text::classes::EVENT;
 use values::same_bytes;
+
+/// A header that is read: the numbers of its columns, the last one first.
+#[derive(Clone, Copy)]
+pub struct Header<'a> {
+    pub columns: &'a [u16],
+    ghost known: { (k : ℕ) → k < length columns.now → get_or columns.now k 0 < HeaderReads.NO_COLUMN },
+}
+
+impl<'a> Header<'a> {
+    /// The header that is read into the first `count` of those columns.
+    #[tactic(auto, using(crate::proofs::laws::ColumnLaws::backwards_taken))]
+    pub fn new(columns: &'a [u16], count: usize) -> Self
+        requires { (count ≤ length columns.now) × ((k : ℕ) → k < count → get_or columns.now k 0 < HeaderReads.NO_COLUMN) }
+        ensures size { length result.columns.now ≡ count }
+        ensures same { backwards count result.columns.now ≡ backwards count columns.now }
+    {
+        Header {
+            columns: &columns[..count],
+        }
+    }
+}
 
 // The column of an event by the names of its entity and of itself; NO_COLUMN if there is none.
 fn event_column(columns: &Columns<'_>, owner: &[u8], member: &[u8]) -> usize

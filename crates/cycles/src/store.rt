@@ -32,18 +32,10 @@ pub struct Stores<'a> {
 }
 
 /// The readings of a line: a flag for each entity, and a value for each of its cells.
-#[derive(Drop)]
+#[derive(Clone, Copy)]
 pub struct Inputs<'a> {
     pub flags: &'a [u8],
     pub cells: &'a [u8],
-}
-
-impl<'a> Model for Inputs<'a> {
-    ghost use Rattle.cycles.specs.inner_contracts.Bundles.{StoreMemory};
-
-    ghost Value = { StoreMemory };
-
-    ghost view = { λ i. record { flags = i.flags.now; cells = i.cells.now } };
 }
 
 impl<'a> Store<'a> {

@@ -4,14 +4,14 @@ ghost use Rattle.sheets.specs.definitions.Layout;
 ghost use Rattle.sheets.specs.definitions.Sizes;
 ghost use Rattle.cycles.specs.definitions.Readings.{lines};
 ghost use Rattle.senders.specs.definitions.StateImage;
-ghost use Rattle.cycles.specs.inner_contracts.HeaderReads;
+ghost use Rattle.cycles.specs.inner_contracts.Bundles.{of_bench, of_rules};
 ghost use Rattle.days.specs.definitions.DaySheet.{line_feeds, sheet_size};
 ghost use Rattle.days.specs.inner_contracts.Choosing;
 ghost use Rattle.days.specs.inner_contracts.SheetMemory.{LineEnd, Stepped, DayPut, SheetPut};
 
 use crate::choosing::{choose, read_chosen, real_cells};
-use checking::Columns;
-use cycles::header::read_header;
+use cycles::Rules;
+use cycles::header::{Header, read_header};
 use cycles::layout::MOST_COLUMNS;
 use senders::fingerprint::fingerprint;
 use senders::layout::STATE;
@@ -74,41 +74,21 @@ fn line_end(readings: &[u8], at: usize) -> usize
 }
 
 // Takes a record: the number of a new line, or 0 for any other, which leaves the state.
-fn step(
-    classes: &[u8],
-    literals: &[u32],
-    d: &[u16],
-    refs: &[u16],
-    scopes: &[u8],
-    columns: &[u16],
-    width: usize,
-    values: &[u8],
-    state: &mut [u8],
-) -> u32
-    requires width_in_bounds { (width ≤ length columns.now) × ((k : ℕ) → k < width → get_or columns.now k 0 < HeaderReads.NO_COLUMN) }
-    requires in_bounds { StateImage.STATE ≤ length state.old }
-    ensures { Stepped classes.now literals.now d.now refs.now scopes.now columns.now width
-        values.now state.old state.new result }
+fn step(rules: &Rules<'_>, header: &Header<'_>, values: &[u8], state: &mut [u8]) -> u32
+    requires { StateImage.STATE ≤ length state.old }
+    ensures { of_rules Stepped rules.now header.now.columns.now (length header.now.columns.now) values.now state.old state.new result }
 {
-    let judgement = advance(
-        classes, literals, d, refs, scopes, columns, width, values, state,
-    );
-    match judgement {
+    match advance(rules, header, values, state) {
         Judgement::Refused(_) => 0,
-        Judgement::New { place: _, number } => number,
+        Judgement::New { number, .. } => number,
         Judgement::Resent(_) => 0,
     }
 }
 
 // The lines from `from` on, and the closing rows: writes the sheet to the front and answers its length. The state moves on.
 fn put_day(
-    classes: &[u8],
-    literals: &[u32],
-    d: &[u16],
-    refs: &[u16],
-    scopes: &[u8],
-    columns: &[u16],
-    width: usize,
+    rules: &Rules<'_>,
+    header: &Header<'_>,
     spots: &[u16],
     count: usize,
     readings: &[u8],
@@ -116,39 +96,27 @@ fn put_day(
     state: &mut [u8],
     sheet: &mut [u8],
 ) -> usize
-    requires width_in_bounds { (width ≤ length columns.now) × ((k : ℕ) → k < width → get_or columns.now k 0 < HeaderReads.NO_COLUMN) }
     requires count_bound { (count ≤ Layout.MOST_CHOSEN) × (count ≤ length spots.now) × ((k : ℕ) → k < count → get_or spots.now k 0 < Choosing.NO_SPOT) }
     requires in_bounds { StateImage.STATE ≤ length state.old }
     requires readings_in_bounds { Layout.MOST_CHOSEN * Sizes.MOST_CLOSING_BYTES + Sizes.MOST_LINE_BYTES * length (lines (drop from readings.now)) ≤ length sheet.old }
-    ensures { DayPut classes.now literals.now d.now refs.now scopes.now columns.now width
-        spots.now count readings.now from state.old sheet.old sheet.new result }
+    ensures { of_rules DayPut rules.now header.now.columns.now (length header.now.columns.now) spots.now count readings.now from state.old sheet.old sheet.new result }
 {
     let mut folds = no_folds();
     let mut end: usize = 0;
     let mut at = from;
     while at < readings.len() {
         let stop = line_end(readings, at);
-        let number = step(
-            classes,
-            literals,
-            d,
-            refs,
-            scopes,
-            columns,
-            width,
-            &readings[at..stop],
-            state,
-        );
+        let number = step(rules, header, &readings[at..stop], state);
         at = stop + 1;
         if number == 0 {
             continue;
         }
-        let values = read_chosen(d, state, spots, count);
+        let values = read_chosen(rules.columns.d, state, spots, count);
         end = put_line(sheet, end, number as u64, values, count);
         let more = folded_values(folds, values, count);
         folds = more;
     }
-    let reals = real_cells(classes, d, spots, count);
+    let reals = real_cells(rules.columns.classes, rules.columns.d, spots, count);
     put_closings(sheet, end, reals, folds, count)
 }
 
@@ -163,14 +131,7 @@ fn copy_state(state: &[u8], copy: &mut [u8])
 
 // The sheet on a bench in columns, whose rules' names are resolved.
 pub fn put_sheet(
-    text: &[u8],
-    classes: &[u8],
-    offsets: &[u16],
-    lengths: &[u8],
-    literals: &[u32],
-    d: &[u16],
-    refs: &[u16],
-    scopes: &[u8],
+    rules: &Rules<'_>,
     state: &[u8],
     readings: &[u8],
     cells: &[u8],
@@ -178,41 +139,29 @@ pub fn put_sheet(
 ) -> Sheeted
     requires in_bounds { StateImage.STATE ≤ length state.now }
     requires readings_in_bounds { sheet_size readings.now ≤ length sheet.old }
-    ensures { SheetPut text.now classes.now offsets.now lengths.now literals.now d.now
-        refs.now scopes.now state.now readings.now cells.now sheet.old
-        sheet.new result }
+    ensures { of_bench SheetPut rules.now state.now readings.now cells.now sheet.old sheet.new result }
 {
-    if !is_state(classes, d, fingerprint(text), state) {
+    let bench = &rules.columns;
+    if !is_state(bench, fingerprint(bench.text), state) {
         return Sheeted::Refused(33);
     }
     let mut spots = [0u16; MOST_CHOSEN];
-    let bench = Columns {
-        text,
-        classes,
-        offsets,
-        lengths,
-        d,
-    };
-    let count = choose(&bench, cells, &mut spots);
+    let count = choose(bench, cells, &mut spots);
     if MOST_CHOSEN < count {
         return Sheeted::Refused(41);
     }
     let end = line_end(readings, 0);
     let mut columns = [0u16; MOST_COLUMNS];
-    let width = read_header(&bench, &readings[0..end], &mut columns);
+    let width = read_header(bench, &readings[0..end], &mut columns);
     if MOST_COLUMNS < width {
         return Sheeted::Refused(22);
     }
+    let header = Header::new(&columns, width);
     let mut copy = [0u8; STATE];
     copy_state(state, &mut copy);
     Sheeted::Length(put_day(
-        classes,
-        literals,
-        d,
-        refs,
-        scopes,
-        &columns,
-        width,
+        rules,
+        &header,
         &spots,
         count,
         readings,

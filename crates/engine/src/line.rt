@@ -7,7 +7,8 @@ ghost use Rattle.engine.specs.inner_contracts.LineMemory.{RecordTaken, LineTaken
 
 use crate::refusal::Refusal;
 use checking::Columns;
-use cycles::header::read_header;
+use cycles::Rules;
+use cycles::header::{Header, read_header};
 use cycles::layout::MOST_COLUMNS;
 use senders::fingerprint::fingerprint;
 use senders::{Judgement, advance, is_state, show_place};
@@ -32,13 +33,25 @@ pub fn take_record(
     ensures { RecordTaken classes.now literals.now d.now refs.now scopes.now columns.now count
         values.now state.old row.old state.new row.new result }
 {
-    let judgement = advance(
-        classes, literals, d, refs, scopes, columns, count, values, state,
-    );
+    let bench = Columns {
+        text: &[],
+        classes,
+        offsets: &[],
+        lengths: &[],
+        d,
+    };
+    let rules = Rules {
+        columns: bench,
+        literals,
+        references: refs,
+        scopes,
+    };
+    let header = Header::new(columns, count);
+    let judgement = advance(&rules, &header, values, state);
     match judgement {
         Judgement::Refused(code) => Err(Refusal::Line(code)),
-        Judgement::New { place, number } => Ok(show_place(classes, d, state, place, row)),
-        Judgement::Resent(place) => Ok(show_place(classes, d, state, place, row)),
+        Judgement::New { place, number } => Ok(show_place(&bench, state, place, row)),
+        Judgement::Resent(place) => Ok(show_place(&bench, state, place, row)),
     }
 }
 
@@ -63,10 +76,6 @@ pub fn take_line(
         refs.now scopes.now names.now values.now state.old row.old state.new
         row.new result }
 {
-    if !is_state(classes, d, fingerprint(text), state) {
-        return Err(Refusal::NoState);
-    }
-    let mut columns = [0u16; MOST_COLUMNS];
     let bench = Columns {
         text,
         classes,
@@ -74,6 +83,10 @@ pub fn take_line(
         lengths,
         d,
     };
+    if !is_state(&bench, fingerprint(text), state) {
+        return Err(Refusal::NoState);
+    }
+    let mut columns = [0u16; MOST_COLUMNS];
     let count = read_header(&bench, names, &mut columns);
     if MOST_COLUMNS < count {
         return Err(Refusal::Header);

@@ -105,16 +105,14 @@ impl<'a> Bench<'a> {
             directory,
             ..
         } = self;
-        put_fresh(
+        let columns = Columns {
             text,
             classes,
             offsets,
             lengths,
-            literals,
-            directory,
-            fingerprint(text),
-            state,
-        );
+            d: directory,
+        };
+        put_fresh(&columns, literals, fingerprint(text), state);
     }
 
     /// Writes the row of names: its length.
@@ -150,16 +148,25 @@ impl<'a> Bench<'a> {
         let Bench {
             text,
             classes,
+            offsets,
+            lengths,
             directory,
             ..
         } = self;
-        if !is_state(classes, directory, fingerprint(text), state) {
+        let columns = Columns {
+            text,
+            classes,
+            offsets,
+            lengths,
+            d: directory,
+        };
+        if !is_state(&columns, fingerprint(text), state) {
             return Err(Refusal::NoState);
         }
         if !is_sender(sender) {
             return Err(Refusal::IllFormedSender);
         }
-        Ok(show(classes, directory, state, sender, row))
+        Ok(show(&columns, state, sender, row))
     }
 
     /// Resolves the names of the rules.
@@ -244,10 +251,20 @@ impl<'a> Rules<'a> {
             references,
             scopes,
         } = self;
-        match put_sheet(
-            text, classes, offsets, lengths, literals, directory, references, scopes, state,
-            readings, cells, sheet,
-        ) {
+        let columns = Columns {
+            text,
+            classes,
+            offsets,
+            lengths,
+            d: directory,
+        };
+        let rules = cycles::Rules {
+            columns,
+            literals,
+            references,
+            scopes,
+        };
+        match put_sheet(&rules, state, readings, cells, sheet) {
             Sheeted::Refused(code) => Err(Refusal::Sheet(code)),
             Sheeted::Length(length) => Ok(length),
         }

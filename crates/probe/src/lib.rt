@@ -85,11 +85,18 @@ fn put_tried(
     ensures { PutTried text.now classes.now offsets.now lengths.now d.now before.now
         after.now tried.old tried.new result }
 {
+    let columns = Columns {
+        text,
+        classes,
+        offsets,
+        lengths,
+        d,
+    };
     let print = fingerprint(text);
-    if !is_state(classes, d, print, before) {
+    if !is_state(&columns, print, before) {
         return 33;
     }
-    if !is_state(classes, d, print, after) {
+    if !is_state(&columns, print, after) {
         return 33;
     }
     resolve(text, classes, offsets, lengths, d, refs, scopes);

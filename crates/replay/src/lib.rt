@@ -14,6 +14,7 @@ ghost use Rattle.replay.specs.inner_contracts.Awaiting.{bench_memory};
 ghost use Rattle.replay.specs.inner_contracts.Feeding;
 ghost use Rattle.replay.specs.inner_contracts.Feeding.{Lent, Fed, Finished, Starts, is_over, is_closed};
 
+use checking::Columns;
 use checking::check::{Checked, check};
 use cycles::layout::MOST_ROW_BYTES;
 use gathering::gather;
@@ -86,16 +87,14 @@ pub fn start(
         }
         Checked::Accepted(n) => {
             resolve(text, &classes[0..n], offsets, lengths, d, refs, scopes);
-            put_fresh(
+            let columns = Columns {
                 text,
-                &classes[0..n],
+                classes: &classes[0..n],
                 offsets,
                 lengths,
-                literals,
                 d,
-                fingerprint(text),
-                state,
-            );
+            };
+            put_fresh(&columns, literals, fingerprint(text), state);
             Begun {
                 rows: n,
                 stage: Stage::Names,

@@ -3,8 +3,8 @@ ghost use Rattle.std.specs.Prelude.{◌≡◌, ◌+◌, ◌-◌, ◌*◌, ◌≤
 ghost use Rattle.values.specs.inner_contracts.Puts.{Put};
 ghost use Rattle.values.specs.definitions.Bytes.{same_bytes};
 ghost use Rattle.checking.specs.definitions.CountFaults;
-ghost use Rattle.checking.specs.inner_contracts.Directory;
 ghost use Rattle.cycles.specs.definitions.Planes;
+ghost use Rattle.cycles.specs.inner_contracts.Bundles.{of_members, entities_of};
 ghost use Rattle.senders.specs.definitions.Sender;
 ghost use Rattle.senders.specs.definitions.StateImage;
 ghost use Rattle.senders.specs.definitions.StateImage.{sender_size, image_size, part_name, is_padded, is_sender_head};
@@ -12,6 +12,7 @@ ghost use Rattle.senders.specs.inner_contracts.SenderMemory.{PlaceRead, PartTest
 
 use crate::layout::{HEAD_BYTES, MOST_NAME_BYTES, NAME_PLACE, SENDER_HEAD_BYTES};
 use crate::names::is_sender;
+use checking::Columns;
 use checking::layout::ENTITY_COUNT_ROW;
 use cycles::layout::{CELL_BYTES, ENTITY_BYTES, ENTITY_CELLS};
 use cycles::planes::NO_TOKEN;
@@ -111,29 +112,34 @@ fn is_sender_head(part: &[u8]) -> bool
 }
 
 #[tactic(auto, using(crate::proofs::steps::PartSteps::head_fails, crate::proofs::steps::PartSteps::plane_says))]
-fn is_sender_part(classes: &[u8], d: &[u16], part: &[u8]) -> bool
-    requires { sender_size (get_or d.now Directory.ENTITY_COUNT_ROW 0) ≤ length part.now }
-    ensures { PartTest classes.now d.now part.now result }
+fn is_sender_part(columns: &Columns<'_>, part: &[u8]) -> bool
+    requires { sender_size (entities_of columns.now) ≤ length part.now }
+    ensures { of_members PartTest columns.now part.now result }
 {
     if !is_sender_head(part) {
         return false;
     }
-    plane_fits(Plane::Kept, classes, d, &part[SENDER_HEAD_BYTES..])
+    plane_fits(
+        Plane::Kept,
+        columns.classes,
+        columns.d,
+        &part[SENDER_HEAD_BYTES..],
+    )
 }
 
 // Are these `count` parts of senders, no two of one name?
 #[tactic(auto, using(crate::proofs::steps::PartSteps::parts_begin, crate::proofs::steps::PartSteps::part_fails))]
-pub fn are_senders(classes: &[u8], d: &[u16], parts: &[u8], count: usize) -> bool
-    requires d_bound { get_or d.now Directory.ENTITY_COUNT_ROW 0 ≤ CountFaults.MOST_ENTITIES }
-    requires count_bound { (count ≤ Sender.MOST_SENDERS) × (count * sender_size (get_or d.now Directory.ENTITY_COUNT_ROW 0) ≤ length parts.now) }
-    ensures { PartsTest classes.now d.now parts.now count result }
+pub fn are_senders(columns: &Columns<'_>, parts: &[u8], count: usize) -> bool
+    requires few_entities { entities_of columns.now ≤ CountFaults.MOST_ENTITIES }
+    requires count_bound { (count ≤ Sender.MOST_SENDERS) × (count * sender_size (entities_of columns.now) ≤ length parts.now) }
+    ensures { of_members PartsTest columns.now parts.now count result }
 {
-    let size = SENDER_HEAD_BYTES + ENTITY_BYTES * checking::row(d, ENTITY_COUNT_ROW);
+    let size = SENDER_HEAD_BYTES + ENTITY_BYTES * columns.row(ENTITY_COUNT_ROW);
     let mut at = 0;
     let mut left = count;
     while 0 < left {
         let part = &parts[at..];
-        if !is_sender_part(classes, d, part) {
+        if !is_sender_part(columns, part) {
             return false;
         }
         at += size;
@@ -159,20 +165,20 @@ fn put_kept_cell(classes: &[u8], token: usize, fired: &[u8], i: usize, inputs: &
 
 // Makes of a line's inputs, of n entities, what is kept of them: of an action what was fired, of any other cell its reading, which stands there.
 #[tactic(auto, using(crate::proofs::steps::KeptSteps::none_kept, crate::proofs::steps::KeptSteps::rest_kept, crate::proofs::steps::KeptSteps::all_kept))]
-pub fn put_kept(classes: &[u8], d: &[u16], n: usize, fired: &[u8], inputs: &mut [u8])
+pub fn put_kept(columns: &Columns<'_>, n: usize, fired: &[u8], inputs: &mut [u8])
     requires { (Planes.ENTITY_CELL_BYTES * n ≤ length fired.now) × (Planes.ENTITY_CELL_BYTES * n ≤ length inputs.old) }
-    ensures { KeptPut classes.now d.now inputs.old fired.now (Planes.ENTITY_CELLS * n) inputs.old
+    ensures { of_members KeptPut columns.now inputs.old fired.now (Planes.ENTITY_CELLS * n) inputs.old
         inputs.new }
 {
     let end = ENTITY_CELLS * n;
     let mut i = 0;
     while i < end {
-        let token = cell_token(d, i);
+        let token = cell_token(columns.d, i);
         if NO_TOKEN <= token {
             // its entity has no further member
             i = i - i % ENTITY_CELLS + ENTITY_CELLS;
         } else {
-            put_kept_cell(classes, token, fired, i, inputs);
+            put_kept_cell(columns.classes, token, fired, i, inputs);
             i += 1;
         }
     }

@@ -1,9 +1,8 @@
 // A record on a checked bench whose rules' names are resolved: what a state says to it, and the memory that it leaves of the state's.
-ghost use Rattle.std.specs.Prelude.{ℕ, ◌≤◌, ◌<◌, length, get_or};
+ghost use Rattle.std.specs.Prelude.{◌≤◌, ◌<◌, length};
 ghost use Rattle.checking.specs.definitions.CountFaults;
-ghost use Rattle.checking.specs.inner_contracts.Directory;
 ghost use Rattle.cycles.specs.definitions.Planes;
-ghost use Rattle.cycles.specs.inner_contracts.HeaderReads;
+ghost use Rattle.cycles.specs.inner_contracts.Bundles.{entities_of, of_members, of_rules};
 ghost use Rattle.senders.specs.definitions.Sender;
 ghost use Rattle.senders.specs.definitions.StateImage;
 ghost use Rattle.senders.specs.inner_contracts.Advancing.{LastRead, ResentRead, Followed, Settled, SentTaken, Advanced};
@@ -17,6 +16,7 @@ use crate::parts::{part_at, place_of, put_kept, put_sender};
 use checking::Columns;
 use checking::layout::{ENTITY_COUNT_ROW, MOST_ENTITIES};
 use cycles::cycle::cycle;
+use cycles::header::Header;
 use cycles::layout::{ENTITY_BYTES, ENTITY_CELLS, MOST_CELL_BYTES};
 use cycles::record::{Sent, clear_cells, clear_flags, read_sent, read_values};
 use cycles::{Inputs, Rules, number};
@@ -34,22 +34,20 @@ fn last_of(state: &[u8], n: usize, place: usize) -> u32
     number(&state[at..])
 }
 
-// Is a line of that number, whose inputs stand in `flags` and `cells`, the last one of the sender at that place?
+// Is a line of that number and those inputs the last one of the sender at that place?
 #[tactic(auto, using(crate::proofs::steps::ResentSteps::resent_not_known, crate::proofs::steps::ResentSteps::resent_not_last))]
 fn is_resent(
-    classes: &[u8],
-    d: &[u16],
+    columns: &Columns<'_>,
     state: &[u8],
     place: usize,
     line: u64,
-    flags: &[u8],
-    cells: &[u8],
+    inputs: &Inputs<'_>,
 ) -> bool
-    requires d_bound { (get_or d.now Directory.ENTITY_COUNT_ROW 0 ≤ CountFaults.MOST_ENTITIES) × (place < Sender.MOST_SENDERS) × (StateImage.STATE ≤ length state.now) }
-    requires in_bounds { (CountFaults.MOST_ENTITIES ≤ length flags.now) × (Planes.MOST_CELL_BYTES ≤ length cells.now) }
-    ensures { ResentRead classes.now d.now state.now place line flags.now cells.now result }
+    requires state { (entities_of columns.now ≤ CountFaults.MOST_ENTITIES) × (place < Sender.MOST_SENDERS) × (StateImage.STATE ≤ length state.now) }
+    requires inputs { (CountFaults.MOST_ENTITIES ≤ length inputs.now.flags.now) × (Planes.MOST_CELL_BYTES ≤ length inputs.now.cells.now) }
+    ensures { of_members ResentRead columns.now state.now place line inputs.now.flags.now inputs.now.cells.now result }
 {
-    let n = checking::row(d, ENTITY_COUNT_ROW);
+    let n = columns.row(ENTITY_COUNT_ROW);
     if state[COUNT_AT] as usize <= place {
         return false;
     }
@@ -57,16 +55,12 @@ fn is_resent(
         return false;
     }
     let plane = part_at(n, place) + SENDER_HEAD_BYTES;
-    same_readings(classes, d, &state[plane..], flags, cells)
+    same_readings(columns, &state[plane..], inputs)
 }
 
 // A new line: the cycle, and the entry of its sender. The memory of its inputs is made to what is kept.
 fn follow(
-    classes: &[u8],
-    literals: &[u32],
-    d: &[u16],
-    refs: &[u16],
-    scopes: &[u8],
+    rules: &Rules<'_>,
     name: &[u8],
     place: usize,
     last: u32,
@@ -74,30 +68,17 @@ fn follow(
     cells: &mut [u8],
     state: &mut [u8],
 )
-    requires d_bound { (get_or d.now Directory.ENTITY_COUNT_ROW 0 ≤ CountFaults.MOST_ENTITIES) × (place < Sender.MOST_SENDERS) × (length name.now ≤ Sender.MOST_NAME_BYTES) }
+    requires sender { (entities_of rules.now.columns ≤ CountFaults.MOST_ENTITIES) × (place < Sender.MOST_SENDERS) × (length name.now ≤ Sender.MOST_NAME_BYTES) }
     requires in_bounds { (CountFaults.MOST_ENTITIES ≤ length flags.now) × (Planes.MOST_CELL_BYTES ≤ length cells.old) × (StateImage.STATE ≤ length state.old) }
-    ensures { Followed classes.now literals.now d.now refs.now scopes.now name.now place last
-        flags.now cells.old state.old state.new }
+    ensures { of_rules Followed rules.now name.now place last flags.now cells.old state.old state.new }
 {
-    let n = checking::row(d, ENTITY_COUNT_ROW);
+    let n = rules.row(ENTITY_COUNT_ROW);
     let known = state[COUNT_AT] as usize;
     let now = HEAD_BYTES + n;
     let part = part_at(n, place);
-    let rules = Rules {
-        columns: Columns {
-            text: &[],
-            classes,
-            offsets: &[],
-            lengths: &[],
-            d,
-        },
-        literals,
-        references: refs,
-        scopes,
-    };
     let inputs = Inputs { flags, cells };
-    cycle(&rules, &inputs, &mut state[HEAD_BYTES..]);
-    put_kept(classes, d, n, &state[now..], cells);
+    cycle(rules, &inputs, &mut state[HEAD_BYTES..]);
+    put_kept(&rules.columns, n, &state[now..], cells);
     put_sender(&mut state[part..], n, name, last, flags, cells);
     if known == place {
         state[COUNT_AT] = (place + 1) as u8;
@@ -107,11 +88,7 @@ fn follow(
 // What a state says to a line that is read; `flags` and `cells` have its inputs. A new line moves the state on, a retransmission leaves it.
 #[tactic(auto, using(crate::proofs::laws::RecordLaws::settled_early))]
 fn settle(
-    classes: &[u8],
-    literals: &[u32],
-    d: &[u16],
-    refs: &[u16],
-    scopes: &[u8],
+    rules: &Rules<'_>,
     name: &[u8],
     place: usize,
     line: u64,
@@ -119,16 +96,16 @@ fn settle(
     cells: &mut [u8],
     state: &mut [u8],
 ) -> Judgement
-    requires d_bound { (get_or d.now Directory.ENTITY_COUNT_ROW 0 ≤ CountFaults.MOST_ENTITIES) × (place < Sender.MOST_SENDERS) × (length name.now ≤ Sender.MOST_NAME_BYTES) }
+    requires sender { (entities_of rules.now.columns ≤ CountFaults.MOST_ENTITIES) × (place < Sender.MOST_SENDERS) × (length name.now ≤ Sender.MOST_NAME_BYTES) }
     requires in_bounds { (CountFaults.MOST_ENTITIES ≤ length flags.now) × (Planes.MOST_CELL_BYTES ≤ length cells.old) × (StateImage.STATE ≤ length state.old) }
-    ensures { Settled classes.now literals.now d.now refs.now scopes.now name.now place line
-        flags.now cells.old state.old state.new result }
+    ensures { of_rules Settled rules.now name.now place line flags.now cells.old state.old state.new result }
 {
-    let n = checking::row(d, ENTITY_COUNT_ROW);
-    if is_resent(classes, d, state, place, line, flags, cells) {
+    let n = rules.row(ENTITY_COUNT_ROW);
+    let inputs = Inputs { flags, cells };
+    if is_resent(&rules.columns, state, place, line, &inputs) {
         return Judgement::Resent(place);
     }
-    if !takes_cells(n, &state[HEAD_BYTES..], flags, cells) {
+    if !takes_cells(n, &state[HEAD_BYTES..], &inputs) {
         return Judgement::Refused(23);
     }
     let last = last_of(state, n, place);
@@ -139,33 +116,24 @@ fn settle(
         return Judgement::Refused(25);
     }
     let number = (line % NUMBERS_BELOW) as u32;
-    follow(
-        classes, literals, d, refs, scopes, name, place, number, flags, cells, state,
-    );
+    follow(rules, name, place, number, flags, cells, state);
     Judgement::New { place, number }
 }
 
 // A record whose sender and number are read. The memory is a state.
 #[tactic(auto, using(crate::proofs::laws::SentLaws::sent_refused, crate::proofs::steps::SentSteps::sender_short))]
 fn take_sent(
-    classes: &[u8],
-    literals: &[u32],
-    d: &[u16],
-    refs: &[u16],
-    scopes: &[u8],
-    columns: &[u16],
-    count: usize,
+    rules: &Rules<'_>,
+    header: &Header<'_>,
     values: &[u8],
     name: &[u8],
     line: u64,
     state: &mut [u8],
 ) -> Judgement
-    requires count_in_bounds { (count ≤ length columns.now) × ((k : ℕ) → k < count → get_or columns.now k 0 < HeaderReads.NO_COLUMN) }
-    requires in_bounds { StateImage.STATE ≤ length state.old }
-    ensures { SentTaken classes.now literals.now d.now refs.now scopes.now columns.now count
-        values.now name.now line state.old state.new result }
+    requires { StateImage.STATE ≤ length state.old }
+    ensures { of_rules SentTaken rules.now header.now.columns.now (length header.now.columns.now) values.now name.now line state.old state.new result }
 {
-    let n = checking::row(d, ENTITY_COUNT_ROW);
+    let n = rules.row(ENTITY_COUNT_ROW);
     let known = state[COUNT_AT] as usize;
     // neither, where the memory is a state of a bench
     if MOST_ENTITIES < n {
@@ -192,47 +160,31 @@ fn take_sent(
     let mut cells = [0u8; MOST_CELL_BYTES];
     clear_flags(&mut flags, n);
     clear_cells(&mut cells, ENTITY_CELLS * n);
-    if !read_values(classes, d, values, columns, count, &mut flags, &mut cells) {
+    if !read_values(
+        rules.columns.classes,
+        rules.columns.d,
+        values,
+        header.columns,
+        header.columns.len(),
+        &mut flags,
+        &mut cells,
+    ) {
         return Judgement::Refused(23);
     }
-    settle(
-        classes, literals, d, refs, scopes, name, place, line, &flags, &mut cells, state,
-    )
+    settle(rules, name, place, line, &flags, &mut cells, state)
 }
 
-// A record under a header that is read: `columns` has the numbers of its columns. The memory is a state.
+/// A record under a header. The memory is a state.
 #[tactic(auto, using(crate::proofs::laws::SentLaws::got_size))]
-pub fn advance(
-    classes: &[u8],
-    literals: &[u32],
-    d: &[u16],
-    refs: &[u16],
-    scopes: &[u8],
-    columns: &[u16],
-    count: usize,
-    values: &[u8],
-    state: &mut [u8],
-) -> Judgement
-    requires count_in_bounds { (count ≤ length columns.now) × ((k : ℕ) → k < count → get_or columns.now k 0 < HeaderReads.NO_COLUMN) }
-    requires in_bounds { StateImage.STATE ≤ length state.old }
-    ensures { Advanced classes.now literals.now d.now refs.now scopes.now columns.now count
-        values.now state.old state.new result }
+pub fn advance(rules: &Rules<'_>, header: &Header<'_>, values: &[u8], state: &mut [u8]) -> Judgement
+    requires { StateImage.STATE ≤ length state.old }
+    ensures { of_rules Advanced rules.now header.now.columns.now (length header.now.columns.now) values.now state.old state.new result }
 {
-    let sent = read_sent(values, count);
+    let sent = read_sent(values, header.columns.len());
     match sent {
         Sent::Refused => Judgement::Refused(21),
-        Sent::Got { size, number } => take_sent(
-            classes,
-            literals,
-            d,
-            refs,
-            scopes,
-            columns,
-            count,
-            values,
-            &values[0..size],
-            number,
-            state,
-        ),
+        Sent::Got { size, number } => {
+            take_sent(rules, header, values, &values[0..size], number, state)
+        }
     }
 }

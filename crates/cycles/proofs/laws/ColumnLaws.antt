@@ -8,8 +8,9 @@ use mathlib.Core.List.Memᴰ
 use mathlib.Core.List.{List, [], ◌∷◌, map}
 use mathlib.Core.Option.{Option, none, some}
 use lib.Dec.{eqb}
-use lib.ListN.{length, get_or, set}
+use lib.ListN.{length, get_or, set, take}
 use lib.Seq.{get_or-set_same, get_or-set_other}
+use Rattle.std.proofs.lemmas.List.{get_or-take}
 use borrow.Author.Tests.{eq-eqb, ne_eqb, eqb-true, eqb-false}
 use Rattle.text.proofs.laws.ListLaws.{All}
 use Rattle.cycles.specs.definitions.Spots.{Spot}
@@ -149,6 +150,12 @@ unfolding backwards
 backwards_set k l v h =
     let n : k + 1 ≡ suc k = omega arith in
     rw n (ap₂ ◌∷◌ (get_or-set_same l k v 0 h) (backwards_below k l k v (omega arith)))
+
+-- the columns behind the first n are not among the first n
+pub backwards_taken : (k n : ℕ) (l : List ℕ) → k ≤ n → backwards k (take n l) ≡ backwards k l
+unfolding backwards
+backwards_taken zero n l h = refl
+backwards_taken (suc k) n l h = ap₂ ◌∷◌ (get_or-take n l k 0 (omega arith)) (backwards_taken k n l (omega arith))
 
 pub apart_at : (n : ℕ) (k : ℕ) (l : List ℕ) → ApartBelow n (backwards k l) → (i : ℕ) → i < k → get_or l i 0 < n
 unfolding backwards

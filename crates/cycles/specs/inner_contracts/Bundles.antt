@@ -1,12 +1,26 @@
 -- What is lent together, as the lists that stand in it.
-use Rattle.std.specs.Prelude.{ℕ}
+use Rattle.std.specs.Prelude.{ℕ, get_or}
 use mathlib.Core.List.{List}
+use Rattle.checking.specs.declared.columns.Columns.{Columns}
+use Rattle.checking.specs.inner_contracts.Directory.{ENTITY_COUNT_ROW}
 use Rattle.cycles.specs.declared.rules.Rules.{Rules}
 
 -- a store in memory: a flag for each entity, and its cells
 pub record StoreMemory : Type 0 where
   pub flags : List ℕ
   pub cells : List ℕ
+
+-- what is said of lists, said of the columns that are lent together: of the classes and the directory, which say what members a file has
+abbrev pub of_members : {R : Type 1} → (List ℕ → List ℕ → R) → Columns → R
+of_members p c = p c.classes.now c.d.now
+
+-- of all of them, and what the literals read
+abbrev pub of_literals : {R : Type 1} → (List ℕ → List ℕ → List ℕ → List ℕ → List ℕ → List ℕ → R) → Columns → List ℕ → R
+of_literals p c literals = p c.text.now c.classes.now c.offsets.now c.lengths.now literals c.d.now
+
+-- how many entities the directory says
+abbrev pub entities_of : Columns → ℕ
+entities_of c = get_or c.d.now ENTITY_COUNT_ROW 0
 
 -- what is said of lists, said of the rules that are lent together: all that they read of a bench
 abbrev pub of_rules : {R : Type 1} → (List ℕ → List ℕ → List ℕ → List ℕ → List ℕ → R) → Rules → R

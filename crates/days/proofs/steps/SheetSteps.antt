@@ -23,7 +23,7 @@ use Rattle.senders.specs.inner_contracts.SenderMemory.{StateTest}
 use Rattle.senders.specs.inner_contracts.Advancing.{ResolvedBench}
 use Rattle.senders.proofs.laws.StateLaws.{state_decoded, no_state}
 use Rattle.senders.proofs.laws.StandsLaws.{fingerprint_below}
-use Rattle.cycles.specs.inner_contracts.HeaderReads.{MOST_COLUMNS, HeaderIs, HeaderRead}
+use Rattle.cycles.specs.inner_contracts.HeaderReads.{MOST_COLUMNS, backwards, HeaderIs, HeaderRead}
 use Rattle.cycles.proofs.laws.CellTokenLaws.{few_within}
 use Rattle.cycles.specs.inner_contracts.RowMemory.{InFront}
 use Rattle.cycles.proofs.laws.PutLaws.{put_in_front}
@@ -44,6 +44,30 @@ put_stands {bytes} {m} {new_m} {r} put h =
     let e = put.end in
     let z : r ≡ length bytes = omega arith in
     (ap Length z, subst (λ (n : ℕ). InFront bytes m new_m n) z (put_in_front put (omega arith)))
+
+-- a day under a header's columns, those that stand among more
+pub day_taken : {classes literals d refs scopes taken columns spots readings state m new_m : List ℕ} {width count from r : ℕ}
+    → length taken ≡ width → backwards width taken ≡ backwards width columns
+    → DayPut classes literals d refs scopes taken (length taken) spots count readings from state m new_m r
+    → DayPut classes literals d refs scopes columns width spots count readings from state m new_m r
+day_taken {taken = taken} size same p = record {
+  is = λ g. p.is (record {
+    text = g.text;
+    offsets = g.offsets;
+    lengths = g.lengths;
+    bench = g.bench;
+    names = g.names;
+    cs = g.cs;
+    header_is = g.header_is;
+    columns_are = g.columns_are ∙ sym same ∙ ap (λ (k : ℕ). backwards k taken) (sym size);
+    cells = g.cells;
+    ps = g.ps;
+    chosen_is = g.chosen_is;
+    spots_are = g.spots_are;
+    before = g.before;
+    state_is = g.state_is;
+  });
+}
 
 -- the copy of a state
 pub copy_made : (c state : List ℕ) → length c ≡ STATE → STATE ≤ length state → overwritten c 0 (take (STATE - 0) state) ≡ take STATE state

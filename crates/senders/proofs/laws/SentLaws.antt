@@ -236,3 +236,13 @@ module _ (classes literals d refs scopes columns : List ℕ) (count : ℕ) (valu
 
 -- a record that is refused before its place is sought
 pub ruleset sent_refused = (sent_impossible, sent_too_many, sent_ill_formed)
+
+-- of a header's columns, those that stand among more
+pub advanced_taken : {classes literals d refs scopes taken columns values state new_state : List ℕ} {count : ℕ} {r : Judgement}
+    → length taken ≡ count → backwards count taken ≡ backwards count columns
+    → Advanced classes literals d refs scopes taken (length taken) values state new_state r
+    → Advanced classes literals d refs scopes columns count values state new_state r
+advanced_taken {taken = taken} size same a = record {
+  is = λ text offsets lengths b print s e names cs h m.
+      a.is text offsets lengths b print s e names cs h (m ∙ sym same ∙ ap (λ (k : ℕ). backwards k taken) (sym size));
+}

@@ -4,7 +4,7 @@ use Rattle.std.proofs.Common.{◌*◌, ◌-◌}
 use Rattle.senders.proofs.judge.same_readings.Given as goal
 
 abbrev pub invariant-loop-i : goal.invariant-loop-i
-invariant-loop-i l = ReadingsPassed l.classes l.d l.kept l.cells (12 * l.n) l.i
+invariant-loop-i l = ReadingsPassed l.columns.classes.now l.columns.d.now l.kept l.inputs.cells.now (12 * l.n) l.i
 
 abbrev pub decreases-loop-i : goal.decreases-loop-i
 decreases-loop-i l = 12 * l.n - l.i

@@ -8,7 +8,7 @@ abbrev pub invariant-loop-i : goal.invariant-loop-i
 invariant-loop-i l =
     record {
       within : l.i ≤ 12 * l.n;
-      left : each (takes_cell l.present l.flags l.cells) l.i (12 * l.n - l.i) ≡ each (takes_cell l.present l.flags l.cells) 0 (12 * l.n);
+      left : each (takes_cell l.present l.inputs.flags.now l.inputs.cells.now) l.i (12 * l.n - l.i) ≡ each (takes_cell l.present l.inputs.flags.now l.inputs.cells.now) 0 (12 * l.n);
     }
 
 abbrev pub decreases-loop-i : goal.decreases-loop-i

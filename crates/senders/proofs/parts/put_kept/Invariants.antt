@@ -8,7 +8,7 @@ invariant-loop-i l =
     record {
       within : l.i ≤ 12 * l.n;
       long : length l.inputs ≡ length l.fn.inputs;
-      kept : KeptSoFar l.classes l.d l.fn.inputs l.fired l.i l.fn.inputs l.inputs;
+      kept : KeptSoFar l.columns.classes.now l.columns.d.now l.fn.inputs l.fired l.i l.fn.inputs l.inputs;
     }
 
 abbrev pub decreases-loop-i : goal.decreases-loop-i
