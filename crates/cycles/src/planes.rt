@@ -255,23 +255,14 @@ pub fn number(memory: &[u8]) -> u32
     requires { Planes.NUMBER_BYTES ≤ length memory.now }
     ensures { result ≡ word_at Planes.NUMBER_BYTES memory.now 0 }
 {
-    let w3 = values::slices::wide(memory[3]);
-    let w2 = values::slices::wide(memory[2]) + 256 * w3;
-    let w1 = values::slices::wide(memory[1]) + 256 * w2;
-    (values::slices::wide(memory[0]) + 256 * w1) as u32
+    u32::from_le_bytes(*memory.first_chunk::<4>().unwrap())
 }
 
 pub fn put_number(memory: &mut [u8], n: u32)
     requires { Planes.NUMBER_BYTES ≤ length memory.old }
     ensures { memory.new ≡ overwritten memory.old 0 (low_first Planes.NUMBER_BYTES n) }
 {
-    let n1 = n / 256;
-    let n2 = n1 / 256;
-    let n3 = n2 / 256;
-    memory[0] = (n % 256) as u8;
-    memory[1] = (n1 % 256) as u8;
-    memory[2] = (n2 % 256) as u8;
-    memory[3] = (n3 % 256) as u8;
+    memory[0..4].copy_from_slice(&n.to_le_bytes());
 }
 
 // Puts the first bytes of an area, and answers the offset after them.

@@ -7,7 +7,7 @@ ghost use Rattle.cycles.specs.definitions.Record.{as_truth};
 ghost use Rattle.cycles.specs.definitions.Planes;
 ghost use Rattle.cycles.specs.definitions.Planes.{table, presence_flag, input_bytes};
 ghost use Rattle.cycles.specs.inner_contracts.HeaderReads;
-ghost use Rattle.cycles.specs.inner_contracts.LineReads.{SentRead, is_well_formed, said, InputPut, ValuesRead};
+ghost use Rattle.cycles.specs.inner_contracts.LineReads.{SentRead, said, InputPut, ValuesRead};
 
 use crate::fields::{field_end, field_start, first_size, has_byte};
 use crate::layout::{
@@ -15,7 +15,7 @@ use crate::layout::{
 };
 use checking::layout::ENTITY_INTERFACE_ROWS;
 use checking::{member_kind, row};
-use values::{Field, Number, Value, magnitude, put_cell, put_word, read_event, read_presence};
+use values::{Field, Value, magnitude, put_cell, put_word, read_event, read_presence};
 
 // How many bytes at a record's front are its sender's, and its number; or no record.
 #[derive(Clone, Copy)]
@@ -47,24 +47,13 @@ pub fn read_sent(values: &[u8], count: usize) -> Sent
     if digits == 0 {
         return Sent::Refused;
     }
-    let number = magnitude(&values[from..from + digits], 0);
-    match number {
-        Number::Not => Sent::Refused,
-        Number::Is(n) => Sent::Got { size, number: n },
+    match magnitude(&values[from..from + digits]) {
+        None => Sent::Refused,
+        Some(n) => Sent::Got { size, number: n },
     }
 }
 
 // ---- one field
-
-fn well_formed(field: Field) -> bool
-    ensures { result ≡ is_well_formed field }
-{
-    match field {
-        Field::Blank => true,
-        Field::Given(_) => true,
-        Field::Malformed => false,
-    }
-}
 
 // The flag of what a field says of presence.
 #[tactic(auto, unfolding(crate::specs::definitions::Record::as_truth))]
@@ -72,14 +61,9 @@ fn presence_byte(field: Field) -> u8
     ensures { presence_flag (as_truth (said field)) ≡ result ∷ [] }
 {
     match field {
-        Field::Blank => 0,
-        Field::Given(v) => match v {
-            Value::Whole(_) => 0,
-            Value::Truth(b) => { if b { 2 } else { 1 } }
-            Value::Real(_) => 0,
-            Value::Unset => 0,
-        },
-        Field::Malformed => 0,
+        Ok(Some(Value::Truth(true))) => 2,
+        Ok(Some(Value::Truth(false))) => 1,
+        _ => 0,
     }
 }
 
@@ -100,9 +84,8 @@ fn put_said(cells: &mut [u8], i: usize, field: Field)
     ensures { cells.new ≡ overwritten cells.old (i * Planes.CELL_BYTES) (input_bytes (said field)) }
 {
     match field {
-        Field::Blank => put_blank(cells, i),
-        Field::Given(v) => put_cell(cells, i, v),
-        Field::Malformed => put_blank(cells, i),
+        Ok(Some(v)) => put_cell(cells, i, v),
+        _ => put_blank(cells, i),
     }
 }
 
@@ -126,12 +109,12 @@ fn put_input(
     if m == PRESENCE_COLUMN {
         let presence = read_presence(field);
         flags[e] = presence_byte(presence);
-        return well_formed(presence);
+        return presence.is_ok();
     }
     let face = row(d, ENTITY_INTERFACE_ROWS + e);
     let event = read_event(field, member_kind(classes, d, face, m));
     put_said(cells, e * ENTITY_CELLS + m, event);
-    well_formed(event)
+    event.is_ok()
 }
 
 // ---- all of them

@@ -5,7 +5,6 @@ ghost use Rattle.senders.specs.definitions.Fingerprint.{next_fingerprint, finger
 ghost use Rattle.senders.specs.inner_contracts.PrintSums.{SUMS_BELOW};
 
 use crate::layout::{BASE, BASE_CUBED, BASE_SQUARED, HALF, HALF_LEAVES, PRIME, THREE_ONES};
-use values::slices::wide;
 
 // Three bytes more, which still fit 64 bits. A remainder for each would be slow: the high half goes onto the low one instead, times what
 // it leaves.
@@ -13,7 +12,10 @@ fn next_three(print: u64, first: u8, second: u8, third: u8) -> u64
     requires { print < SUMS_BELOW }
     ensures { (result < SUMS_BELOW) × (result % Fingerprint.PRIME ≡ next_fingerprint (next_fingerprint (next_fingerprint (print % Fingerprint.PRIME) first) second) third) }
 {
-    let bytes = wide(first) * BASE_SQUARED + wide(second) * BASE + wide(third) + THREE_ONES;
+    let bytes = u64::from(first) * BASE_SQUARED
+        + u64::from(second) * BASE
+        + u64::from(third)
+        + THREE_ONES;
     let sum = print * BASE_CUBED + bytes;
     sum / HALF * HALF_LEAVES + sum % HALF
 }
@@ -27,7 +29,7 @@ fn print_rest(text: &[u8], at: usize, so_far: u64) -> u32
     let mut print = so_far;
     let mut i = at;
     while i < text.len() {
-        print = (print * BASE + wide(text[i]) + 1) % PRIME;
+        print = (print * BASE + u64::from(text[i]) + 1) % PRIME;
         i += 1;
     }
     print as u32

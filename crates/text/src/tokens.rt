@@ -202,11 +202,8 @@ fn digits_value(digits: &[u8]) -> u64
     ensures { result ≡ digits_value 0 digits.now }
 {
     let mut n: u64 = 0;
-    let mut i: usize = 0;
-    while i < digits.len() {
-        let d = digit_value(digits[i]);
-        n = n * 10 + d;
-        i += 1;
+    for &b in digits {
+        n = n * 10 + digit_value(b);
     }
     n
 }

@@ -16,7 +16,7 @@ pub use operators::{
 };
 pub use slices::{put_bytes, put_word, same_bytes, word_at};
 
-// A cell's value, or unset.
+/// A cell's value, or unset.
 #[derive(Clone, Copy)]
 pub enum Value {
     Whole(i32),
@@ -25,16 +25,16 @@ pub enum Value {
     Unset,
 }
 
-// The kind of a member's cell: whole, bool, real.
-#[derive(Clone, Copy)]
+/// The kind of a member's cell: whole, bool, real.
+#[derive(Clone, Copy, PartialEq, Eq)]
 pub enum Kind {
     Wholes,
     Bools,
     Reals,
 }
 
-// `+`, `-`, `*`, `/`.
-#[derive(Clone, Copy)]
+/// `+`, `-`, `*`, `/`.
+#[derive(Clone, Copy, PartialEq, Eq)]
 pub enum Operator {
     Plus,
     Minus,
@@ -42,17 +42,9 @@ pub enum Operator {
     Divide,
 }
 
-// What a run of digits is: a number, or none.
-#[derive(Clone, Copy)]
-pub enum Number {
-    Is(u64),
-    Not,
-}
+/// A field that has no value's form, or is too large for one.
+#[derive(Clone, Copy, Debug, PartialEq, Eq)]
+pub struct Malformed;
 
-// What a field of a record says of its cell: nothing, a value or unset, or it is ill formed.
-#[derive(Clone, Copy)]
-pub enum Field {
-    Blank,
-    Given(Value),
-    Malformed,
-}
+/// What a field of a record says of its cell: a value or unset; with `None`, nothing.
+pub type Field = Result<Option<Value>, Malformed>;

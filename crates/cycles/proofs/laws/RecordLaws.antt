@@ -9,8 +9,7 @@ use lib.Dec.{leb, eqb}
 use lib.ListN.{length, take, drop, length-take}
 use lib.Seq.{length-take-le}
 use borrow.Author.Tests.{le-leb, lt-leb, eqb-true}
-use Rattle.values.specs.declared.Number.{Number}
-use Rattle.values.specs.declared.Number.TheVariants.{Is, Not}
+use Rattle.std.specs.Prelude.{Option as Read, Some, None}
 use Rattle.values.specs.definitions.Forms.{magnitude}
 use Rattle.text.proofs.laws.ListLaws.{some_injective, none_some}
 use Rattle.cycles.specs.declared.record.Sent.TheVariants.{Refused, Got}
@@ -39,9 +38,9 @@ record_fields count l {r} h = by_tests (leb (length l) 8192 && (not (has_byte 10
     Parts : Sent → Type 0
     Parts r = (n : List ℕ) × (fields l ≡ r.sender ∷ n ∷ r.texts) × (length r.texts ≡ count)
 
-    by_number : (x n : List ℕ) (xs : List (List ℕ)) → fields l ≡ x ∷ n ∷ xs → length xs ≡ count → (m : Number) → sent_as x m xs ≡ some r → Parts r
-    by_number x n xs q c Not h = absurd (none_some h)
-    by_number x n xs q c (Is k) h = subst Parts (some_injective h) (n, q, c)
+    by_number : (x n : List ℕ) (xs : List (List ℕ)) → fields l ≡ x ∷ n ∷ xs → length xs ≡ count → (m : Read ℕ) → sent_as x m xs ≡ some r → Parts r
+    by_number x n xs q c None h = absurd (none_some h)
+    by_number x n xs q c (Some k) h = subst Parts (some_injective h) (n, q, c)
 
     by_count : (x n : List ℕ) (xs : List (List ℕ)) → fields l ≡ x ∷ n ∷ xs → (b : Bool) → eqb (length xs) count ≡ b
         → cond b (sent_as x (magnitude n) xs) none ≡ some r → Parts r
@@ -166,7 +165,7 @@ module _ (count : ℕ) (l : List ℕ) where
               by_fields [] h = refl
               by_fields (x ∷ xs) h = by_test x xs (none_empty xs) refl h
 
-          module _ (z : digits ≡ 0 → ⊥) {m : Number} (h : m ≡ magnitude (take (size + 1 + digits - (size + 1)) left)) where
+          module _ (z : digits ≡ 0 → ⊥) {m : Read ℕ} (h : m ≡ magnitude (take (size + 1 + digits - (size + 1)) left)) where
             -- sender and number are read, and the texts of values follow
             sent_is : (xs : List (List ℕ)) × (record_of count l ≡ sent_as sender m xs)
             unfolding none_empty first_size first_length sent_fields fields
@@ -177,7 +176,7 @@ module _ (count : ℕ) (l : List ℕ) where
                 by_count x xs q false k = absurd (z k)
                 by_count x xs q true k =
                     let n : size + 1 + digits - (size + 1) ≡ length x = omega arith in
-                    ap (λ (n : Number). sent_as sender n xs)
+                    ap (λ (n : Read ℕ). sent_as sender n xs)
                     (sym (h ∙ ap magnitude (ap (λ (i : ℕ). take i left) n ∙ split_first 32 left q)))
 
                 by_test : (x : List ℕ) (xs : List (List ℕ)) → fields left ≡ x ∷ xs → (b : Bool)
@@ -191,15 +190,15 @@ module _ (count : ℕ) (l : List ℕ) where
                 by_fields [] q k = absurd (z k)
                 by_fields (x ∷ xs) q k = (xs, by_test x xs q (none_empty (x ∷ xs)) k)
 
-            pub sent_no_number : m ≡ Not → SentRead count l Refused
+            pub sent_no_number : m ≡ None → SentRead count l Refused
             unfolding sent_as
-            sent_no_number q = let (xs, r) = sent_is in sent_none (r ∙ ap (λ (n : Number). sent_as sender n xs) q)
+            sent_no_number q = let (xs, r) = sent_is in sent_none (r ∙ ap (λ (n : Read ℕ). sent_as sender n xs) q)
 
-            pub sent_number : {n : ℕ} → m ≡ Is n → SentRead count l (Got size n)
+            pub sent_number : {n : ℕ} → m ≡ Some n → SentRead count l (Got size n)
             unfolding sent_as sent_answer
             sent_number {n} q =
                 let (xs, r) = sent_is in
                 record {
-                  is = ap (λ (k : ℕ). Got k n) (sym sender_length) ∙ sym (ap sent_answer (r ∙ ap (λ (k : Number). sent_as sender k xs) q));
+                  is = ap (λ (k : ℕ). Got k n) (sym sender_length) ∙ sym (ap sent_answer (r ∙ ap (λ (k : Read ℕ). sent_as sender k xs) q));
                   front = λ x e. sender_first count l e;
                 }

@@ -43,7 +43,7 @@ use Rattle.cycles.specs.inner_contracts.RowMemory.{
   HeaderPut,
 }
 use Rattle.cycles.proofs.laws.CellTokenLaws.{few_within, action_class, none_behind, member_told, entity_told}
-use Rattle.values.proofs.laws.PutLaws.{put_none, put_said, put_byte, put_length, put_next, put_same}
+use Rattle.values.proofs.laws.PutLaws.{put_none, put_byte, put_length, put_next, put_same}
 use Rattle.cycles.proofs.laws.PutLaws.{put_piece, put_no_piece, put_in_front}
 use Rattle.cycles.proofs.laws.RowFields.{fields_table}
 
@@ -79,14 +79,14 @@ module _ {classes cells : List ℕ} {i token : ℕ} {b : Bool} (a : SortTest cla
   }
 
   pub fired_put : b ≡ true → {v : Value} → v ≡ cell_at cells i → (l : List ℕ) (at : ℕ) {m : List ℕ} {r : ℕ}
-      → (r ≡ at + 1 + length (printed v)) × (m ≡ overwritten (set l at 32) (at + 1) (printed v))
+      → Put (printed v) (set l at 32) (at + 1) m r
       → FiredPut classes token cells i l at m r
   fired_put e {v} q l at p = record {
-    short = let n = p.0 in let h = printed_most v in omega arith;
+    short = let n = p.end in let h = printed_most v in omega arith;
     action = b;
     tested = a;
     is =
-        put_same (put_next (put_byte l at 32) (put_said (printed v) p))
+        put_same (put_next (put_byte l at 32) p)
         (ap (λ (u : Value). 32 ∷ printed u) q ∙ ap (λ (t : Bool). cond t (32 ∷ printed (cell_at cells i)) []) (sym e));
   }
 
@@ -249,15 +249,14 @@ module _ {text classes offsets lengths d : List ℕ} {i token : ℕ} (t : CellTo
     name_no_room l at h g = record { within = h; is = λ w c s k. let n = names w c s in absurd (omega (arith, n.1, n.2)) }
 
     pub name_put : (l : List ℕ) (at : ℕ) → at ≤ length l → length xs + length ys + 2 ≤ length l - at → {m k : List ℕ} {dot r : ℕ}
-        → (dot ≡ at + 1 + length xs) × (m ≡ overwritten (set l at 32) (at + 1) xs)
-        → (r ≡ dot + 1 + length ys) × (k ≡ overwritten (set m dot 46) (dot + 1) ys)
+        → Put xs (set l at 32) (at + 1) m dot → Put ys (set m dot 46) (dot + 1) k r
         → NamePut text classes offsets lengths d i l at k r
     name_put l at h g {m} {k} {dot} {r} u v = record {
-      within = omega (arith, u.0, v.0);
+      within = omega (arith, u.end, v.end);
       is = λ w c s z.
           let n = names w c s in (
-            omega (arith, u.0, v.0, n.1, n.2),
-            put_same (put_next (put_next (put_next (put_byte l at 32) (put_said xs u)) (put_byte m dot 46)) (put_said ys v))
+            omega (arith, u.end, v.end, n.1, n.2),
+            put_same (put_next (put_next (put_next (put_byte l at 32) u) (put_byte m dot 46)) v)
                 (ap (◌∷◌ 32) (append_snoc xs 46 ys) ∙ n.0),
           );
     }
@@ -297,12 +296,11 @@ module _ {text classes offsets lengths d : List ℕ} where
       is = λ w c. let q = w.directory.entities in absurd (omega (arith, c.entities));
     }
 
-    pub header_end : {at i from : ℕ} {a l m : List ℕ} → (from ≡ 0 + 4) × (l ≡ overwritten a 0 (98 ∷ 121 ∷ 32 ∷ 110 ∷ []))
+    pub header_end : {at i from : ℕ} {a l m : List ℕ} → Put (98 ∷ 121 ∷ 32 ∷ 110 ∷ []) a 0 l from
         → NamesSoFar text classes offsets lengths d l from i m at → i ≤ 12 * n → 12 * n ≤ i → HeaderPut text classes offsets lengths d a m at
     unfolding row_header
-    header_end {i = i} {from} {a} {l} p q g h =
-        let by : Put (98 ∷ 121 ∷ 32 ∷ 110 ∷ []) a 0 l from = put_said (98 ∷ 121 ∷ 32 ∷ 110 ∷ []) p in
-        let end = p.0 in
+    header_end {i = i} {from} {a} {l} by q g h =
+        let end = by.end in
         record {
           short = λ w c s. let z = w.directory.entities in let high = (q.is w c s).0 in omega (arith, c.entities);
           is = λ w c s.

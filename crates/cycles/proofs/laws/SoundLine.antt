@@ -9,11 +9,10 @@ use lib.Dec.{T, leb, eqb, eqb→eq}
 use lib.Ieee.Fits.{and_l}
 use lib.ListN.{length, get_elem?}
 use Rattle.values.specs.declared.Value.{Value}
-use Rattle.values.specs.declared.Field.{Field}
-use Rattle.values.specs.declared.Field.TheVariants.{Blank, Given, Malformed}
+use Rattle.std.specs.Prelude.{Some, None, Ok, Err}
 use Rattle.values.specs.definitions.Storable.{storable}
 use Rattle.values.specs.definitions.Bytes.{same_bytes}
-use Rattle.values.specs.definitions.Forms.{event_field, presence_field}
+use Rattle.values.specs.definitions.Forms.{Field, event_field, presence_field}
 use Rattle.values.proofs.laws.StorableLaws.{event_field_storable}
 use Rattle.text.specs.definitions.Syntax.{Sort, attribute, event, action, Member, Entity, File}
 use Rattle.text.proofs.laws.ListLaws.{some_injective, none_some, All, all_none, all_cons}
@@ -141,11 +140,11 @@ pub record SoundInput (f : File) (i : Input) : Type 0 where
   pub says : (p : Spot) (v : Value) → i.column.event ≡ some p → i.says ≡ some v → T (storable p.what.kind v)
 
 module _ (f : File) where
-  field_sound : (c : Column) (x : List ℕ) (v : Value) → field_in c x ≡ Given v → (p : Spot) → c.event ≡ some p → T (storable p.what.kind v)
+  field_sound : (c : Column) (x : List ℕ) (v : Value) → field_in c x ≡ Ok (Some v) → (p : Spot) → c.event ≡ some p → T (storable p.what.kind v)
   unfolding field_in
   field_sound c x v h p e = by_event c.event e h
     where
-      by_event : (o : Option Spot) → o ≡ some p → (elim o [ none ↦ presence_field x | some q ↦ event_field q.what.kind x ]) ≡ Given v
+      by_event : (o : Option Spot) → o ≡ some p → ◌≡◌ {A = Field} (elim o [ none ↦ presence_field x | some q ↦ event_field q.what.kind x ]) (Ok (Some v))
           → T (storable p.what.kind v)
       by_event none e h = absurd (none_some e)
       by_event (some q) e h = rw (some_injective e) at (event_field_storable q.what.kind x v h)
@@ -162,13 +161,13 @@ module _ (f : File) where
 
       by_field : (y : Field) (o : Option (List Input)) → field_in c x ≡ y → ((js : List Input) → o ≡ some js → All (SoundInput f) js)
           → input_before c y o ≡ some is → All (SoundInput f) is
-      by_field Malformed o q k g = absurd (none_some g)
-      by_field Blank none q k g = absurd (none_some g)
-      by_field Blank (some js) q k g =
+      by_field (Err e) o q k g = absurd (none_some g)
+      by_field (Ok None) none q k g = absurd (none_some g)
+      by_field (Ok None) (some js) q k g =
           subst (All (SoundInput f)) (some_injective g) (all_cons (SoundInput f)
           (record { in_column = own; says = λ p v e s. absurd (none_some s) }) (k js refl))
-      by_field (Given v) none q k g = absurd (none_some g)
-      by_field (Given v) (some js) q k g =
+      by_field (Ok (Some v)) none q k g = absurd (none_some g)
+      by_field (Ok (Some v)) (some js) q k g =
           subst (All (SoundInput f)) (some_injective g) (all_cons (SoundInput f)
           (record { in_column = own; says = λ p w e s. let z : v ≡ w = some_injective s in rw z at (field_sound c x v q p e) }) (k js refl))
 

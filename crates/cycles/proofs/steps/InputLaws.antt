@@ -10,9 +10,8 @@ use lib.ListN.{length, get_or, get_elem?, set, length-append}
 use lib.Seq.{take_at, drop_at, drop-drop}
 use borrow.Author.Tests.{eq-eqb, ne_eqb, eqb-true, ltb-true, ltb-false}
 use Rattle.values.specs.declared.Kind.{Kind}
-use Rattle.values.specs.declared.Field.{Field}
 use Rattle.values.specs.definitions.Bytes.{overwritten}
-use Rattle.values.specs.definitions.Forms.{event_field, presence_field}
+use Rattle.values.specs.definitions.Forms.{Field, event_field, presence_field}
 use Rattle.values.proofs.laws.ByteLaws.{overwritten_parts}
 use Rattle.text.specs.definitions.Syntax.{Interface, File}
 use Rattle.text.proofs.laws.ListLaws.{none_some}

@@ -7,8 +7,8 @@ use mathlib.Core.List.{List, [], ◌∷◌, ◌++◌, append_assoc, map, Memᴰ}
 use mathlib.Core.Option.{Option, none, some}
 use lib.ListN.{length, get_or, take, drop, length-append, length-drop, length-map, drop_of_length-le}
 use lib.Seq.{drop_at}
-use Rattle.values.specs.declared.Field.{Field}
-use Rattle.values.specs.declared.Field.TheVariants.{Blank, Given, Malformed}
+use Rattle.std.specs.Prelude.{Some, None, Ok, Err}
+use Rattle.values.specs.definitions.Forms.{Field}
 use Rattle.text.proofs.laws.ListLaws.{none_some}
 use Rattle.checking.proofs.laws.DirectoryLaws.{number_below}
 use Rattle.cycles.specs.definitions.Fields.{fields}
@@ -81,15 +81,15 @@ backwards_drop (suc c) k l h = go (suc c - k) refl (backwards_drop c k l)
 well_formed_input : (c : Column) (f : Field) (is : List Input) → is_well_formed f ≡ true
     → input_before c f (some is) ≡ some (record { column = c; says = said f } ∷ is)
 unfolding input_before
-well_formed_input c Blank is h = refl
-well_formed_input c (Given v) is h = refl
-well_formed_input c Malformed is h = absurd (false≢true h)
+well_formed_input c (Ok None) is h = refl
+well_formed_input c (Ok (Some v)) is h = refl
+well_formed_input c (Err e) is h = absurd (false≢true h)
 
 ill_formed_input : (c : Column) (f : Field) (o : Option (List Input)) → is_well_formed f ≡ false → input_before c f o ≡ none
 unfolding input_before
-ill_formed_input c Blank o h = absurd (true≢false h)
-ill_formed_input c (Given v) o h = absurd (true≢false h)
-ill_formed_input c Malformed o h = refl
+ill_formed_input c (Ok None) o h = absurd (true≢false h)
+ill_formed_input c (Ok (Some v)) o h = absurd (true≢false h)
+ill_formed_input c (Err e) o h = refl
 
 inputs_none : (j : ℕ) (cs : List Column) (xs : List (List ℕ)) → inputs_in (drop j cs) (drop j xs) ≡ none → inputs_in cs xs ≡ none
 unfolding inputs_in input_before
@@ -103,9 +103,9 @@ inputs_none (suc j) (c ∷ cs) [] h = absurd (no_texts (drop j cs) h)
 inputs_none (suc j) (c ∷ cs) (x ∷ xs) h = rw (inputs_none j cs xs h) (go (field_in c x))
   where
     go : (f : Field) → input_before c f none ≡ none
-    go Blank = refl
-    go (Given v) = refl
-    go Malformed = refl
+    go (Ok None) = refl
+    go (Ok (Some v)) = refl
+    go (Err e) = refl
 
 -- ---- the loop
 

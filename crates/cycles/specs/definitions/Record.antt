@@ -1,14 +1,10 @@
 -- A record, which document 01 calls a line of values ("Lines of readings"; document 02, order 5).
-use Rattle.std.specs.Prelude.{ℕ, List, [], ◌∷◌, Bool, true, false, not, ◌&&◌, ◌||◌, cond, leb, eqb, length}
+use Rattle.std.specs.Prelude.{ℕ, List, [], ◌∷◌, Bool, true, false, not, ◌&&◌, ◌||◌, cond, leb, eqb, length, Option as Read, Some, None, Ok, Err}
 use Rattle.std.proofs.Math.Option.{Option, none, some}
 use Rattle.values.specs.declared.Value.{Value}
 use Rattle.values.specs.declared.Value.TheVariants.{Whole, Truth, Real, Unset}
-use Rattle.values.specs.declared.Number.{Number}
-use Rattle.values.specs.declared.Number.TheVariants.{Is, Not}
-use Rattle.values.specs.declared.Field.{Field}
-use Rattle.values.specs.declared.Field.TheVariants.{Blank, Given, Malformed}
 use Rattle.values.specs.definitions.Bytes.{same_bytes}
-use Rattle.values.specs.definitions.Forms.{digit_of, led, magnitude, event_field, presence_field}
+use Rattle.values.specs.definitions.Forms.{Field, digit_of, led, magnitude, event_field, presence_field}
 use Rattle.checking.specs.definitions.Scope.{is_found}
 use Rattle.cycles.specs.definitions.Store.{Store, Inputs}
 use Rattle.cycles.specs.definitions.Spots.{every}
@@ -22,9 +18,9 @@ pub record Sent : Type 0 where
   pub number : ℕ
   pub texts : List (List ℕ)
 
-unfoldable pub sent_as : List ℕ → Number → List (List ℕ) → Option Sent
-sent_as x Not xs = none
-sent_as x (Is n) xs = some (record { sender = x; number = n; texts = xs })
+unfoldable pub sent_as : List ℕ → Read ℕ → List (List ℕ) → Option Sent
+sent_as x None xs = none
+sent_as x (Some n) xs = some (record { sender = x; number = n; texts = xs })
 
 -- "wrong field count, .. or form of `n`", for so many columns; "each line of values [begins] with the sender's name .. and that sender's number"
 unfoldable pub sent_fields : ℕ → List (List ℕ) → Option Sent
@@ -56,11 +52,11 @@ unfolding same_bytes digit_of led
 field_in c x = elim c.event [ none ↦ presence_field x | some p ↦ event_field p.what.kind x ]
 
 unfoldable pub input_before : Column → Field → Option (List Input) → Option (List Input)
-input_before c Malformed rest = none
-input_before c Blank none = none
-input_before c Blank (some is) = some (record { column = c; says = none } ∷ is)
-input_before c (Given v) none = none
-input_before c (Given v) (some is) = some (record { column = c; says = some v } ∷ is)
+input_before c (Err e) rest = none
+input_before c (Ok None) none = none
+input_before c (Ok None) (some is) = some (record { column = c; says = none } ∷ is)
+input_before c (Ok (Some v)) none = none
+input_before c (Ok (Some v)) (some is) = some (record { column = c; says = some v } ∷ is)
 
 -- none where a value is "ill formed, of another kind"
 unfoldable pub inputs_in : List Column → List (List ℕ) → Option (List Input)

@@ -1,12 +1,11 @@
 -- What is read of a record into memory: its sender and number, and its inputs as planes have them. Said for every file that stands in the token
 -- table and the directory and is within the counts.
-use Rattle.std.specs.Prelude.{ℕ, ◌+◌, ◌*◌, ◌/◌, ◌%◌, ◌≤◌, ◌≡◌, Bool, true, false, length, take}
+use Rattle.std.specs.Prelude.{ℕ, ◌+◌, ◌*◌, ◌/◌, ◌%◌, ◌≤◌, ◌≡◌, Bool, true, false, length, take, Some, None, Ok, Err}
 use mathlib.Core.List.{List, [], ◌∷◌, ◌++◌, map, Memᴰ}
 use Rattle.std.proofs.Math.Option.{Option, none, some}
 use Rattle.std.proofs.Math.ListN.{get_elem?}
 use Rattle.values.specs.declared.Value.{Value}
-use Rattle.values.specs.declared.Field.{Field}
-use Rattle.values.specs.declared.Field.TheVariants.{Blank, Given, Malformed}
+use Rattle.values.specs.definitions.Forms.{Field}
 use Rattle.values.specs.definitions.Bytes.{overwritten}
 use Rattle.text.specs.definitions.Syntax.{Entity, File}
 use Rattle.checking.specs.inner_contracts.DirectoryReads.{Few}
@@ -36,15 +35,15 @@ pub record SentRead (count : ℕ) (values : List ℕ) (r : Reads) : Type 0 where
 -- ---- a field
 
 abbrev pub is_well_formed : Field → Bool
-is_well_formed Blank = true
-is_well_formed (Given v) = true
-is_well_formed Malformed = false
+is_well_formed (Ok None) = true
+is_well_formed (Ok (Some v)) = true
+is_well_formed (Err e) = false
 
 -- no reading, or a value
 abbrev pub said : Field → Option Value
-said Blank = none
-said (Given v) = some v
-said Malformed = none
+said (Ok None) = none
+said (Ok (Some v)) = some v
+said (Err e) = none
 
 -- ---- inputs in memory, for a bench of n entities
 

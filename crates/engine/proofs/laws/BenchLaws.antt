@@ -14,7 +14,7 @@ use Rattle.text.specs.definitions.Syntax.{File}
 use Rattle.checking.specs.definitions.Verdict.{Verdict, verdict, MOST_BYTES, accepted_file}
 use Rattle.checking.proofs.laws.VerdictLaws.{file_is_accepted}
 use Rattle.values.specs.inner_contracts.Puts.{Put}
-use Rattle.values.proofs.laws.PutLaws.{put_said, put_next}
+use Rattle.values.proofs.laws.PutLaws.{put_next}
 use Rattle.cycles.proofs.laws.PutLaws.{put_in_front}
 use Rattle.senders.specs.definitions.Fingerprint.{fingerprint}
 use Rattle.senders.proofs.laws.StandsLaws.{fingerprint_below}
@@ -23,12 +23,12 @@ use Rattle.engine.specs.definitions.Calls.{fingerprint_of}
 
 -- the length and the text, put one after the other
 pub bench_put : (text m : List ℕ) → (length text ≤ MOST_BYTES) × (BENCH ≤ length m) → {n k : List ℕ} {r : ℕ}
-    → n ≡ overwritten m 0 (low_first 4 (length text)) → (r ≡ 4 + length text) × (k ≡ overwritten n 4 text) → k ≡ with_bench text m
+    → n ≡ overwritten m 0 (low_first 4 (length text)) → Put text n 4 k r → k ≡ with_bench text m
 unfolding with_bench
 bench_put text m (h, g) {n} p q =
     let x : Put (low_first 4 (length text)) m 0 n 4 = record { end = refl; is = p } in
-    let e = q.0 in
-    let i = put_in_front (put_next x (put_said text q)) (omega arith) in
+    let e = q.end in
+    let i = put_in_front (put_next x q) (omega arith) in
     i.is
     ∙ ap (λ (k : ℕ). (low_first 4 (length text) ++ text) ++ drop k m) e
     ∙ append_assoc (low_first 4 (length text)) text (drop (4 + length text) m)

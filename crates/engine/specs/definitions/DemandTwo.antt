@@ -1,9 +1,8 @@
 -- Demand 2: what accepted calls leave and give, what a line sent again gives, how a row reads back, and where a name stands.
-use Rattle.std.specs.Prelude.{ℕ, suc, ◌+◌, ◌/◌, ◌%◌, ◌≤◌, ◌≡◌, ◌↔◌, true, cond, length, take, drop}
+use Rattle.std.specs.Prelude.{ℕ, suc, ◌+◌, ◌/◌, ◌%◌, ◌≤◌, ◌≡◌, ◌↔◌, true, cond, length, take, drop, Some}
 use mathlib.Core.List.{List, [], ◌∷◌, ◌++◌, map, Memᴰ}
 use Rattle.std.proofs.Math.Option.{Option, none, some}
 use Rattle.std.proofs.Math.ListN.{get_elem?}
-use Rattle.values.specs.declared.Number.TheVariants.{Is}
 use Rattle.values.specs.definitions.Bytes.{same_bytes}
 use Rattle.values.specs.definitions.Forms.{magnitude, event_field, read_back}
 use Rattle.text.specs.definitions.Syntax.{File}
@@ -184,7 +183,7 @@ AllSentAgain f earlier state (q ∷ qs) (r ∷ rs) =
 pub record ReadsBack (f : File) (x : Sender) (r : List ℕ) : Type 0 where
   pub count : length (fields r) ≡ suc (suc (length (action_cells f)))
   pub sender : get_elem? (fields r) 0 ≡ some x.name
-  pub number : (t : List ℕ) → get_elem? (fields r) 1 ≡ some t → magnitude t ≡ Is x.last
+  pub number : (t : List ℕ) → get_elem? (fields r) 1 ≡ some t → magnitude t ≡ Some x.last
   pub fired : (i : ℕ) (p : Spot) (t : List ℕ) → get_elem? (action_cells f) i ≡ some p → get_elem? (fields r) (suc (suc i)) ≡ some t
       → event_field p.what.kind t ≡ read_back (x.fired p.entity p.member)
 

@@ -16,7 +16,7 @@ use Rattle.cycles.specs.inner_contracts.HeaderReads.{MOST_COLUMNS, NO_COLUMN, co
 use Rattle.cycles.specs.definitions.Row.{row_header}
 use Rattle.cycles.specs.inner_contracts.RowMemory.{HeaderPut}
 use Rattle.values.specs.inner_contracts.Puts.{Put}
-use Rattle.values.proofs.laws.PutLaws.{put_said, put_next, put_same}
+use Rattle.values.proofs.laws.PutLaws.{put_next, put_same}
 use Rattle.values.proofs.laws.FormLaws.{decimal_most}
 use Rattle.cycles.proofs.laws.RowPuts.{short_names}
 use Rattle.senders.specs.definitions.Sender.{State}
@@ -82,19 +82,17 @@ pub refusal_most : (code : ℕ) → length (refusal code) ≤ 18
 unfolding refusal
 refusal_most code = let h = decimal_most code in simp length-append (omega arith)
 
-pub refusal_put : (out : List ℕ) (used code : ℕ) {o2 o3 : List ℕ} {word end : ℕ} → (word ≡ used + 8) × (o2 ≡ overwritten out used REFUSED)
-    → (end ≡ word + length (decimal code)) × (o3 ≡ overwritten o2 word (decimal code)) → Put (refusal code) out used o3 end
+pub refusal_put : (out : List ℕ) (used code : ℕ) {o2 o3 : List ℕ} {word end : ℕ} → Put REFUSED out used o2 word
+    → Put (decimal code) o2 word o3 end → Put (refusal code) out used o3 end
 unfolding refusal
-refusal_put out used code a b = put_next (put_said REFUSED a) (put_said (decimal code) b)
+refusal_put out used code a b = put_next a b
 
 pub bench_refusal_put : (out : List ℕ) (code at : ℕ) {o1 o2 o3 o4 : List ℕ} {word space end r : ℕ} → Put (refusal code) out 0 o1 word
-    → (space ≡ word + 1) × (o2 ≡ overwritten o1 word (32 ∷ []))
-    → (end ≡ space + length (decimal at)) × (o3 ≡ overwritten o2 space (decimal at))
-    → (r ≡ end + 1) × (o4 ≡ overwritten o3 end (10 ∷ []))
+    → Put (32 ∷ []) o1 word o2 space → Put (decimal at) o2 space o3 end → Put (10 ∷ []) o3 end o4 r
     → Put (bench_refusal code at ++ 10 ∷ []) out 0 o4 r
 unfolding bench_refusal
 bench_refusal_put out code at a b c d =
-    put_same (put_next (put_next (put_next a (put_said (32 ∷ []) b)) (put_said (decimal at) c)) (put_said (10 ∷ []) d))
+    put_same (put_next (put_next (put_next a b) c) d)
     (ap (λ (t : List ℕ). t ++ 10 ∷ []) (append_assoc (refusal code) (32 ∷ []) (decimal at)))
 
 -- ---- a line of names

@@ -13,7 +13,7 @@ use lib.Ieee.Fits.{and_l, and_r}
 use borrow.Author.Tests.{ne_eqb, eqb-true}
 use Rattle.values.specs.declared.Value.{Value}
 use Rattle.values.specs.declared.Value.TheVariants.{Whole, Truth, Real, Unset}
-use Rattle.values.specs.declared.Number.TheVariants.{Is}
+use Rattle.std.specs.Prelude.{Some}
 use Rattle.values.specs.definitions.Storable.{storable}
 use Rattle.values.specs.definitions.Forms.{digit_byte, decimal_digits, hexadecimal, decimal, dash, printed, magnitude, event_field, read_back}
 use Rattle.values.proofs.laws.StorableLaws.{unset_storable}
@@ -214,7 +214,7 @@ kept_sound_row f n h xs g = go (is_known_sender n xs) refl
 pub record RowReadsBack (f : File) (x : Sender) (r : List ℕ) : Type 0 where
   pub count : length (fields r) ≡ suc (suc (length (action_cells f)))
   pub sender : get_elem? (fields r) 0 ≡ some x.name
-  pub number : (t : List ℕ) → get_elem? (fields r) 1 ≡ some t → magnitude t ≡ Is x.last
+  pub number : (t : List ℕ) → get_elem? (fields r) 1 ≡ some t → magnitude t ≡ Some x.last
   pub fired : (i : ℕ) (p : Spot) (t : List ℕ) → get_elem? (action_cells f) i ≡ some p → get_elem? (fields r) (suc (suc i)) ≡ some t
       → event_field p.what.kind t ≡ read_back (x.fired p.entity p.member)
 

@@ -11,8 +11,8 @@ use lib.Dec.{T, leb, eqb}
 use lib.ListN.{length, get_or, drop}
 use borrow.Author.Tests.{lt-ltb, eq-eqb, eqb-true}
 use Rattle.values.specs.declared.Value.{Value}
-use Rattle.values.specs.declared.Field.{Field}
-use Rattle.values.specs.declared.Field.TheVariants.{Blank, Given, Malformed}
+use Rattle.std.specs.Prelude.{Some, None, Ok, Err}
+use Rattle.values.specs.definitions.Forms.{Field}
 use Rattle.values.specs.definitions.Bytes.{same_bytes}
 use Rattle.text.specs.definitions.Syntax.{File}
 use Rattle.text.proofs.laws.ListLaws.{some_injective, none_some, All}
@@ -116,11 +116,11 @@ module _ (f : File) (few : Few f) where
     where
       go : (y : Field) (o : Option (List Input)) → ((js : List Input) → o ≡ some js → map input_number js ≡ map column_number cs) → input_before c y o ≡ some is
           → map input_number is ≡ column_number c ∷ map column_number cs
-      go Malformed o k h = absurd (none_some h)
-      go Blank none k h = absurd (none_some h)
-      go Blank (some js) k h = sym (ap (map input_number) (some_injective h)) ∙ ap (◌∷◌ (column_number c)) (k js refl)
-      go (Given v) none k h = absurd (none_some h)
-      go (Given v) (some js) k h = sym (ap (map input_number) (some_injective h)) ∙ ap (◌∷◌ (column_number c)) (k js refl)
+      go (Err e) o k h = absurd (none_some h)
+      go (Ok None) none k h = absurd (none_some h)
+      go (Ok None) (some js) k h = sym (ap (map input_number) (some_injective h)) ∙ ap (◌∷◌ (column_number c)) (k js refl)
+      go (Ok (Some v)) none k h = absurd (none_some h)
+      go (Ok (Some v)) (some js) k h = sym (ap (map input_number) (some_injective h)) ∙ ap (◌∷◌ (column_number c)) (k js refl)
 
   -- no two inputs of a record have one column
   pub said_apart : (names values : List ℕ) {cs : List Column} → header f names ≡ some cs → {x : Sent} → record_of (length cs) values ≡ some x

@@ -11,7 +11,7 @@ use Rattle.values.specs.definitions.Bytes.{low_first, overwritten}
 use Rattle.values.specs.definitions.Cells.{cell_bytes, cell_at, with_cell}
 use Rattle.values.specs.inner_contracts.Puts.{Put}
 use Rattle.values.proofs.laws.ByteLaws.{overwritten_parts}
-use Rattle.values.proofs.laws.PutLaws.{put_said, put_byte, put_next, put_same}
+use Rattle.values.proofs.laws.PutLaws.{put_byte, put_next, put_same}
 use Rattle.values.proofs.laws.StorableLaws.{length_cell_bytes}
 use Rattle.text.specs.definitions.Syntax.{File}
 use Rattle.checking.specs.definitions.Scope.{member_of, is_action}
@@ -154,14 +154,14 @@ zeros_put {l} {before} {i} {at} {end} e h g =
 -- ---- a sender's part
 
 pub sender_put : (n last : ℕ) (name flags cells m : List ℕ) {named padded part after : List ℕ} {end r : ℕ} → length name ≤ 24
-    → (end ≡ 1 + length name) × (named ≡ overwritten (set m 0 (length name)) 1 name) → Put (replicate (25 - end) 0) named end padded 25
+    → Put name (set m 0 (length name)) 1 named end → Put (replicate (25 - end) 0) named end padded 25
     → part ≡ overwritten (behind 25 padded) 0 (low_first 4 last)
     → (r ≡ 29 + 109 * n) × Put (gathered n flags cells) (with_behind 25 padded part) 29 after r → sender_size n ≤ length m → 29 ≤ length padded
     → after ≡ part_of n name last flags cells ++ drop (sender_size n) m
 unfolding part_of name_bytes
 sender_put n last name flags cells m {named} {padded} {part} {after} {end} {r} short put zeros number plane fits long =
-    let a : Put (length name ∷ name) m 0 named end = put_next (put_byte m 0 (length name)) (put_said name put) in
-    let k : 25 - end ≡ 24 - length name = let e = put.0 in omega arith in
+    let a : Put (length name ∷ name) m 0 named end = put_next (put_byte m 0 (length name)) put in
+    let k : 25 - end ≡ 24 - length name = let e = put.end in omega arith in
     let b : Put (name_bytes name) m 0 padded 25 = put_same (put_next a zeros) (ap (λ (j : ℕ). (length name ∷ name) ++ replicate j 0) k) in
     let c : Put (low_first 4 last) padded 25 (with_behind 25 padded part) 29 = put_behind 25 padded (low_first 4 last) long number in
     let e = plane.0 in

@@ -12,8 +12,9 @@ use lib.Seq.{drop-drop}
 use Rattle.values.specs.definitions.Bytes.{word_at, overwritten}
 use Rattle.values.specs.definitions.Cells.{unpacked, cell_at}
 use Rattle.values.specs.definitions.Forms.{decimal, printed}
+use Rattle.values.specs.inner_contracts.Puts.{Put}
 use Rattle.values.proofs.laws.DigitLaws.{decimal_length}
-use Rattle.values.proofs.laws.PutLaws.{put_said, put_byte, put_next, put_same}
+use Rattle.values.proofs.laws.PutLaws.{put_byte, put_next, put_same}
 use Rattle.text.specs.definitions.Syntax.{Member, File}
 use Rattle.text.proofs.laws.ListLaws.{some_injective}
 use Rattle.checking.specs.definitions.Scope.{member_of, is_action}
@@ -93,14 +94,13 @@ row_bytes f w x cells {name} {last} p q g =
 
 -- the name, a space, the number, the fields
 pub row_put : {classes d name cells before m k after : List ℕ} {last space at r : ℕ} → length name ≤ 24 → 32768 ≤ length before
-    → (space ≡ 0 + length name) × (m ≡ overwritten before 0 name)
-    → (at ≡ space + 1 + length (decimal last)) × (k ≡ overwritten (set m space 32) (space + 1) (decimal last))
+    → Put name before 0 m space → Put (decimal last) (set m space 32) (space + 1) k at
     → FieldsPut classes d cells k at after r
     → RowPut classes d name last cells before after r
 row_put {name = name} {cells = cells} {before = before} {m = m} {last = last} {space = space} {r = r} a b p q h =
     let digits = decimal_length 10 last in
-    let e = p.0 in
-    let g = q.0 in
+    let e = p.end in
+    let g = q.end in
     let z = h.short in
     let short : r ≤ 32768 = omega arith in
     record {
@@ -108,7 +108,7 @@ row_put {name = name} {cells = cells} {before = before} {m = m} {last = last} {s
       is = λ text offsets lengths w c x named numbered fired.
           put_in_front
           (put_same
-          (put_next (put_next (put_next (put_said name p) (put_byte m space 32)) (put_said (decimal last) q)) (h.is text offsets lengths w c))
+          (put_next (put_next (put_next p (put_byte m space 32)) q) (h.is text offsets lengths w c))
           (row_bytes w.file (few_within w.file c) x cells named numbered fired))
           (omega arith);
     }

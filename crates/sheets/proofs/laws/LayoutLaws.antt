@@ -8,7 +8,7 @@ use lib.Seq.{take_at}
 use Rattle.values.specs.definitions.Bytes.{overwritten}
 use Rattle.values.specs.inner_contracts.Puts.{Put}
 use Rattle.values.proofs.laws.ByteLaws.{overwritten_parts}
-use Rattle.values.proofs.laws.PutLaws.{put_said, put_next}
+use Rattle.values.proofs.laws.PutLaws.{put_next}
 use Rattle.sheets.specs.definitions.Layout.{SHEET_COLUMNS, right_aligned, filled}
 
 -- ---- sizes
@@ -43,9 +43,9 @@ spaces_end count p = p.end ∙ rw (length-replicate {A = ℕ} count 32)
 -- ---- texts in columns
 
 pub right_put : (w : ℕ) (t : List ℕ) {l m n : List ℕ} {at a r : ℕ} → Put (replicate (w - length t) 32) l at m a
-    → (r ≡ a + length t) × (n ≡ overwritten m a t) → Put (right_aligned w t) l at n r
+    → Put t m a n r → Put (right_aligned w t) l at n r
 unfolding right_aligned
-right_put w t p q = put_next p (put_said t q)
+right_put w t p q = put_next p q
 
 pub right_end : (w : ℕ) (t : List ℕ) {l m : List ℕ} {at r : ℕ} → length t ≤ w → Put (right_aligned w t) l at m r → r ≡ at + w
 right_end w t h p = p.end ∙ rw (length_right w t h)

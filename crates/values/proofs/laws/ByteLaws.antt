@@ -1,15 +1,19 @@
 -- Lists of bytes: what stays where some are overwritten, numbers read back from their bytes, and a comparison from front to end.
-use mathlib.Core.Path.{◌≡◌, refl, ap, ◌∙◌}
+use mathlib.Core.Path.{◌≡◌, refl, sym, ap, ◌∙◌}
 use mathlib.Core.List.{List, [], ◌∷◌, ◌++◌}
-use mathlib.Core.Bool.{Bool, true, false, false≢true}
+use mathlib.Core.Bool.{Bool, true, false, cond, ◌&&◌, false≢true}
 use Prim.Native.Nat.{ℕ, zero, suc, ◌+◌, ◌*◌, ◌/◌, ◌%◌, ◌^◌, ◌≤◌, ◌<◌}
-use native.Mathlib.Nat.{add-zero, add_assoc, pow-succ'}
+use native.Mathlib.Nat.{add-zero, pow-succ', div-div-eq-div-mul}
 use native.Mathlib.Numerals.{add-one}
 use native.Mathlib.Omega.{arith}
-use lib.Dec.{leb, eqb}
-use lib.ListN.{length, get_or, set, take, drop, length-set, drop_of_length-le}
-use lib.Seq.{drop-cons, get_or-set_same, get_or-set_other, sets, sets-eq, length-sets}
-use borrow.Author.Tests.{leb-true, leb-false, eq-eqb, ne_eqb, eqb-true}
+use lib.Dec.{eqb}
+use lib.ListN.{length, get_or, set, take, drop, length-set}
+use Rattle.std.proofs.Common.{append_assoc, drop-drop}
+use Rattle.std.specs.Int.{w32, w64, to_le_bytes}
+use lib.Pointwise.{pointwise}
+use lib.Seq.{get_or-set_same, get_or-set_other, sets, sets-eq, length-sets}
+use borrow.Rule.Slice.PartMut.{put_mid}
+use borrow.Author.Tests.{eq-eqb, eqb-true}
 use Rattle.values.specs.definitions.Bytes.{same_bytes, word_at, low_first, overwritten}
 
 -- ---- overwritten
@@ -34,10 +38,6 @@ overwritten_append l at (x ∷ xs) ys =
     next : (a n : ℕ) → a + 1 + n ≡ a + suc n
     next a n = omega arith
 
-pub overwritten_step : (l : List ℕ) (at i : ℕ) (t : List ℕ) → i < length t
-    → overwritten l (at + i) (drop i t) ≡ overwritten (set l (at + i) (get_or t i 0)) (at + (i + 1)) (drop (i + 1) t)
-overwritten_step l at i t h = rw (drop-cons t i 0 h, ← add_assoc at i 1, add-one i)
-
 pub overwritten_below : (l : List ℕ) (at : ℕ) (bs : List ℕ) (k : ℕ) → k < at → get_or (overwritten l at bs) k 0 ≡ get_or l k 0
 overwritten_below l at [] k h = refl
 overwritten_below l at (b ∷ bs) k h = overwritten_below (set l at b) (at + 1) bs k (omega arith) ∙ get_or-set_other l at k b 0 (λ e. omega arith)
@@ -45,6 +45,33 @@ overwritten_below l at (b ∷ bs) k h = overwritten_below (set l at b) (at + 1) 
 pub overwritten_above : (l : List ℕ) (at : ℕ) (bs : List ℕ) (k : ℕ) → at + length bs ≤ k → get_or (overwritten l at bs) k 0 ≡ get_or l k 0
 overwritten_above l at [] k h = refl
 overwritten_above l at (b ∷ bs) k h = overwritten_above (set l at b) (at + 1) bs k (omega arith) ∙ get_or-set_other l at k b 0 (λ e. omega arith)
+
+-- ---- the library's words
+
+-- a part of a slice written anew, as `copy_from_slice` leaves it
+pub part_overwritten : (l : List ℕ) (at : ℕ) (bs new : List ℕ) (k : ℕ) → at + length bs ≤ length l → k ≡ length bs → new ≡ bs
+    → put_mid at k l new ≡ overwritten l at bs
+part_overwritten l at bs new k h e f =
+    rw (f, e, drop-drop (length bs) at l) (sym (append_assoc (take at l) bs (drop (at + length bs) l)) ∙ sym (overwritten_parts l at bs h))
+
+-- `==` on slices of bytes
+pub slices_same : (s t : List ℕ) → pointwise eqb s t ≡ same_bytes s t
+unfolding same_bytes
+slices_same [] [] = refl
+slices_same [] (y ∷ ys) = refl
+slices_same (x ∷ xs) [] = refl
+slices_same (x ∷ xs) (y ∷ ys) = go (eqb x y) (slices_same xs ys)
+  where
+    go : (b : Bool) → pointwise eqb xs ys ≡ same_bytes xs ys → (b && pointwise eqb xs ys) ≡ cond b (same_bytes xs ys) false
+    go true e = e
+    go false e = refl
+
+-- `to_le_bytes`
+pub low_first_64 : (w : ℕ) → to_le_bytes w64 w ≡ low_first 8 w
+low_first_64 w = simp div-div-eq-div-mul
+
+pub low_first_32 : (w : ℕ) → to_le_bytes w32 w ≡ low_first 4 w
+low_first_32 w = simp div-div-eq-div-mul
 
 -- ---- numbers
 
@@ -93,25 +120,3 @@ same_bytes_equal (x ∷ xs) (y ∷ ys) h = go (eqb x y) refl (same_bytes_equal x
     go : (b : Bool) → eqb x y ≡ b → (same_bytes xs ys ≡ true → xs ≡ ys) → x ∷ xs ≡ y ∷ ys
     go true e f = rw (eqb-true x y e, f (rw e at h))
     go false e f = absurd (false≢true (rw e at h))
-
--- from index i on, by the bytes there and the two ends
-module _ (s t : List ℕ) (i : ℕ) where
-  pub same_step : i < length s → i < length t → get_or s i 0 ≡ get_or t i 0 → same_bytes (drop i s) (drop i t) ≡ same_bytes (drop (i + 1) s) (drop (i + 1) t)
-  unfolding same_bytes
-  same_step p q e = rw (drop-cons s i 0 p, drop-cons t i 0 q, eq-eqb (get_or s i 0) (get_or t i 0) e, add-one i)
-
-  pub same_stop : i < length s → i < length t → (get_or s i 0 ≡ get_or t i 0 → ⊥) → same_bytes (drop i s) (drop i t) ≡ false
-  unfolding same_bytes
-  same_stop p q e = rw (drop-cons s i 0 p, drop-cons t i 0 q, ne_eqb (get_or s i 0) (get_or t i 0) e)
-
-  pub same_short : i < length s → length t ≤ i → same_bytes (drop i s) (drop i t) ≡ false
-  unfolding same_bytes
-  same_short p q = rw (drop-cons s i 0 p, drop_of_length-le t q)
-
-  pub same_end : length s ≤ i → same_bytes (drop i s) (drop i t) ≡ leb (length t) i
-  unfolding same_bytes
-  same_end p = go (leb (length t) i) refl
-    where
-      go : (b : Bool) → leb (length t) i ≡ b → same_bytes (drop i s) (drop i t) ≡ leb (length t) i
-      go true e = rw (drop_of_length-le s p, drop_of_length-le t (leb-true (length t) i e), e)
-      go false e = rw (drop_of_length-le s p, drop-cons t i 0 (leb-false (length t) i e), e)

@@ -1,22 +1,21 @@
 -- Digits one by one: how they are put, how they are read, and how a number may begin.
-use mathlib.Core.Path.{◌≡◌, refl, ap, ◌∙◌, subst}
+use mathlib.Core.Path.{◌≡◌, refl, subst}
 use mathlib.Core.List.{List, [], ◌∷◌, ◌++◌}
 use mathlib.Core.Bool.{Bool, true, false, not, true≢false}
 use Prim.Native.Nat.{ℕ, zero, suc, ◌+◌, ◌-◌, ◌*◌, ◌/◌, ◌%◌, ◌^◌, ◌≤◌, ◌<◌, zero-le}
-use native.Mathlib.Nat.{add-zero, lt_of_lt_of_le, mul-le-mul_left}
+use native.Mathlib.Nat.{lt_of_lt_of_le, mul-le-mul_left}
 use native.Mathlib.Numerals.{sub-one, add-one}
 use native.Mathlib.Omega.{arith}
 use lib.Dec.{ltb, eqb}
 use lib.ListN.{length, get_or, drop, length-append}
-use lib.Seq.{drop-cons, get_or-drop}
+use lib.Seq.{drop-cons}
 use lib.Pow.{pow-add, pow_mono}
 use lib.Arith.{digits_lt}
 use lib.IntN.{ℤ, pos, negsuc, nat_abs}
 use lib.Signed.{lt_z}
 use borrow.Author.Tests.{lt-ltb, le-ltb, le-leb, lt-leb, ne_eqb}
-use Rattle.values.specs.declared.Number.TheVariants.{Not}
-use Rattle.values.specs.declared.Field.TheVariants.{Malformed}
-use Rattle.values.specs.definitions.Forms.{digit_byte, digit_of, decimal_digits, hexadecimal, scanned, led, decimal, whole_field, whole_text}
+use Rattle.std.specs.Prelude.{Some, None, Err}
+use Rattle.values.specs.definitions.Forms.{digit_byte, digit_of, decimal_digits, hexadecimal, scanned, led, decimal, malformed, whole_field, whole_text}
 use Rattle.values.proofs.laws.WholeLaws.{none_below}
 use Rattle.values.proofs.laws.ByteLaws.{overwritten_append}
 
@@ -76,27 +75,30 @@ text_unsigned (negsuc n) h = absurd (true≢false h)
 
 -- ---- read
 
-pub scan_step : (b acc : ℕ) (l : List ℕ) (i : ℕ) → i < length l → digit_of (get_or l i 0) < b
-    → scanned b acc (drop i l) ≡ scanned b (acc * b + digit_of (get_or l i 0)) (drop (i + 1) l)
-scan_step b acc l i h d = rw (drop-cons l i 0 h, lt-ltb (digit_of (get_or l i 0)) b d, add-one i)
+module _ (b acc : ℕ) (l : List ℕ) (i : ℕ) (h : i < length l) where
+  pub scan_step : (d : ℕ) → digit_of (get_or l i 0) ≡ Some d → d < b → scanned b acc (drop i l) ≡ scanned b (acc * b + d) (drop (i + 1) l)
+  scan_step d e p = rw (drop-cons l i 0 h, e, lt-ltb d b p, add-one i)
 
-pub scan_stop : (b acc : ℕ) (l : List ℕ) (i : ℕ) → i < length l → b ≤ digit_of (get_or l i 0) → scanned b acc (drop i l) ≡ Not
-scan_stop b acc l i h d = rw (drop-cons l i 0 h, le-ltb (digit_of (get_or l i 0)) b d)
+  pub scan_stop : (d : ℕ) → digit_of (get_or l i 0) ≡ Some d → b ≤ d → scanned b acc (drop i l) ≡ None
+  scan_stop d e p = rw (drop-cons l i 0 h, e, le-ltb d b p)
+
+  pub scan_none : digit_of (get_or l i 0) ≡ None → scanned b acc (drop i l) ≡ None
+  scan_none e = rw (drop-cons l i 0 h, e)
 
 -- a digit in a base of at most 16 takes 4 bits
-bits_more : (from i : ℕ) → from ≤ i → 4 * (i - from) + 4 ≡ 4 * (i + 1 - from)
-bits_more from i h = omega arith
+bits_more : (i : ℕ) → 4 * i + 4 ≡ 4 * (i + 1)
+bits_more i = omega arith
 
-pub scan_bound : (acc base d from i : ℕ) → from ≤ i → acc < 2 ^ (4 * (i - from)) → base ≤ 16 → d < base → acc * base + d < 2 ^ (4 * (i + 1 - from))
-scan_bound acc base d from i h p q r =
-    subst (λ (e : ℕ). acc * base + d < 2 ^ e) (bits_more from i h)
-    (rw (pow-add 2 (4 * (i - from)) 4) (lt_of_lt_of_le (digits_lt p r) (mul-le-mul_left (2 ^ (4 * (i - from))) q)))
+pub scan_bound : (acc base d i : ℕ) → acc < 2 ^ (4 * i) → base ≤ 16 → d < base → acc * base + d < 2 ^ (4 * (i + 1))
+scan_bound acc base d i p q r =
+    subst (λ (e : ℕ). acc * base + d < 2 ^ e) (bits_more i)
+    (rw (pow-add 2 (4 * i) 4) (lt_of_lt_of_le (digits_lt p r) (mul-le-mul_left (2 ^ (4 * i)) q)))
 
-pub scan_fits : (acc base d from i : ℕ) → from ≤ i → i < from + 16 → acc < 2 ^ (4 * (i - from)) → base ≤ 16 → d < base → acc * base + d < 2 ^ 64
-scan_fits acc base d from i h k p q r = lt_of_lt_of_le (scan_bound acc base d from i h p q r) (pow_mono {i = 4 * (i + 1 - from)} {j = 64} (omega arith))
+pub scan_fits : (acc base d i : ℕ) → i < 16 → acc < 2 ^ (4 * i) → base ≤ 16 → d < base → acc * base + d < 2 ^ 64
+scan_fits acc base d i k p q r = lt_of_lt_of_le (scan_bound acc base d i p q r) (pow_mono {i = 4 * (i + 1)} {j = 64} (omega arith))
 
 -- what code that reads digits one by one needs
-pub ruleset digits_read = (scan_step, scan_stop, scan_bound, scan_fits)
+pub ruleset digits_read = (scan_step, scan_stop, scan_none, scan_bound, scan_fits)
 
 -- ---- how a number may begin
 
@@ -112,10 +114,7 @@ pub led_by : (l : List ℕ) (b : Bool) → 2 ≤ length l → length l ≤ 10 �
 unfolding led
 led_by l b k m e = rw (le-leb 1 (length l) (omega arith), le-leb (length l) 10 m, ne_eqb (length l) 1 (λ e. omega arith), e)
 
-pub first_left : (l : List ℕ) (from : ℕ) → get_or (drop from l) 0 0 ≡ get_or l from 0
-first_left l from = get_or-drop from l 0 0 ∙ ap (λ (k : ℕ). get_or l k 0) (add-zero from)
-
-pub empty_malformed : (l : List ℕ) → length l ≡ 0 → whole_field l ≡ Malformed
+pub empty_malformed : (l : List ℕ) → length l ≡ 0 → whole_field l ≡ Err malformed
 unfolding led
 empty_malformed [] h = refl
 empty_malformed (x ∷ xs) h = absurd (clash (length xs) h)

@@ -14,10 +14,10 @@ use lib.Ieee.Bits.{of_bits-to_bits, to_bits-lt}
 use borrow.Author.Tests.{ltb-true, ltb-false, lt-ltb, le-ltb, le-leb, lt-leb, ne_eqb, eqb-true, eqb-false}
 use Rattle.values.specs.declared.Value.{Value}
 use Rattle.values.specs.declared.Value.TheVariants.{Whole, Truth, Real, Unset}
-use Rattle.values.specs.declared.Number.TheVariants.{Is}
+use Rattle.std.specs.Prelude.{Option, Some, None, Ok}
+use Rattle.std.proofs.lemmas.Option.{none-some}
 use Rattle.values.specs.declared.Kind.{Kind}
 use Rattle.values.specs.declared.Kind.TheVariants.{Wholes, Bools, Reals}
-use Rattle.values.specs.declared.Field.TheVariants.{Blank, Given}
 use Rattle.values.specs.definitions.Value.{is_finite}
 use Rattle.values.specs.definitions.Storable.{storable}
 use Rattle.values.specs.definitions.Bytes.{same_bytes}
@@ -41,33 +41,37 @@ use Rattle.values.proofs.laws.DigitLaws.{length_snoc, decimal_length, hexadecima
 
 -- ---- digits
 
-digit_back : (d : ℕ) → d < 16 → digit_of (digit_byte d) ≡ d
+digit_back : (d : ℕ) → d < 16 → digit_of (digit_byte d) ≡ Some d
 unfolding digit_of digit_byte
 digit_back d h = go (ltb d 10) refl
   where
-    go : (t : Bool) → ltb d 10 ≡ t → digit_of (digit_byte d) ≡ d
-    go true e = let l = ltb-true d 10 e in rw (e, le-ltb (48 + d) 48 (omega arith), le-leb (48 + d) 57 (omega arith)) (omega arith)
+    go : (t : Bool) → ltb d 10 ≡ t → digit_of (digit_byte d) ≡ Some d
+    go true e = let l = ltb-true d 10 e in rw (e, le-ltb (48 + d) 48 (omega arith), le-leb (48 + d) 57 (omega arith)) (ap Some (omega arith))
     go false e =
         let l = ltb-false d 10 e in
         rw (e, le-ltb (87 + d) 48 (omega arith), lt-leb (87 + d) 57 (omega arith), le-ltb (87 + d) 97 (omega arith), le-leb (87 + d) 102 (omega arith))
-        (omega arith)
+        (ap Some (omega arith))
 
-scan_snoc : (b acc m : ℕ) (xs : List ℕ) (c : ℕ) → scanned b acc xs ≡ Is m → digit_of c < b → scanned b acc (xs ++ (c ∷ [])) ≡ Is (m * b + digit_of c)
-scan_snoc b acc m [] c h l = let e : acc ≡ m = cc in rw (lt-ltb (digit_of c) b l, e)
-scan_snoc b acc m (x ∷ xs) c h l = go (ltb (digit_of x) b) refl (λ k. scan_snoc b (acc * b + digit_of x) m xs c k l)
+scan_snoc : (b acc m : ℕ) (xs : List ℕ) (c d : ℕ) → scanned b acc xs ≡ Some m → digit_of c ≡ Some d → d < b → scanned b acc (xs ++ (c ∷ [])) ≡ Some (m * b + d)
+scan_snoc b acc m [] c d h g l = let e : acc ≡ m = cc in rw (g, lt-ltb d b l, e)
+scan_snoc b acc m (x ∷ xs) c d h g l = go (digit_of x) refl (λ a k. scan_snoc b a m xs c d k g l)
   where
-    go : (t : Bool) → ltb (digit_of x) b ≡ t
-        → (scanned b (acc * b + digit_of x) xs ≡ Is m → scanned b (acc * b + digit_of x) (xs ++ (c ∷ [])) ≡ Is (m * b + digit_of c))
-        → scanned b acc ((x ∷ xs) ++ (c ∷ [])) ≡ Is (m * b + digit_of c)
-    go true e f = rw e (f (rw e at h))
-    go false e f = let k = rw e at h in let z : ◌≡◌ {A = ℕ} 0 1 = cc in absurd (omega arith)
+    go : (o : Option ℕ) → digit_of x ≡ o → ((a : ℕ) → scanned b a xs ≡ Some m → scanned b a (xs ++ (c ∷ [])) ≡ Some (m * b + d))
+        → scanned b acc ((x ∷ xs) ++ (c ∷ [])) ≡ Some (m * b + d)
+    go None e f = absurd (none-some m (rw e at h))
+    go (Some y) e f = rw e (step (ltb y b) (f (acc * b + y)) (rw e at h))
+      where
+        step : (t : Bool) → (scanned b (acc * b + y) xs ≡ Some m → scanned b (acc * b + y) (xs ++ (c ∷ [])) ≡ Some (m * b + d))
+            → cond t (scanned b (acc * b + y) xs) None ≡ Some m → cond t (scanned b (acc * b + y) (xs ++ (c ∷ []))) None ≡ Some (m * b + d)
+        step true f k = f k
+        step false f k = absurd (none-some m k)
 
 -- the last digit after those of the rest
-last_back : (b n : ℕ) (xs : List ℕ) → 2 ≤ b → b ≤ 16 → scanned b 0 xs ≡ Is (n / b) → scanned b 0 (xs ++ (digit_byte (n % b) ∷ [])) ≡ Is n
+last_back : (b n : ℕ) (xs : List ℕ) → 2 ≤ b → b ≤ 16 → scanned b 0 xs ≡ Some (n / b) → scanned b 0 (xs ++ (digit_byte (n % b) ∷ [])) ≡ Some n
 last_back b n xs p q r =
     let m : n % b < b = mod-lt n (omega arith) in
     let g = digit_back (n % b) (lt_of_lt_of_le m q) in
-    scan_snoc b 0 (n / b) xs (digit_byte (n % b)) r (rw g m) ∙ rw (g, div-add-mod' n b)
+    scan_snoc b 0 (n / b) xs (digit_byte (n % b)) (n % b) r g m ∙ ap Some (div-add-mod' n b)
 
 -- without its last digit, a number has one digit less
 rest_below : (b k n : ℕ) → 2 ≤ b → n < b ^ suc k → n / b < b ^ k
@@ -79,27 +83,27 @@ none_back b n h = below_one (rw (pow-zero b) at h)
     below_one : n < 1 → 0 ≡ n
     below_one h = omega arith
 
-decimal_digits_back : (k n : ℕ) → n < 10 ^ k → scanned 10 0 (decimal_digits k n) ≡ Is n
+decimal_digits_back : (k n : ℕ) → n < 10 ^ k → scanned 10 0 (decimal_digits k n) ≡ Some n
 unfolding decimal_digits
-decimal_digits_back zero n h = ap Is (none_back 10 n h)
+decimal_digits_back zero n h = ap Some (none_back 10 n h)
 decimal_digits_back (suc k) n h = go (ltb n 10) refl (decimal_digits_back k (n / 10) (rest_below 10 k n (lit≤ tt) h))
   where
-    go : (t : Bool) → ltb n 10 ≡ t → scanned 10 0 (decimal_digits k (n / 10)) ≡ Is (n / 10) → scanned 10 0 (decimal_digits (suc k) n) ≡ Is n
+    go : (t : Bool) → ltb n 10 ≡ t → scanned 10 0 (decimal_digits k (n / 10)) ≡ Some (n / 10) → scanned 10 0 (decimal_digits (suc k) n) ≡ Some n
     go true e r =
         let l : n < 10 = ltb-true n 10 e in
         rw (e, digit_back n (lt_of_lt_of_le l (lit≤ tt)), lt-ltb n 10 l, zero-mul 10, zero-add n)
     go false e r = rw e (last_back 10 n (decimal_digits k (n / 10)) (lit≤ tt) (lit≤ tt) r)
 
-hexadecimal_back : (k n : ℕ) → n < 16 ^ k → scanned 16 0 (hexadecimal k n) ≡ Is n
+hexadecimal_back : (k n : ℕ) → n < 16 ^ k → scanned 16 0 (hexadecimal k n) ≡ Some n
 unfolding hexadecimal
-hexadecimal_back zero n h = ap Is (none_back 16 n h)
+hexadecimal_back zero n h = ap Some (none_back 16 n h)
 hexadecimal_back (suc k) n h =
     last_back 16 n (hexadecimal k (n / 16)) (lit≤ tt) (lit≤ tt) (hexadecimal_back k (n / 16) (rest_below 16 k n (lit≤ tt) h))
 
 -- what is read as a number begins with a digit, so with neither `-` nor `?`
-begins : (b n : ℕ) (xs : List ℕ) (c : ℕ) → b ≤ digit_of c → scanned b 0 xs ≡ Is n → 0 < length xs → get_or xs 0 0 ≡ c → ⊥
+begins : (b n : ℕ) (xs : List ℕ) (c : ℕ) → digit_of c ≡ None → scanned b 0 xs ≡ Some n → 0 < length xs → get_or xs 0 0 ≡ c → ⊥
 begins b n [] c q h l e = omega arith
-begins b n (x ∷ xs) c q h l e = let k = rw (e, le-ltb (digit_of c) b q) at h in let z : ◌≡◌ {A = ℕ} 0 1 = cc in omega arith
+begins b n (x ∷ xs) c q h l e = none-some n (rw (e, q) at h)
 
 other_text : (s : List ℕ) (c : ℕ) → 0 < length s → (get_or s 0 0 ≡ c → ⊥) → same_bytes s (c ∷ []) ≡ false
 unfolding same_bytes
@@ -159,32 +163,32 @@ led_decimal (suc n) h = go (eqb (length (decimal (suc n))) 1) refl
 
 -- ---- numbers and values
 
-scan_decimal : (n : ℕ) → n < 10 ^ 10 → scanned 10 0 (decimal n) ≡ Is n
+scan_decimal : (n : ℕ) → n < 10 ^ 10 → scanned 10 0 (decimal n) ≡ Some n
 scan_decimal n h = decimal_digits_back 10 n h
 
-pub decimal_back : (n : ℕ) → n < 10 ^ 10 → magnitude (decimal n) ≡ Is n
+pub decimal_back : (n : ℕ) → n < 10 ^ 10 → magnitude (decimal n) ≡ Some n
 decimal_back n h = rw (led_decimal n h, scan_decimal n h)
 
-whole_back : (z : ℤ) → mag z < 2 ^ 31 → event_field Wholes (whole_text z) ≡ Given (Whole z)
+whole_back : (z : ℤ) → mag z < 2 ^ 31 → event_field Wholes (whole_text z) ≡ Ok (Some (Whole z))
 unfolding digit_of same_bytes
 whole_back (pos n) h =
     let ds = decimal n in
     let b : n < 10 ^ 10 = omega arith in
     let s = scan_decimal n b in
     let l = some_digit n b in
-    let dashed = begins 10 n ds 45 (lit≤ tt) s l in
-    let asked = begins 10 n ds 63 (lit≤ tt) s l in
+    let dashed = begins 10 n ds 45 refl s l in
+    let asked = begins 10 n ds 63 refl s l in
     rw (other_text ds 45 l dashed, other_text ds 63 l asked, ne_eqb (get_or ds 0 0) 45 dashed, decimal_back n b, lt-ltb n 2147483648 h)
 whole_back (negsuc n) h =
     let b : suc n < 10 ^ 10 = omega arith in
     rw (not_empty (decimal (suc n)) (some_digit (suc n) b), decimal_back (suc n) b, eqb-suc-zero n, le-leb (suc n) 2147483648 h)
 
-truth_back : (b : Bool) → event_field Bools (printed (Truth b)) ≡ Given (Truth b)
+truth_back : (b : Bool) → event_field Bools (printed (Truth b)) ≡ Ok (Some (Truth b))
 unfolding same_bytes
 truth_back true = refl
 truth_back false = refl
 
-real_back : (x : Float) → T (is_finite x) → T (fits binary64 x) → event_field Reals (printed (Real x)) ≡ Given (Real x)
+real_back : (x : Float) → T (is_finite x) → T (fits binary64 x) → event_field Reals (printed (Real x)) ≡ Ok (Some (Real x))
 unfolding digit_of is_nan
 real_back nan t f = absurd t
 real_back (inf s) t f = absurd t
@@ -196,15 +200,15 @@ real_back (fin s m e) t f =
     let n = hexadecimal_length 16 w in
     let l : 0 < length ds = rw n (lit< tt) in
     rw (
-      other_text ds 45 l (begins 16 w ds 45 (lit≤ tt) r l),
-      other_text ds 63 l (begins 16 w ds 63 (lit≤ tt) r l),
+      other_text ds 45 l (begins 16 w ds 45 refl r l),
+      other_text ds 63 l (begins 16 w ds 63 refl r l),
       n,
       r,
       finite_by_bits x f,
       of_bits-to_bits binary64 x f,
     )
 
-unset_back : (k : Kind) → event_field k (printed Unset) ≡ Blank
+unset_back : (k : Kind) → event_field k (printed Unset) ≡ Ok None
 unfolding same_bytes
 unset_back k = refl
 

@@ -1,31 +1,22 @@
 -- Runs of bytes put over memory one after another.
-use Prim.Native.Nat.{ℕ, ◌+◌, ◌-◌, ◌≤◌}
+use Prim.Native.Nat.{ℕ, ◌+◌, ◌≤◌}
 use native.Mathlib.Nat.{add-zero}
 use native.Mathlib.Omega.{arith}
 use mathlib.Core.Path.{◌≡◌, refl, sym, ap, ap₂, ◌∙◌, subst}
 use mathlib.Core.List.{List, [], ◌∷◌, ◌++◌}
-use lib.ListN.{length, set, take, length-append}
-use lib.Seq.{length-take-le}
+use lib.ListN.{length, set, length-append}
+use borrow.Rule.Slice.PartMut.{put_mid}
 use Rattle.values.specs.definitions.Bytes.{overwritten}
 use Rattle.values.specs.inner_contracts.Puts.{Put}
-use Rattle.values.proofs.laws.ByteLaws.{overwritten_append, length_overwritten}
+use Rattle.values.proofs.laws.ByteLaws.{part_overwritten, overwritten_append, length_overwritten}
 
 pub put_none : (l : List ℕ) (at : ℕ) → Put [] l at l at
 put_none l at = record { end = sym (add-zero at); is = refl }
 
--- as functions that put bytes say it
-pub put_said : (bytes : List ℕ) {before after : List ℕ} {at r : ℕ} → (r ≡ at + length bytes) × (after ≡ overwritten before at bytes)
-    → Put bytes before at after r
-put_said bytes (e, i) = record { end = e; is = i }
-
--- the first bytes of an area, as code lends them
-pub put_front : (area : List ℕ) {before after : List ℕ} {at r : ℕ} (count : ℕ) → count ≤ length area
-    → (r ≡ at + length (take (count - 0) area)) × (after ≡ overwritten before at (take (count - 0) area))
-    → (r ≡ at + count) × Put (take count area) before at after r
-put_front area {before} {after} {at} {r} count h p =
-    let z : count - 0 ≡ count = omega arith in
-    let n = length-take-le count area h in
-    (p.0 ∙ ap (λ (k : ℕ). at + length (take k area)) z ∙ ap (λ (k : ℕ). at + k) n, rw z at (put_said (take (count - 0) area) p))
+-- a part of a slice written anew, as `copy_from_slice` leaves it
+pub put_part : (l : List ℕ) (at : ℕ) (bs new : List ℕ) (k : ℕ) → at + length bs ≤ length l → k ≡ length bs → new ≡ bs
+    → Put bs l at (put_mid at k l new) (at + length bs)
+put_part l at bs new k h e f = record { end = refl; is = part_overwritten l at bs new k h e f }
 
 -- one byte
 pub put_byte : (l : List ℕ) (at b : ℕ) → Put (b ∷ []) l at (set l at b) (at + 1)

@@ -88,3 +88,15 @@ finite_no_nan w h = rw (nan_bits_above binary64 w, le-ltb 9218868437227405312 (r
 pub settled_by_bits : (x : Float) (b : Bool) → T (fits binary64 x) → finite_bits (to_bits binary64 x) ≡ b → settled x ≡ cond b (Real x) Unset
 unfolding settled
 settled_by_bits x b f e = rw (sym (finite_by_bits x f) ∙ e)
+
+pub settled_nan : (x : Float) → is_nan x ≡ true → settled x ≡ Unset
+unfolding settled is_nan
+settled_nan nan h = refl
+settled_nan (inf s) h = absurd (true≢false (sym h))
+settled_nan (fin s m e) h = absurd (true≢false (sym h))
+
+pub settled_infinite : (x : Float) → T (fits binary64 x) → finite_bits (to_bits binary64 x) ≡ false → settled x ≡ Unset
+settled_infinite x f e = settled_by_bits x false f e
+
+pub settled_finite : (x : Float) → T (fits binary64 x) → finite_bits (to_bits binary64 x) ≡ true → settled x ≡ Real x
+settled_finite x f e = settled_by_bits x true f e

@@ -20,17 +20,14 @@ use Rattle.values.specs.declared.Operator.{Operator}
 use Rattle.values.specs.declared.Operator.TheVariants.{Plus, Minus, Times, Divide}
 use Rattle.values.specs.declared.Kind.{Kind}
 use Rattle.values.specs.declared.Kind.TheVariants.{Wholes, Bools, Reals}
-use Rattle.values.specs.declared.Number.{Number}
-use Rattle.values.specs.declared.Number.TheVariants.{Is, Not}
-use Rattle.values.specs.declared.Field.{Field}
-use Rattle.values.specs.declared.Field.TheVariants.{Blank, Given, Malformed}
+use Rattle.std.specs.Prelude.{Option, Some, None, Ok, Err}
 use Rattle.values.specs.definitions.Division.{is_zero}
 use Rattle.values.specs.definitions.Value.{is_finite, fitted, settled, whole_op, real_op, operated, negated, as_real}
 use Rattle.values.specs.definitions.Storable.{of_kind, in_range, storable}
 use Rattle.values.specs.definitions.Fitting.{number_kind, has_kind}
 use Rattle.values.specs.definitions.Bytes.{same_bytes}
 use Rattle.values.specs.definitions.Cells.{tag, payload, raised, finite_bits, unpacked, cell_bytes}
-use Rattle.values.specs.definitions.Forms.{dash, query, true_text, false_text, magnitude, scanned}
+use Rattle.values.specs.definitions.Forms.{Field, malformed, dash, query, true_text, false_text, magnitude, scanned}
 use Rattle.values.specs.definitions.Forms.{unsigned_whole, negative_whole, truth_field, finite_real, kind_field, event_field, presence_field}
 use Rattle.values.proofs.laws.WholeLaws.{raised_lt, lowered_mag, lowered_raised, neg_small}
 use Rattle.values.proofs.laws.RealLaws.{finite_of_bits, finite_by_bits}
@@ -200,35 +197,35 @@ length_cell_bytes v = ap suc (length_low_first 8 (payload v))
 
 -- a field that gives a value gives a storable one
 abbrev gives : Kind → Field → Bool
-gives k Blank = true
-gives k (Given v) = storable k v
-gives k Malformed = true
+gives k (Ok None) = true
+gives k (Ok (Some v)) = storable k v
+gives k (Err e) = true
 
-unsigned_gives : (m : Number) → T (gives Wholes (unsigned_whole m))
-unsigned_gives (Is n) = go (ltb n 2147483648) refl
+unsigned_gives : (m : Option ℕ) → T (gives Wholes (unsigned_whole m))
+unsigned_gives (Some n) = go (ltb n 2147483648) refl
   where
-    go : (b : Bool) → ltb n 2147483648 ≡ b → T (gives Wholes (cond b (Given (Whole (pos n))) Malformed))
+    go : (b : Bool) → ltb n 2147483648 ≡ b → T (gives Wholes (cond b (Ok (Some (Whole (pos n)))) (Err malformed)))
     go true e = whole_storable (pos n) (ltb-true n 2147483648 e)
     go false e = tt
-unsigned_gives Not = tt
+unsigned_gives None = tt
 
-negative_gives : (m : Number) → T (gives Wholes (negative_whole m))
-negative_gives (Is n) = go (eqb n 0) (leb n 2147483648) refl
+negative_gives : (m : Option ℕ) → T (gives Wholes (negative_whole m))
+negative_gives (Some n) = go (eqb n 0) (leb n 2147483648) refl
   where
-    go : (a b : Bool) → leb n 2147483648 ≡ b → T (gives Wholes (cond a Malformed (cond b (Given (Whole (neg_ℤ (pos n)))) Malformed)))
+    go : (a b : Bool) → leb n 2147483648 ≡ b → T (gives Wholes (cond a (Err malformed) (cond b (Ok (Some (Whole (neg_ℤ (pos n))))) (Err malformed))))
     go true b e = tt
     go false true e = whole_storable (neg_ℤ (pos n)) (neg_small n (leb-true n 2147483648 e))
     go false false e = tt
-negative_gives Not = tt
+negative_gives None = tt
 
-real_gives : (m : Number) → T (gives Reals (finite_real m))
+real_gives : (m : Option ℕ) → T (gives Reals (finite_real m))
 unfolding storable
-real_gives (Is w) = go (finite_bits w) refl
+real_gives (Some w) = go (finite_bits w) refl
   where
-    go : (b : Bool) → finite_bits w ≡ b → T (gives Reals (cond b (Given (Real (of_bits binary64 w))) Malformed))
+    go : (b : Bool) → finite_bits w ≡ b → T (gives Reals (cond b (Ok (Some (Real (of_bits binary64 w)))) (Err malformed)))
     go true e = rw (finite_of_bits w, e) (of_bits-fits binary64 w)
     go false e = tt
-real_gives Not = tt
+real_gives None = tt
 
 test_gives : (k : Kind) (b : Bool) (f g : Field) → T (gives k f) → T (gives k g) → T (gives k (cond b f g))
 test_gives k true f g p q = p
@@ -238,7 +235,7 @@ truth_gives : (s : List ℕ) → T (gives Bools (truth_field s))
 unfolding storable
 truth_gives s = go (same_bytes s true_text) (same_bytes s false_text)
   where
-    go : (a b : Bool) → T (gives Bools (cond a (Given (Truth true)) (cond b (Given (Truth false)) Malformed)))
+    go : (a b : Bool) → T (gives Bools (cond a (Ok (Some (Truth true))) (cond b (Ok (Some (Truth false))) (Err malformed))))
     go true b = tt
     go false true = tt
     go false false = tt
@@ -248,20 +245,20 @@ kind_gives Wholes s =
     let n = magnitude (drop 1 s) in
     test_gives Wholes (eqb (get_or s 0 0) 45) (negative_whole n) (unsigned_whole (magnitude s)) (negative_gives n) (unsigned_gives (magnitude s))
 kind_gives Bools s = truth_gives s
-kind_gives Reals s = let w = scanned 16 0 s in test_gives Reals (eqb (length s) 16) (finite_real w) Malformed (real_gives w) tt
+kind_gives Reals s = let w = scanned 16 0 s in test_gives Reals (eqb (length s) 16) (finite_real w) (Err malformed) (real_gives w) tt
 
 event_gives : (k : Kind) (s : List ℕ) → T (gives k (event_field k s))
 event_gives k s =
-    let f = cond (same_bytes s query) (Given Unset) (kind_field k s) in
-    test_gives k (same_bytes s dash) Blank f tt (test_gives k (same_bytes s query) (Given Unset) (kind_field k s) (unset_storable k) (kind_gives k s))
+    let f = cond (same_bytes s query) (Ok (Some Unset)) (kind_field k s) in
+    test_gives k (same_bytes s dash) (Ok None) f tt (test_gives k (same_bytes s query) (Ok (Some Unset)) (kind_field k s) (unset_storable k) (kind_gives k s))
 
-pub event_field_storable : (k : Kind) (s : List ℕ) (v : Value) → event_field k s ≡ Given v → T (storable k v)
+pub event_field_storable : (k : Kind) (s : List ℕ) (v : Value) → event_field k s ≡ Ok (Some v) → T (storable k v)
 event_field_storable k s v e = rw e at (event_gives k s)
 
-pub presence_field_truth : (s : List ℕ) (v : Value) → presence_field s ≡ Given v → (b : Bool) × (v ≡ Truth b)
+pub presence_field_truth : (s : List ℕ) (v : Value) → presence_field s ≡ Ok (Some v) → (b : Bool) × (v ≡ Truth b)
 presence_field_truth s v e = go (same_bytes s dash) (same_bytes s true_text) (same_bytes s false_text) e
   where
-    go : (a b c : Bool) → cond a Blank (cond b (Given (Truth true)) (cond c (Given (Truth false)) Malformed)) ≡ Given v → (b : Bool) × (v ≡ Truth b)
+    go : (a b c : Bool) → cond a (Ok None) (cond b (Ok (Some (Truth true))) (cond c (Ok (Some (Truth false))) (Err malformed))) ≡ Ok (Some v) → (b : Bool) × (v ≡ Truth b)
     go false true c e = (true, cc)
     go false false true e = (false, cc)
     go true b c e = let z : ◌≡◌ {A = ℕ} 0 1 = cc in absurd (omega arith)

@@ -7,4 +7,4 @@ pub loop-i-init : goal.loop-i-init
 loop-i-init c = search (rules, fresh_cells_begin)
 
 pub loop-i-preserved : goal.loop-i-preserved
-loop-i-preserved c = (omega arith, fresh_cells_next c.loop-i.invariant.1 c.fresh_value-v.ensures c.pack-p.ensures c.put_tagged-end.ensures)
+loop-i-preserved c = (omega arith, fresh_cells_next c.loop-i.invariant.1 c.fresh_value-v.ensures (c.pack-p.ensures.tag, c.pack-p.ensures.word) c.put_tagged-end.ensures)

@@ -15,12 +15,12 @@ returns-then-size-eq0 c = no_sender _ _ c.if-values-gt-MOST_RECORD_BYTES.false (
 pub returns-then-size-values : goal.returns-then-size-values
 returns-then-size-values c = sender_alone _ _ c.if-values-gt-MOST_RECORD_BYTES.false (sym c.has_byte.ensures ∙ c.if-has_byte.false) c.field_end-size.ensures c.if-size-values.true
 
-pub returns-in-Not : goal.returns-in-Not
-returns-in-Not c =
+pub returns-in-None : goal.returns-in-None
+returns-in-None c =
     sent_no_number _ _ c.if-values-gt-MOST_RECORD_BYTES.false (sym c.has_byte.ensures ∙ c.if-has_byte.false) c.field_end-size.ensures c.if-size-eq0.false
-    c.if-size-values.false c.first_size-digits.ensures.0 c.if-digits-eq0.false c.magnitude-number.ensures c.in-Not.is
+    c.if-size-values.false c.first_size-digits.ensures.0 c.if-digits-eq0.false c.magnitude.ensures c.in-None.is
 
-pub returns-in-Is : goal.returns-in-Is
-returns-in-Is c =
+pub returns-in-Some : goal.returns-in-Some
+returns-in-Some c =
     sent_number _ _ c.if-values-gt-MOST_RECORD_BYTES.false (sym c.has_byte.ensures ∙ c.if-has_byte.false) c.field_end-size.ensures c.if-size-eq0.false
-    c.if-size-values.false c.first_size-digits.ensures.0 c.if-digits-eq0.false c.magnitude-number.ensures c.in-Is.is
+    c.if-size-values.false c.first_size-digits.ensures.0 c.if-digits-eq0.false c.magnitude.ensures c.in-Some.is

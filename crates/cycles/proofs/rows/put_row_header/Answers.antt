@@ -5,13 +5,13 @@ use Rattle.cycles.proofs.rows.put_row_header.Goals as goal
 
 pub loop-i-init : goal.loop-i-init
 loop-i-init c =
-    let e = c.put_bytes-at.ensures.0 in
+    let e = c.put_bytes-at.ensures.end in
     let k = c.put_bytes-at.auto.s in
     record { within = omega arith; so_far = names_begin _ _ (omega arith) }
 
 pub loop-i-preserved : goal.loop-i-preserved
 loop-i-preserved c =
-    let e = c.put_bytes-at.ensures.0 in
+    let e = c.put_bytes-at.ensures.end in
     let k = c.put_bytes-at.auto.s in
     record {
       within = omega arith;

@@ -1,12 +1,12 @@
 use Rattle.std.proofs.Common.{arith, [], ◌∷◌}
-use Rattle.values.proofs.laws.PutLaws.{put_said, put_next}
+use Rattle.values.proofs.laws.PutLaws.{put_next}
 use Rattle.replay.proofs.steps.LineLaws.{row_short, row_put, refused_put}
 use Rattle.replay.proofs.rows.put_values.Goals as goal
 
 pub returns-in-Err : goal.returns-in-Err
 returns-in-Err c =
     refused_put _ _ _ _ _ _ _ c.take_record-taken.ensures _ _ c.in-Err.is c.code.ensures (omega arith) (omega arith) (omega arith)
-    (put_next c.put_refusal-word.ensures (put_said (10 ∷ []) c.put_bytes-end.ensures))
+    (put_next c.put_refusal-word.ensures c.put_bytes-end.ensures)
 
 pub returns-in-Ok : goal.returns-in-Ok
 returns-in-Ok c =

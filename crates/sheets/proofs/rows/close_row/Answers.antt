@@ -1,7 +1,6 @@
 -- the spaces, then the line feed
-use mathlib.Core.List.{[], ◌∷◌}
-use Rattle.values.proofs.laws.PutLaws.{put_said, put_next}
+use Rattle.values.proofs.laws.PutLaws.{put_next}
 use Rattle.sheets.proofs.rows.close_row.Goals as goal
 
 pub returns : goal.returns
-returns c = put_next c.put_spaces-filled.ensures (put_said (10 ∷ []) c.put_bytes.ensures)
+returns c = put_next c.put_spaces-filled.ensures c.put_bytes.ensures

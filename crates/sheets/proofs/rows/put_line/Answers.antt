@@ -9,7 +9,7 @@ use Rattle.sheets.proofs.rows.put_line.Goals as goal
 pub put_sheet_row-requires : goal.put_sheet_row-requires
 put_sheet_row-requires c =
     let d = c.put_decimal-end in
-    let e = decimal_text (replicate NUMBER_COLUMNS 0) d.new.s c.args.n d.result refl d.ensures.0 d.ensures.1 in
+    let e = decimal_text (replicate NUMBER_COLUMNS 0) d.new.s c.args.n d.result refl d.ensures.end d.ensures.is in
     let vs = take c.args.count c.args.vs in
     let few = chosen_most c.args.vs c.args.count c.requires.0 in
     let r = row_end false (decimal c.args.n) vs (decimal_most c.args.n) few (row_same false vs e c.put_sheet_row-a.ensures) in
@@ -18,7 +18,7 @@ put_sheet_row-requires c =
 pub returns-then-has_set_real : goal.returns-then-has_set_real
 returns-then-has_set_real c =
     let d = c.put_decimal-end in
-    let e = decimal_text (replicate NUMBER_COLUMNS 0) d.new.s c.args.n d.result refl d.ensures.0 d.ensures.1 in
+    let e = decimal_text (replicate NUMBER_COLUMNS 0) d.new.s c.args.n d.result refl d.ensures.end d.ensures.is in
     let vs = take c.args.count c.args.vs in
     let has = sym c.has_set_real.ensures ∙ c.if-has_set_real.true in
     line_two_put (record { number = c.args.n; values = vs }) has (row_same false vs e c.put_sheet_row-a.ensures) c.put_sheet_row.ensures
@@ -26,7 +26,7 @@ returns-then-has_set_real c =
 pub returns : goal.returns
 returns c =
     let d = c.put_decimal-end in
-    let e = decimal_text (replicate NUMBER_COLUMNS 0) d.new.s c.args.n d.result refl d.ensures.0 d.ensures.1 in
+    let e = decimal_text (replicate NUMBER_COLUMNS 0) d.new.s c.args.n d.result refl d.ensures.end d.ensures.is in
     let vs = take c.args.count c.args.vs in
     let has_none = sym c.has_set_real.ensures ∙ c.if-has_set_real.false in
     line_one_put (record { number = c.args.n; values = vs }) has_none (row_same false vs e c.put_sheet_row-a.ensures)

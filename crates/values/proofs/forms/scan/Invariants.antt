@@ -1,15 +1,10 @@
-use Rattle.std.proofs.Common.{◌≡◌, ◌≤◌, ◌<◌, ◌-◌, ◌*◌, ◌^◌, length, drop}
+use Rattle.std.proofs.Common.{◌≡◌, ◌<◌, ◌*◌, ◌^◌, drop}
 use Rattle.values.specs.definitions.Forms.{scanned}
 use Rattle.values.proofs.forms.scan.Given as goal
 
 -- the digits that are left, after the number so far, give what all of them give; each digit takes 4 bits at most
-abbrev pub invariant-loop-i : goal.invariant-loop-i
-invariant-loop-i l = record {
-  from_on : l.from ≤ l.i;
-  inside : l.i ≤ length l.s;
-  fits : l.acc < 2 ^ (4 * (l.i - l.from));
-  gives : scanned l.base l.acc (drop l.i l.s) ≡ scanned l.base 0 (drop l.from l.s);
+abbrev pub invariant-loop-c : goal.invariant-loop-c
+invariant-loop-c l = record {
+  fits : l.n < 2 ^ (4 * l.c-index);
+  gives : scanned l.base l.n (drop l.c-index l.digits) ≡ scanned l.base 0 l.digits;
 }
-
-abbrev pub decreases-loop-i : goal.decreases-loop-i
-decreases-loop-i l = length l.s - l.i

@@ -11,15 +11,15 @@ pub returns-then-a-b-lt0 : goal.returns-then-a-b-lt0
 unfolding quot_less remainder_times
 returns-then-a-b-lt0 c =
     let remainder_is = to_z-of_z (op_fits rem_z remainder_mag c.ranges.x c.ranges.y) in
-    let test = rw (remainder_is, op_is remainder_times remainder_times_mag c.ranges.x c.ranges.y) at c.if-a-b-lt0.true in
-    rw (zero_not c.args.y (rw (to_z-of_z c.ranges.y) at c.if-b-eq0.false), other_sign (rem_z c.args.x c.args.y) c.args.y test)
-    (c.fit.ensures
+    let test = rw (remainder_is, op_is remainder_times remainder_times_mag c.ranges.x c.ranges.y) at (rw (c.from-a.ensures, c.from-b.ensures) at c.if-a-b-lt0.true) in
+    rw (zero_not c.args.y (rw (to_z-of_z c.ranges.y) at (rw c.from-b.ensures at c.if-b-eq0.false)), other_sign (rem_z c.args.x c.args.y) c.args.y test)
+    ((rw (c.from-a.ensures, c.from-b.ensures) at c.fit.ensures)
     ∙ ap fitted (rw (to_z-of_z (op_fits quot_z quot_mag c.ranges.x c.ranges.y)) (op_is quot_less quot_less_mag c.ranges.x c.ranges.y)))
 
 pub returns : goal.returns
 unfolding remainder_times
 returns c =
     let remainder_is = to_z-of_z (op_fits rem_z remainder_mag c.ranges.x c.ranges.y) in
-    let test = rw (remainder_is, op_is remainder_times remainder_times_mag c.ranges.x c.ranges.y) at c.if-a-b-lt0.false in
-    let set = zero_not c.args.y (rw (to_z-of_z c.ranges.y) at c.if-b-eq0.false) in
-    rw (set, own_sign (rem_z c.args.x c.args.y) c.args.y set test) (c.fit-2.ensures ∙ ap fitted (op_is quot_z quot_mag c.ranges.x c.ranges.y))
+    let test = rw (remainder_is, op_is remainder_times remainder_times_mag c.ranges.x c.ranges.y) at (rw (c.from-a.ensures, c.from-b.ensures) at c.if-a-b-lt0.false) in
+    let set = zero_not c.args.y (rw (to_z-of_z c.ranges.y) at (rw c.from-b.ensures at c.if-b-eq0.false)) in
+    rw (set, own_sign (rem_z c.args.x c.args.y) c.args.y set test) ((rw (c.from-a.ensures, c.from-b.ensures) at c.fit-2.ensures) ∙ ap fitted (op_is quot_z quot_mag c.ranges.x c.ranges.y))
