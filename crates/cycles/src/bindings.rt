@@ -1,5 +1,5 @@
 // The rules that are tried, each for every binding of its variables.
-ghost use Rattle.std.specs.Prelude.{◌+◌, ◌*◌, ◌≤◌, ◌≡◌, cond, length, get_or};
+ghost use Rattle.std.specs.Prelude.{◌+◌, ◌*◌, ◌≤◌, ◌≡◌, length, get_or};
 ghost use Rattle.checking.specs.inner_contracts.Directory;
 ghost use Rattle.checking.specs.inner_contracts.Directory.{rule_row};
 ghost use Rattle.checking.specs.definitions.CountFaults;
@@ -12,7 +12,7 @@ use crate::calls::rule_at;
 use crate::evaluate::{Binding, with_entity};
 use crate::finding::find_guards;
 use crate::guards::{Candidates, Guards, narrow};
-use crate::layout::{ALL_GUARD_ROWS, ALL_RANGE_ROWS};
+use crate::layout::ALL_RANGE_ROWS;
 use crate::quiescence::tried_rules;
 use crate::rules::Rules;
 use crate::store::{Store, Stores};
@@ -54,19 +54,15 @@ struct Range {
 fn range_of(rules: &Rules<'_>, store: &Store<'_>, n: u8, face: u8) -> Range
     ensures { Ranged rules.now.columns.d.now store.now.flags n face result.first result.end }
 {
-    let mut first: u8 = 0;
-    let mut end: u8 = 0;
-    let mut e: u8 = 0;
-    while e < n {
-        let is = is_candidate(rules, store, face, e);
-        e += 1;
-        if !is {
-            continue;
+    let mut first = 0;
+    let mut end = 0;
+    for e in 0..n {
+        if is_candidate(rules, store, face, e) {
+            if end == 0 {
+                first = e;
+            }
+            end = e + 1;
         }
-        if end == 0 {
-            first = e - 1;
-        }
-        end = e;
     }
     Range { first, end }
 }
@@ -77,35 +73,22 @@ fn find_ranges(rules: &Rules<'_>, store: &Store<'_>, n: u8, ranges: &mut [u8])
     requires { 2 * CountFaults.MOST_INTERFACES ≤ length ranges.old }
     ensures { Ranges rules.now.columns.d.now store.now.flags n ranges.new }
 {
-    let mut face: u8 = 0;
-    while face < MOST_INTERFACES_8 {
+    for face in 0..MOST_INTERFACES_8 {
         let range = range_of(rules, store, n, face);
         let row = 2 * (face as usize);
         ranges[row] = range.first;
         ranges[row + 1] = range.end;
-        face += 1;
     }
-}
-
-fn mark_of(is: bool) -> u8
-    ensures { result ≡ cond is 1 0 }
-{
-    if is {
-        return 1;
-    }
-    0
 }
 
 // Marks the candidates for an interface, from number `first` on, below `end`.
 #[tactic(auto, using(crate::proofs::steps::BindingPuts::marks_more))]
-fn mark_candidates(rules: &Rules<'_>, store: &Store<'_>, face: u8, range: Range, marks: &mut [u8])
+fn mark_candidates(rules: &Rules<'_>, store: &Store<'_>, face: u8, range: Range, marks: &mut [bool])
     requires { range.end ≤ length marks.old }
     ensures { MarksSet rules.now.columns.d.now store.now.flags face range.first range.end marks.new }
 {
-    let mut e = range.first;
-    while e < range.end {
-        marks[e as usize] = mark_of(is_candidate(rules, store, face, e));
-        e += 1;
+    for e in range.first..range.end {
+        marks[e as usize] = is_candidate(rules, store, face, e);
     }
 }
 
@@ -128,7 +111,7 @@ fn bind(
 )
     requires in_bounds { Evaluation.MOST_PENDING_BYTES ≤ length area.old }
     requires ranges { Ranges rules.now.columns.d.now stores.now.current.flags (get_or rules.now.columns.d.now Directory.ENTITY_COUNT_ROW 0) trial.now.ranges.now }
-    requires guards_found { GuardsFound rules.now.columns.classes.now rules.now.references.now (get_or rules.now.columns.d.now (rule_row trial.now.k) 0 + 1) trial.now.guards.now.rows trial.now.guards.now.count }
+    requires guards_found { GuardsFound rules.now.columns.classes.now rules.now.references.now (get_or rules.now.columns.d.now (rule_row trial.now.k) 0 + 1) trial.now.guards.now.items }
     ensures { BindingsWritten rules.now stores.now.current stores.now.previous trial.now.k level b area.old area.new }
 {
     if is_complete(rules, trial.k, level) {
@@ -143,7 +126,7 @@ fn bind(
     if MOST_ENTITIES_8 < end {
         return;
     }
-    let mut marks: [u8; MOST_ENTITIES] = [0; MOST_ENTITIES];
+    let mut marks = [false; MOST_ENTITIES];
     mark_candidates(
         rules,
         &stores.current,
@@ -158,24 +141,20 @@ fn bind(
         end,
     };
     narrow(rules, stores, trial.guards, candidates, &mut marks);
-    let mut next = first;
-    while next < end {
-        let e = next;
-        next += 1;
+    for e in first..end {
         let with = with_entity(b, level, e);
-        if marks[e as usize] == 0 {
-            continue;
+        if marks[e as usize] {
+            bind(rules, stores, trial, level + 1, with, area);
         }
-        bind(rules, stores, trial, level + 1, with, area);
     }
 }
 
 // The guards of rule number k. With no variable there is one binding, and they would save nothing.
 fn rule_guards(rules: &Rules<'_>, k: u8, guards: &mut Guards)
-    ensures { GuardsFound rules.now.columns.classes.now rules.now.references.now (get_or rules.now.columns.d.now (rule_row k) 0 + 1) guards.new.rows guards.new.count }
+    ensures { GuardsFound rules.now.columns.classes.now rules.now.references.now (get_or rules.now.columns.d.now (rule_row k) 0 + 1) guards.new.items }
 {
     if rules.scope(SCOPE_ROWS * (k as usize)) == 0 {
-        guards.count = 0;
+        guards.clear();
         return;
     }
     find_guards(rules, rules.row(RULE_ROWS + (k as usize)) + 1, guards);
@@ -198,14 +177,8 @@ fn try_rules(rules: &Rules<'_>, stores: &Stores<'_>, set: u64, area: &mut [u8])
     }
     let mut ranges: [u8; ALL_RANGE_ROWS] = [0; ALL_RANGE_ROWS];
     find_ranges(rules, &stores.current, entities as u8, &mut ranges);
-    let mut guards = Guards {
-        rows: [0; ALL_GUARD_ROWS],
-        count: 0,
-    };
-    let mut next: u8 = 0;
-    while (next as usize) < n {
-        let k = next;
-        next += 1;
+    let mut guards = Guards::new();
+    for k in 0..n as u8 {
         if !has_bit(set, k) {
             continue;
         }

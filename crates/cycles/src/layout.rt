@@ -75,29 +75,5 @@ pub const SCOPES_BYTES: usize = READ_SETS_AT + READ_SET_BYTES * MOST_RULES;
 // Where among the entities the candidates for each interface begin and end.
 pub const ALL_RANGE_ROWS: usize = 2 * MOST_INTERFACES;
 
-// A guard's code and three tokens; the memory has room for so many guards.
-pub const GUARD_ROWS: usize = 4;
-
+// A rule has room for so many guards.
 pub const MOST_GUARDS: usize = 16;
-
-pub const ALL_GUARD_ROWS: usize = GUARD_ROWS * MOST_GUARDS;
-
-// The kinds of guards, those with an expression first: a cell is equal to an expression now,
-pub const EQUAL_NOW: usize = 0;
-
-pub const EQUAL_NOW_8: u8 = EQUAL_NOW as u8;
-
-// is not equal to it before,
-pub const UNEQUAL_BEFORE: usize = 1;
-
-pub const UNEQUAL_BEFORE_8: u8 = UNEQUAL_BEFORE as u8;
-
-// changes,
-pub const CELL_CHANGES: usize = 2;
-
-pub const CELL_CHANGES_8: u8 = CELL_CHANGES as u8;
-
-// or a condition in parentheses holds.
-pub const GROUP_HOLDS: usize = 3;
-
-pub const GROUP_HOLDS_8: u8 = GROUP_HOLDS as u8;

@@ -1,9 +1,10 @@
 -- The guards of a rule at bindings: one that fails in memory with an entity for the next variable fails at every binding that begins so, and none
 -- of those writes anything. So the entity needs no mark.
-use Prim.Native.Nat.{ℕ, zero, suc, ◌+◌, ◌*◌, ◌/◌, ◌%◌, ◌≤◌, ◌<◌}
+use Prim.Native.Nat.{ℕ, zero, suc, ◌+◌, ◌/◌, ◌%◌, ◌≤◌, ◌<◌}
 use native.Mathlib.Omega.{arith}
-use mathlib.Core.Path.{◌≡◌, refl, sym, ap, ap₂, ◌∙◌}
-use mathlib.Core.Bool.{Bool, true, false, true≢false, beq}
+use mathlib.Core.Path.{◌≡◌, refl, sym, ap, ap₂, ◌∙◌, subst}
+use mathlib.Core.Bool.{Bool, true, false, true≢false}
+use Rattle.std.specs.Bool.{beq}
 use mathlib.Core.List.{List, [], ◌∷◌, ◌++◌, map}
 use mathlib.Core.Logic.{◌⊎◌, inl, inr}
 use lib.Dec.{eqb, ltb}
@@ -23,6 +24,10 @@ use Rattle.text.proofs.laws.WalkLaws.{walk_yields}
 use Rattle.checking.specs.definitions.Scope.{Variable, variables}
 use Rattle.checking.specs.inner_contracts.Directory.{rule_row}
 use Rattle.cycles.specs.declared.evaluate.Binding.{Binding}
+use Rattle.cycles.specs.declared.guards.Guard.{Guard}
+use Rattle.cycles.specs.declared.guards.GuardKind.{GuardKind}
+use Rattle.cycles.specs.declared.guards.GuardKind.TheVariants.{EqualNow, UnequalBefore, Changes, Holds}
+use Rattle.std.proofs.lemmas.List.Elements.{All-get_or}
 use Rattle.cycles.specs.definitions.Store.{Store}
 use Rattle.cycles.specs.definitions.Spots.{Spots, spots}
 use Rattle.cycles.specs.inner_contracts.TotalMachine.{value_at, value, holds, binding_writes}
@@ -35,11 +40,7 @@ use Rattle.cycles.specs.inner_contracts.GuardKinds.{
   Names,
   spot_named,
   Part,
-  Guard,
-  EQUAL_NOW,
-  UNEQUAL_BEFORE,
-  CELL_CHANGES,
-  GROUP_HOLDS,
+  Silences,
   equals_now,
   differs_before,
   changes,
@@ -52,6 +53,7 @@ use Rattle.cycles.specs.inner_contracts.GuardKinds.{
 }
 use Rattle.cycles.specs.inner_contracts.Failing.{
   MarksTaken,
+  FailsWith,
   CellFails,
   ValueFails,
   Unchanged,
@@ -199,6 +201,14 @@ module _ {classes values d refs scopes flags cells previous_flags previous_cells
 
 -- ---- a guard that fails with an entity for the next variable
 
+not_true : (t : Bool) → beq t true ≡ false → t ≡ false
+not_true true h = h
+not_true false h = refl
+
+not_false : (t : Bool) → beq t false ≡ false → t ≡ true
+not_false true h = refl
+not_false false h = sym h
+
 module _ {classes values d refs scopes flags cells previous_flags previous_cells : List ℕ} {k level e : ℕ} {b r : Binding} (added : EntityAdded b level e r)
     (c : Chosen classes values d refs scopes flags cells previous_flags previous_cells k (level + 1) r)
     (rest : List ℕ) (among : Among rest (bindings (file c) c.given.now (drop (level + 1) (variables c.rule)))) where
@@ -208,12 +218,13 @@ module _ {classes values d refs scopes flags cells previous_flags previous_cells
   value_fails : {f v : List ℕ} {s : Store} → Stored (length (file c).entities) f v s → {n m : ℕ} → Names (world_rows c rest among) n m
       → Covered refs (level + 1) n (n + 1) → {inner : ℕ} → inner ≤ level + 1
       → {at : ℕ} {x : Expression} → Part (expression_reader OPENERS) (world_rows c rest among) refs inner at x
-      → {outcome : Bool} → ValueFails classes values refs b level f v inner (get_or refs n 0 % 256) (get_or refs m 0 / 256) at outcome e
-      → equal (value_at s (spot_named (world_rows c rest among) (world_spots c rest among) n m)) (value (world_spots c rest among) s x) ≡ outcome
-  value_fails stored names covered {inner} most p h =
-      let same = added_agree added h.cell.added below_three in
+      → {wanted : Bool} (with : FailsWith b level (ValueFails classes values refs f v level inner (get_or refs n 0 % 256) (get_or refs m 0 / 256) at wanted) e)
+      → beq (equal (value_at s (spot_named (world_rows c rest among) (world_spots c rest among) n m)) (value (world_spots c rest among) s x)) wanted ≡ false
+  value_fails stored names covered {inner} most p {wanted} with =
+      let h = with.fails in
+      let same = added_agree added with.added below_three in
       let agree : Agree r h.with_binding inner = λ v l. same v (omega arith) ∙ h.agrees below_three v l (omega arith) in
-      ap₂ equal (sym (cell_is c rest among h.cell.binding (omega arith) same stored names covered h.cell.reads))
+      ap₂ (λ x y. beq (equal x y) wanted) (sym (cell_is c rest among with.binding (omega arith) same stored names covered h.cell.reads))
       (sym (value_is c rest among h.with_binding most agree stored p h.walk))
       ∙ h.cell.fails
 
@@ -221,54 +232,57 @@ module _ {classes values d refs scopes flags cells previous_flags previous_cells
   abbrev Silent : (Spots → Store → Store → Type 0) → Type 0
   Silent silence = silence (world_spots c rest among) c.given.now c.given.previous
 
-  abbrev Fails : ℕ → ℕ → ℕ → ℕ → ℕ → Type 0
-  Fails inner n m at kind = GuardFails classes values refs b level flags cells previous_flags previous_cells inner n m at e kind
+  abbrev Fails : Guard → GuardKind → Type 0
+  Fails g kind = GuardFails classes values refs b level flags cells previous_flags previous_cells g e kind
 
-  fails_silent : (silence : Spots → Store → Store → Type 0) {inner kind n m at : ℕ}
-      → Guard (world_rows c rest among) refs silence (level + 1) inner kind n m at → Fails inner n m at kind → Silent silence
-  fails_silent silence {inner} {kind} {n} {m} {at} (equals_now e names covered most p quiet) f = go (rw e at f)
+  fails_silent : (silence : Spots → Store → Store → Type 0) {g : Guard} → Silences (world_rows c rest among) refs silence g → g.level ≡ level + 1
+      → Fails g g.kind → Silent silence
+  fails_silent silence {g} (equals_now k names covered most p quiet) l f = go (subst (Fails g) k f)
     where
-      go : Fails inner n m at EQUAL_NOW → Silent silence
+      go : Fails g EqualNow → Silent silence
       go (unequal_now h) =
-          quiet (world_spots c rest among) c.given.now c.given.previous (value_fails c.given.now_stored names covered most p h)
-  fails_silent silence {inner} {kind} {n} {m} {at} (differs_before e names covered most p quiet) f = go (rw e at f)
+          quiet (world_spots c rest among) c.given.now c.given.previous
+          (not_true _ (value_fails c.given.now_stored names (rw l at covered) (rw l at most) p h))
+  fails_silent silence {g} (differs_before k names covered most p quiet) l f = go (subst (Fails g) k f)
     where
-      go : Fails inner n m at UNEQUAL_BEFORE → Silent silence
+      go : Fails g UnequalBefore → Silent silence
       go (equal_before h) =
-          quiet (world_spots c rest among) c.given.now c.given.previous (value_fails c.given.previous_stored names covered most p h)
-  fails_silent silence {inner} {kind} {n} {m} {at} (changes e names covered quiet) f = go (rw e at f)
-    where
-      go : Fails inner n m at CELL_CHANGES → Silent silence
-      go (unchanged h) =
-          let same = added_agree added h.added below_three in
           quiet (world_spots c rest among) c.given.now c.given.previous
-          (ap₂ differ (sym (cell_is c rest among h.binding (omega arith) same c.given.now_stored names covered h.reads))
-          (sym (cell_is c rest among h.binding (omega arith) same c.given.previous_stored names covered h.reads_earlier))
-          ∙ h.same)
-  fails_silent silence {inner} {kind} {n} {m} {at} (group e p quiet) f = go (rw e at f)
+          (not_false _ (value_fails c.given.previous_stored names (rw l at covered) (rw l at most) p h))
+  fails_silent silence {g} (changes k names covered quiet) l f = go (subst (Fails g) k f)
     where
-      go : Fails inner n m at GROUP_HOLDS → Silent silence
-      go (group_false h) =
+      go : Fails g Changes → Silent silence
+      go (unchanged with) =
+          let same = added_agree added with.added below_three in
+          let own = rw l at covered in
           quiet (world_spots c rest among) c.given.now c.given.previous
-          (sym (group_is c rest among h.binding (omega arith) (added_agree added h.added below_three) p h.walk))
+          (ap₂ differ (sym (cell_is c rest among with.binding (omega arith) same c.given.now_stored names own with.fails.reads))
+          (sym (cell_is c rest among with.binding (omega arith) same c.given.previous_stored names own with.fails.reads_earlier))
+          ∙ with.fails.same)
+  fails_silent silence {g} (group k p quiet) l f = go (subst (Fails g) k f)
+    where
+      go : Fails g Holds → Silent silence
+      go (group_false with) =
+          quiet (world_spots c rest among) c.given.now c.given.previous
+          (sym (group_is c rest among with.binding (omega arith) (added_agree added with.added below_three) (rw l at p) with.fails.walk))
 
 -- ---- marks
 
 module _ {Failing : ℕ → Type 0} where
-  pub mark_taken : {before : List ℕ} (marks : List ℕ) (e : ℕ) → MarksTaken Failing before marks → e < length marks → Failing e
-      → MarksTaken Failing before (set marks e 0)
+  pub mark_taken : {before : List Bool} (marks : List Bool) (e : ℕ) → MarksTaken Failing before marks → e < length marks → Failing e
+      → MarksTaken Failing before (set marks e false)
   mark_taken {before} marks e t h f = record { takes = λ i. go i (eqb i e) refl }
     where
-      go : (i : ℕ) (s : Bool) → eqb i e ≡ s → (get_or (set marks e 0) i 0 ≡ get_or before i 0) ⊎ ((get_or (set marks e 0) i 0 ≡ 0) × Failing i)
-      go i true q = rw (eqb-true i e q) (inr (get_or-set_same marks e 0 0 h, f))
-      go i false q = rw (get_or-set_other marks e i 0 0 (eqb-false i e q)) (t.takes i)
+      go : (i : ℕ) (s : Bool) → eqb i e ≡ s → (get_or (set marks e false) i false ≡ get_or before i false) ⊎ ((get_or (set marks e false) i false ≡ false) × Failing i)
+      go i true q = rw (eqb-true i e q) (inr (get_or-set_same marks e false false h, f))
+      go i false q = rw (get_or-set_other marks e i false false (eqb-false i e q)) (t.takes i)
 
-  pub taken_for : {Other : ℕ → Type 0} → ((e : ℕ) → Failing e → Other e) → {before after : List ℕ} → MarksTaken Failing before after
+  pub taken_for : {Other : ℕ → Type 0} → ((e : ℕ) → Failing e → Other e) → {before after : List Bool} → MarksTaken Failing before after
       → MarksTaken Other before after
   taken_for {Other} f {before} {after} t = record { takes = λ e. go e (t.takes e) }
     where
-      go : (e : ℕ) → (get_or after e 0 ≡ get_or before e 0) ⊎ ((get_or after e 0 ≡ 0) × Failing e)
-          → (get_or after e 0 ≡ get_or before e 0) ⊎ ((get_or after e 0 ≡ 0) × Other e)
+      go : (e : ℕ) → (get_or after e false ≡ get_or before e false) ⊎ ((get_or after e false ≡ false) × Failing e)
+          → (get_or after e false ≡ get_or before e false) ⊎ ((get_or after e false ≡ false) × Other e)
       go e (inl q) = inl q
       go e (inr (z, h)) = inr (z, f e h)
 
@@ -276,130 +290,102 @@ module _ {Failing : ℕ → Type 0} where
 still_marked : {classes values d refs scopes flags cells previous_flags previous_cells : List ℕ} {k level : ℕ} {b : Binding} {face first end : ℕ}
     {Failing : ℕ → Type 0}
     → ((e : ℕ) → Failing e → Needless classes values d refs scopes flags cells previous_flags previous_cells k level b face e)
-    → {before after : List ℕ} → MarksTaken Failing before after
+    → {before after : List Bool} → MarksTaken Failing before after
     → Marked classes values d refs scopes flags cells previous_flags previous_cells k level b face first end before
     → Marked classes values d refs scopes flags cells previous_flags previous_cells k level b face first end after
 still_marked {classes} {values} {d} {refs} {scopes} {flags} {cells} {previous_flags} {previous_cells} {k} {level} {b} {face} {first} {end} {Failing} needless
     {before} {after} taken m = record { unmarked = λ e f l z. without e f l z (taken.takes e); marked = λ e f l n. within e f l n (taken.takes e) }
   where
-    without : (e : ℕ) → first ≤ e → e < end → get_or after e 0 ≡ 0 → (get_or after e 0 ≡ get_or before e 0) ⊎ ((get_or after e 0 ≡ 0) × Failing e)
+    without : (e : ℕ) → first ≤ e → e < end → get_or after e false ≡ false → (get_or after e false ≡ get_or before e false) ⊎ ((get_or after e false ≡ false) × Failing e)
         → Needless classes values d refs scopes flags cells previous_flags previous_cells k level b face e
     without e f l z (inl q) = m.unmarked e f l (sym q ∙ z)
     without e f l z (inr (y, h)) = needless e h
 
-    within : (e : ℕ) → first ≤ e → e < end → (get_or after e 0 ≡ 0 → ⊥) → (get_or after e 0 ≡ get_or before e 0) ⊎ ((get_or after e 0 ≡ 0) × Failing e)
+    within : (e : ℕ) → first ≤ e → e < end → get_or after e false ≡ true → (get_or after e false ≡ get_or before e false) ⊎ ((get_or after e false ≡ false) × Failing e)
         → candidate d flags face e ≡ true
-    within e f l n (inl q) = m.marked e f l (λ z. n (q ∙ z))
-    within e f l n (inr (y, h)) = absurd (n y)
+    within e f l n (inl q) = m.marked e f l (sym q ∙ n)
+    within e f l n (inr (y, h)) = absurd (true≢false (sym n ∙ y))
 
-module _ {classes values refs flags cells previous_flags previous_cells : List ℕ} {b : Binding} {guards : List ℕ} {count level first end : ℕ} where
+module _ {classes values refs flags cells previous_flags previous_cells : List ℕ} {b : Binding} {guards : List Guard} {level first end : ℕ} where
   -- one guard more
-  pub narrowed : {j code n m at : ℕ} → j < count → code ≡ get_or guards (4 * j) 0 → n ≡ get_or guards (4 * j + 1) 0 → m ≡ get_or guards (4 * j + 2) 0
-      → at ≡ get_or guards (4 * j + 3) 0 → code / 8 % 4 ≡ level + 1
-      → {before marks after : List ℕ}
-      → Narrowed classes values refs flags cells previous_flags previous_cells b guards count level first end before marks
-      → MarksTaken (λ e. GuardFails classes values refs b level flags cells previous_flags previous_cells (code / 32) n m at e (code % 8)) marks after
-      → Narrowed classes values refs flags cells previous_flags previous_cells b guards count level first end before after
+  pub narrowed : {items : List Guard} → items ≡ guards → {j : ℕ} (other : Guard) → j < length items → (get_or items j other).level ≡ level + 1
+      → {before marks after : List Bool}
+      → Narrowed classes values refs flags cells previous_flags previous_cells b guards level first end before marks
+      → MarksTaken (λ e. GuardFails classes values refs b level flags cells previous_flags previous_cells (get_or items j other) e (get_or items j other).kind)
+      marks after
+      → Narrowed classes values refs flags cells previous_flags previous_cells b guards level first end before after
   unfolding puts
-  narrowed {j} {code} {n} {m} {at} below row row₁ row₂ row₃ same so taken = record {
+  narrowed {items} are {j} other below at_level so taken = record {
     narrows = λ d scopes k face found marked.
         still_marked (λ e f. silent (λ r added area. in_each (λ c. sym (ap (puts area) (no_writes d scopes k found e f r added c)))))
         taken (so.narrows d scopes k face found marked);
   }
     where
-      no_writes : (d scopes : List ℕ) (k : ℕ) → GuardsFound classes refs (get_or d (rule_row k) 0 + 1) guards count
-          → (e : ℕ) → GuardFails classes values refs b level flags cells previous_flags previous_cells (code / 32) n m at e (code % 8)
+      g : Guard
+      g = get_or items j other
+
+      no_writes : (d scopes : List ℕ) (k : ℕ) → GuardsFound classes refs (get_or d (rule_row k) 0 + 1) guards
+          → (e : ℕ) → GuardFails classes values refs b level flags cells previous_flags previous_cells g e g.kind
           → (r : Binding) → EntityAdded b level e r
           → (c : Chosen classes values d refs scopes flags cells previous_flags previous_cells k (level + 1) r) → writes_after c ≡ []
       no_writes d scopes k found e f r added c =
           let begins = c.given.checked.bench.directory.rule k c.rule c.stands in
-          let g = found.found (rule_rows c.given.checked.bench begins) (omega arith) begins.token c.rule begins.used begins.reads
-          (omega arith) j below in
+          let rows = rule_rows c.given.checked.bench begins in
+          let all = found.found rows (omega arith) begins.token c.rule begins.used begins.reads (omega arith) in
           let bs = bindings (file c) c.given.now (drop (level + 1) (variables c.rule)) in
           flatMap_same (writes_with c) (λ rest. []) bs
-          (λ rest among.
-          fails_silent added c rest among (λ sp now previous. binding_writes sp now previous c.rule ≡ [])
-          (rw (← row, ← row₁, ← row₂, ← row₃, same) at g) f)
+          (λ rest among. fails_silent added c rest among (λ sp now previous. binding_writes sp now previous c.rule ≡ [])
+          (All-get_or (Silences rows refs (λ sp now previous. binding_writes sp now previous c.rule ≡ [])) items j other below (rw are all)) at_level f)
           ∙ flatMap_none bs
 
 -- ---- how guards fail
 
--- a test whether two answers are the same
-same_answers : (a b : Bool) → beq a b ≡ true → a ≡ b
-same_answers true true h = refl
-same_answers true false h = absurd (true≢false (sym h))
-same_answers false true h = absurd (true≢false (sym h))
-same_answers false false h = refl
+-- by the kind
+module _ {classes values refs : List ℕ} {b : Binding} {level : ℕ} {flags cells previous_flags previous_cells : List ℕ} {g : Guard} {e : ℕ} {kind : GuardKind} where
+  pub by_value_now : kind ≡ EqualNow
+      → FailsWith b level
+      (ValueFails classes values refs flags cells level g.inner (get_or refs g.name 0 % 256) (get_or refs g.member 0 / 256) g.at true) e
+      → GuardFails classes values refs b level flags cells previous_flags previous_cells g e kind
+  by_value_now k f = rw k (unequal_now f)
 
-module _ {b : Binding} {level e : ℕ} {binding : Binding} (added : EntityAdded b level e binding) {r o : ℕ} (refers : o ≡ bound binding r) {m : ℕ} where
-  pub cell_fails : {flags cells : List ℕ} {value cell : Value} {outcome : Bool} → CellRead flags cells o m cell → {t : Bool} → t ≡ equal cell value
-      → beq t outcome ≡ true → CellFails b level flags cells r m value outcome e
-  cell_fails {cell = cell} {outcome} h {t} q f = record {
-    binding = binding;
-    added = added;
-    cell = cell;
-    reads = rw refers at h;
-    fails = sym q ∙ same_answers t outcome f;
-  }
+  pub by_value_before : kind ≡ UnequalBefore
+      → FailsWith b level
+      (ValueFails classes values refs previous_flags previous_cells level g.inner (get_or refs g.name 0 % 256) (get_or refs g.member 0 / 256) g.at false) e
+      → GuardFails classes values refs b level flags cells previous_flags previous_cells g e kind
+  by_value_before k f = rw k (equal_before f)
 
+  pub by_change : kind ≡ Changes
+      → FailsWith b level (Unchanged flags cells previous_flags previous_cells (get_or refs g.name 0 % 256) (get_or refs g.member 0 / 256)) e
+      → GuardFails classes values refs b level flags cells previous_flags previous_cells g e kind
+  by_change k f = rw k (unchanged f)
+
+  pub by_group : kind ≡ Holds → FailsWith b level (GroupFails classes values refs flags cells previous_flags previous_cells g.at) e
+      → GuardFails classes values refs b level flags cells previous_flags previous_cells g e kind
+  by_group k f = rw k (group_false f)
+
+module _ {classes values refs : List ℕ} {level : ℕ} {flags cells : List ℕ} {inner r m at : ℕ} {wanted : Bool} {binding : Binding} where
   -- the expression worked out with the entity
-  pub worked_out_fails : {classes values refs flags cells : List ℕ} {at next : ℕ} {value cell : Value} {outcome : Bool}
-      → CellRead flags cells o m cell → ExpressionWalk classes values refs binding flags cells (expression_reader OPENERS) at value next
-      → {t : Bool} → t ≡ equal cell value → beq t outcome ≡ true
-      → ValueFails classes values refs b level flags cells (level + 1) r m at outcome e
-  unfolding cell_fails
-  worked_out_fails {next = next} {value} h w q f = record {
+  pub worked_out_fails : {value : Value} {next : ℕ} → ExpressionWalk classes values refs binding flags cells (expression_reader OPENERS) at value next
+      → CellFails flags cells r m value wanted binding → ValueFails classes values refs flags cells level inner r m at wanted binding
+  worked_out_fails {value} {next} w h = record {
     value = value;
     next = next;
-    cell = cell_fails h q f;
+    cell = h;
     with_binding = binding;
     walk = w;
     agrees = λ s v l n. refl;
   }
 
-module _ {classes values refs : List ℕ} {b : Binding} {level : ℕ} where
-  module _ {flags cells : List ℕ} {r m at : ℕ} {outcome : Bool} {inner : ℕ} where
-    -- the expression worked out before: its variables have their entities
-    pub held_fails : inner ≤ level → {value : Value} {next : ℕ}
-        → ExpressionWalk classes values refs b flags cells (expression_reader OPENERS) at value next
-        → (e : ℕ) → CellFails b level flags cells r m value outcome e → ValueFails classes values refs b level flags cells inner r m at outcome e
-    held_fails most {value} {next} w e h = record {
-      value = value;
-      next = next;
-      cell = h;
-      with_binding = b;
-      walk = w;
-      agrees = λ s v l n. h.added.keeps v (omega arith) s;
-    }
-
-    pub each_fails : (e : ℕ) → ValueFails classes values refs b level flags cells (level + 1) r m at outcome e
-        → ValueFails classes values refs b level flags cells inner r m at outcome e
-    each_fails e h = record {
-      value = h.value;
-      next = h.next;
-      cell = h.cell;
-      with_binding = h.with_binding;
-      walk = h.walk;
-      agrees = λ s v l n. h.agrees s v (omega arith) n;
-    }
-
-  module _ {flags cells previous_flags previous_cells : List ℕ} where
-    -- by the kind
-    module _ {kind inner n m at r i : ℕ} (owner : r ≡ get_or refs n 0 % 256) (member : i ≡ get_or refs m 0 / 256) where
-      pub by_change : kind ≡ CELL_CHANGES → (e : ℕ) → Unchanged b level flags cells previous_flags previous_cells r i e
-          → GuardFails classes values refs b level flags cells previous_flags previous_cells inner n m at e kind
-      by_change k e h = rw k (unchanged (rw (owner, member) at h))
-
-      pub by_value_now : kind ≡ EQUAL_NOW → (e : ℕ) → ValueFails classes values refs b level flags cells inner r i at false e
-          → GuardFails classes values refs b level flags cells previous_flags previous_cells inner n m at e kind
-      by_value_now k e h = rw k (unequal_now (rw (owner, member) at h))
-
-      pub by_value_before : kind ≡ UNEQUAL_BEFORE
-          → (e : ℕ) → ValueFails classes values refs b level previous_flags previous_cells inner r i at true e
-          → GuardFails classes values refs b level flags cells previous_flags previous_cells inner n m at e kind
-      by_value_before k e h = rw k (equal_before (rw (owner, member) at h))
-
-    pub by_group : {kind inner n m at : ℕ} → kind ≡ GROUP_HOLDS
-        → (e : ℕ) → GroupFails classes values refs b level flags cells previous_flags previous_cells at e
-        → GuardFails classes values refs b level flags cells previous_flags previous_cells inner n m at e kind
-    by_group k e h = rw k (group_false h)
+  -- the expression worked out before: its variables have their entities
+  pub held_fails : {b : Binding} {e : ℕ} → inner ≤ level → {value : Value} {next : ℕ}
+      → ExpressionWalk classes values refs b flags cells (expression_reader OPENERS) at value next
+      → EntityAdded b level e binding → CellFails flags cells r m value wanted binding
+      → ValueFails classes values refs flags cells level inner r m at wanted binding
+  held_fails {b} most {value} {next} w added h = record {
+    value = value;
+    next = next;
+    cell = h;
+    with_binding = b;
+    walk = w;
+    agrees = λ s v l n. added.keeps v (omega arith) s;
+  }

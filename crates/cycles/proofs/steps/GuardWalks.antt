@@ -36,19 +36,17 @@ use Rattle.cycles.specs.inner_contracts.GuardKinds.{
   attribute,
   spot_named,
   Part,
-  EQUAL_NOW,
-  UNEQUAL_BEFORE,
-  CELL_CHANGES,
-  GROUP_HOLDS,
   equals_now,
   differs_before,
   changes,
   group,
 }
+use Rattle.cycles.specs.declared.guards.Guard.{Guard}
+use Rattle.cycles.specs.declared.guards.GuardKind.TheVariants.{EqualNow, UnequalBefore, Changes, Holds}
 use Rattle.cycles.specs.inner_contracts.Finding.{Growth, PartPut, ConditionGuards, FilterGuardsWalk, TestGuardsWalk, ConditionGuardsWalk}
 use Rattle.cycles.proofs.steps.EvaluationLaws.{target_named}
 use Rattle.cycles.proofs.steps.ConditionValues.{and_joins}
-use Rattle.cycles.proofs.steps.GuardPuts.{extends_same, extends_put, extends_then, extends_whole}
+use Rattle.cycles.proofs.steps.GuardPuts.{covered_more, extends_same, extends_put, extends_then, extends_whole}
 
 -- ---- expressions and filters
 
@@ -82,40 +80,40 @@ module _ {classes refs : List ℕ} {at class : ℕ} (is : class ≡ get_or class
       let d = s.steps p₁.inside in
       record { word = p₁; follows = d; named = rw d at p₂; x = a; part = y; holding = λ sp st t e. rw e }
 
-  pub filter_no_guard : (class ≡ WITH → ⊥) → {n count : ℕ} {guards : List ℕ}
-      → FilterGuardsWalk classes refs n at (record { before = guards; count = count; after = guards; total = count }) at
-  filter_no_guard n = filter_none OPENERS (λ q. n (is ∙ q)) (λ w. record { filters = λ t e names. extends_same refl refl })
+  pub filter_no_guard : (class ≡ WITH → ⊥) → {n : ℕ} {guards : List Guard}
+      → FilterGuardsWalk classes refs n at (record { before = guards; after = guards }) at
+  filter_no_guard n = filter_none OPENERS (λ q. n (is ∙ q)) (λ w. record { filters = λ t e names. extends_same refl })
 
   pub filter_a_guard : class ≡ WITH → {n name j inside next : ℕ} {g : Growth} → Steps (length classes) at name → Steps (length classes) name j
-      → Steps (length classes) j inside → Ends classes (expression_reader OPENERS) inside next → PartPut refs EQUAL_NOW n name inside next g
+      → Steps (length classes) j inside → Ends classes (expression_reader OPENERS) inside next → PartPut refs EqualNow n name inside next g
       → FilterGuardsWalk classes refs n at g next
   filter_a_guard q {n} s t u h put = walk_then (λ w f l k y. record {
-    filters = λ t e names. extends_put put (omega arith)
+    filters = λ t e names. extends_put put
         (equals_now refl (rw y.follows (names y.word y.named)) put.own put.within
-        (y.part put.inner (put.alone (omega arith)))
+        (y.part put.inner (put.inside))
         (λ sp now previous z. y.holding sp now t e ∙ z));
   }) (filter_part q n s t u h)
 
   -- ---- tests
 
-  pub test_changed_guard : class ≡ CHANGED → {n m i j next : ℕ} {g : Growth} → Steps (length classes) at next → PartPut refs CELL_CHANGES n m i j g
+  pub test_changed_guard : class ≡ CHANGED → {n m i j next : ℕ} {g : Growth} → Steps (length classes) at next → PartPut refs Changes n m i j g
       → TestGuardsWalk classes refs n m at g next
   unfolding test_holds
   test_changed_guard q s put = test_changed OPENERS (sym is ∙ q) s λ w. record {
-    tests = λ names. extends_put put (omega arith) (changes refl names put.own (λ sp now previous z. z));
+    tests = λ names. extends_put put (changes refl names put.own (λ sp now previous z. z));
   }
 
-  pub test_equals_guards : (class ≡ CHANGED → ⊥) → {n m inside next : ℕ} {a b c : List ℕ} {i j k : ℕ} → Steps (length classes) at inside
+  pub test_equals_guards : (class ≡ CHANGED → ⊥) → {n m inside next : ℕ} {a b c : List Guard} → Steps (length classes) at inside
       → Ends classes (expression_reader OPENERS) inside next
-      → PartPut refs EQUAL_NOW n m inside next (record { before = a; count = i; after = b; total = j })
-      → PartPut refs UNEQUAL_BEFORE n m inside next (record { before = b; count = j; after = c; total = k })
-      → TestGuardsWalk classes refs n m at (record { before = a; count = i; after = c; total = k }) next
+      → PartPut refs EqualNow n m inside next (record { before = a; after = b })
+      → PartPut refs UnequalBefore n m inside next (record { before = b; after = c })
+      → TestGuardsWalk classes refs n m at (record { before = a; after = c }) next
   unfolding test_holds
   test_equals_guards q s h first second = test_equals OPENERS (λ z. q (is ∙ z)) s (part_walk refs h) λ w x p y. record {
     tests = λ names. extends_then
-        (extends_put first (omega arith) (equals_now refl names first.own first.within (y first.inner (first.alone (omega arith)))
+        (extends_put first (equals_now refl names first.own first.within (y first.inner first.inside)
         (λ sp now previous z. rw z)))
-        (extends_put second (omega arith) (differs_before refl names second.own second.within (y second.inner (second.alone (omega arith)))
+        (extends_put second (differs_before refl names second.own second.within (y second.inner second.inside)
         (λ sp now previous z. rw z (and-false (equal (value_at now (spot_named w sp _ _)) (value sp now x))))));
   }
 
@@ -133,11 +131,11 @@ module _ (sp : Spots) (now previous : Store) (c : Clause) where
       rw (e, and-false (filter_holds sp now c.target c.filter)) (and-false (is_present_at now (sp c.target.name.bytes c.event.bytes)))
 
 module _ {classes refs : List ℕ} {at : ℕ} where
-  pub clause_guards_are : {name from owner i j o next : ℕ} {a b c : List ℕ} {k l m : ℕ} → Steps (length classes) at name
+  pub clause_guards_are : {name from owner i j o next : ℕ} {a b c : List Guard} → Steps (length classes) at name
       → Steps (length classes) name from → Steps (length classes) from owner → TargetWalk classes owner i
-      → FilterGuardsWalk classes refs owner i (record { before = a; count = k; after = b; total = l }) j → Steps (length classes) j o
-      → TestGuardsWalk classes refs owner name o (record { before = b; count = l; after = c; total = m }) next
-      → ConditionGuardsWalk classes refs (clause_reader OPENERS) at (record { before = a; count = k; after = c; total = m }) next
+      → FilterGuardsWalk classes refs owner i (record { before = a; after = b }) j → Steps (length classes) j o
+      → TestGuardsWalk classes refs owner name o (record { before = b; after = c }) next
+      → ConditionGuardsWalk classes refs (clause_reader OPENERS) at (record { before = a; after = c }) next
   unfolding name_of
   clause_guards_are {name} {from} {owner} {i} s₁ s₂ s₃ h f s₄ t = clause_walk OPENERS s₁ s₂ s₃ h f s₄ t λ w t f x p₁ p₂ p₃ q y z.
       let d₁ = s₁.steps p₁.inside in
@@ -159,10 +157,10 @@ module _ {classes refs : List ℕ} {at : ℕ} where
       → ConditionGuardsWalk classes refs (clause_reader OPENERS) at g next → ConditionGuardsWalk classes refs (atom_reader OPENERS) at g next
   atom_guards_clause is n h = atom_clause OPENERS (λ z. omega arith) (λ q. n (is ∙ q)) h
 
-  pub atom_guards_group : {n m next : ℕ} {g : Growth} → Ends classes (atom_reader OPENERS) at next → PartPut refs GROUP_HOLDS n m at next g
+  pub atom_guards_group : {n m next : ℕ} {g : Growth} → Ends classes (atom_reader OPENERS) at next → PartPut refs Holds n m at next g
       → ConditionGuardsWalk classes refs (atom_reader OPENERS) at g next
   atom_guards_group h put =
-      walk_then (λ w a l k y. extends_put put (omega arith) (group refl (y put.level put.inside) (λ sp now previous e. e)))
+      walk_then (λ w a l k y. extends_put put (group refl (y put.level (covered_more put.within put.inside)) (λ sp now previous e. e)))
       (part_walk refs h)
 
 abbrev pub ConjunctsLoop : List ℕ → List ℕ → ℕ → Growth → ℕ → Type 0
@@ -180,10 +178,10 @@ module _ {classes refs : List ℕ} {at : ℕ} where
         walk_stops (all_rows classes) (ConditionGuards refs) is_and (joined (atom_reader OPENERS) both_at) h
         (and_joins.no (get_or classes i 0) (λ q. n (is ∙ q)))
 
-    pub conjunct_turns : {a b c : List ℕ} {k l m : ℕ} → ConjunctsLoop classes refs at (record { before = a; count = k; after = b; total = l }) i
+    pub conjunct_turns : {a b c : List Guard} → ConjunctsLoop classes refs at (record { before = a; after = b }) i
         → class ≡ AND → {j next : ℕ} → Steps (length classes) i j
-        → ConditionGuardsWalk classes refs (atom_reader OPENERS) j (record { before = b; count = l; after = c; total = m }) next
-        → ConjunctsLoop classes refs at (record { before = a; count = k; after = c; total = m }) next
+        → ConditionGuardsWalk classes refs (atom_reader OPENERS) j (record { before = b; after = c }) next
+        → ConjunctsLoop classes refs at (record { before = a; after = c }) next
     conjunct_turns g q s h =
         chain_turns (all_rows classes) (ConditionGuards refs) is_and both_at (atom_reader OPENERS) g
         (and_joins.no 0 (λ z. omega arith)) (ap is_and (sym is ∙ q) ∙ and_joins.yes) s h λ w x y p ex ey.

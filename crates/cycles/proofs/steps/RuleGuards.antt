@@ -6,6 +6,7 @@ use mathlib.Core.Bool.{Bool, true, false, and-false}
 use mathlib.Core.Logic.{inr}
 use native.Mathlib.Omega.{arith}
 use lib.ListN.{length, get_or, drop}
+use Rattle.std.proofs.lemmas.List.Elements.{All-nil}
 use Rattle.text.specs.definitions.Tokens.{Token, NAME, ACTION, WITH, ON, OR, ROUND_OPEN, ROUND_CLOSE, COMMA}
 use Rattle.text.specs.definitions.Syntax.{Condition, Call, Rule, priority_of}
 use Rattle.text.specs.definitions.Readers.{read, joined, many}
@@ -42,7 +43,9 @@ use Rattle.cycles.specs.definitions.Store.{Store}
 use Rattle.cycles.specs.definitions.Spots.{Spots}
 use Rattle.cycles.specs.inner_contracts.TotalMachine.{is_present_at, filter_holds, holds, call_writes, writes_if, binding_writes}
 use Rattle.cycles.specs.inner_contracts.Evaluation.{Targeted, all_rows, TargetWalk}
-use Rattle.cycles.specs.inner_contracts.GuardKinds.{Names, attribute, EQUAL_NOW, equals_now, Guarded, GuardsFound}
+use Rattle.cycles.specs.declared.guards.Guard.{Guard}
+use Rattle.cycles.specs.declared.guards.GuardKind.TheVariants.{EqualNow}
+use Rattle.cycles.specs.inner_contracts.GuardKinds.{Names, attribute, Silences, equals_now, Guarded, GuardsFound}
 use Rattle.cycles.specs.inner_contracts.Finding.{
   Growth,
   PartPut,
@@ -90,7 +93,7 @@ module _ {classes refs : List ℕ} {at : ℕ} where
       → Ends classes (expression_reader OPENERS) i j → Steps (length classes) j on → Steps (length classes) on owner → TargetWalk classes owner k
       → class ≡ get_or classes k 0 → class ≡ WITH → Steps (length classes) k attr → Steps (length classes) attr p → Steps (length classes) p inside
       → Ends classes (expression_reader OPENERS) inside next → after ≡ get_or classes next 0 → (after ≡ COMMA → ⊥)
-      → PartPut refs EQUAL_NOW owner attr inside next g → CallGuarded classes refs at g
+      → PartPut refs EqualNow owner attr inside next g → CallGuarded classes refs at g
   unfolding call_reader
   call_a_guard {on = on} {owner = owner} {k = k} {attr = attr} {inside = inside} {next = next} s₁ s₂ s₃ x s₄ s₅ t is q s₆ s₇ s₈ y ia na put =
       let f : Walks (all_rows classes) (FilterPart refs owner k attr inside next) (filter_reader OPENERS) k tt next =
@@ -116,7 +119,7 @@ module _ {classes refs : List ℕ} {at : ℕ} where
             stands l (omega (arith, s₁.onward, s₂.onward, s₃.onward, x.onward, s₄.onward)) h₅ e₅ s₅ (omega (arith, t.onward, f.onward)) h in
             let shape : Targeted w (on + 1) k = rw d at placed.shape in
             let names : Names w owner attr = rw (d, part.follows) (attribute (inr word) shape part.word part.named) in
-            extends_put put (omega arith) (equals_now refl names put.own put.within (part.part put.inner (put.alone (omega arith)))
+            extends_put put (equals_now refl names put.own put.within (part.part put.inner put.inside)
             (λ sp now previous e. filter_fails sp now previous _ (part.holding sp now u placed.named ∙ e)))) refl;
       })
 
@@ -125,15 +128,15 @@ module _ {classes refs : List ℕ} {at : ℕ} where
 -- where there were guards of the rule, there are
 abbrev Grown : {classes : List ℕ} → List ℕ → Growth → Rows classes → Rule → Unit {0} → Type 0
 Grown refs g w r u =
-    Guarded w refs (λ sp now previous. binding_writes sp now previous r ≡ []) g.before g.count
-    → Guarded w refs (λ sp now previous. binding_writes sp now previous r ≡ []) g.after g.total
+    Guarded w refs (λ sp now previous. binding_writes sp now previous r ≡ []) g.before
+    → Guarded w refs (λ sp now previous. binding_writes sp now previous r ≡ []) g.after
 
 module _ {classes refs : List ℕ} {at : ℕ} where
   module _ {o next m : ℕ} {g : Growth} (d : Ends classes priority_reader at o) (s : Steps (length classes) next m) where
     call_extends : CallGuarded classes refs m g → Walks (all_rows classes) (λ w (a : Condition) (u : Unit {0}). Unit {0}) (condition_reader OPENERS) o tt next
         → (w : Rows classes) → w.low ≤ at → (start : Token) (r : Rule) (used : ℕ) → rule_after start (drop at w.tokens) ≡ read r used
         → at + used ≤ w.high → Grown refs g w r tt
-    call_extends (no_guard ea et) c w l start r used e k all = rw (ea, et) all
+    call_extends (no_guard q) c w l start r used e k all = rw q all
     call_extends (only_call {next = p} n h) c w l start r used e k all =
         let others : Walks (all_rows classes) (λ w (ks : List Call) (u : Unit {0}). ks ≡ []) (many COMMA call_after) p tt p =
         many_stops (all_rows classes) (CallGuards refs) (λ w ks u. ks ≡ []) COMMA call_after
@@ -143,13 +146,13 @@ module _ {classes refs : List ℕ} {at : ℕ} where
         let (y, d) = walk_yields whole w l e in
         y (omega arith) all
 
-  pub guards_are : {o next m other class : ℕ} {a b c d : List ℕ} {i j k : ℕ} → Ends classes priority_reader at o
-      → ConditionGuardsWalk classes refs (conjunction_reader OPENERS) o (record { before = a; count = 0; after = b; total = i }) next
+  pub guards_are : {o next m other class : ℕ} {a b c d : List Guard} → a ≡ [] → Ends classes priority_reader at o
+      → ConditionGuardsWalk classes refs (conjunction_reader OPENERS) o (record { before = a; after = b }) next
       → class ≡ get_or classes next 0 → (class ≡ OR → ⊥) → Steps (length classes) next m
-      → CallGuarded classes refs m (record { before = b; count = i; after = c; total = j })
-      → ConditionGuardsWalk classes refs (conjunction_reader OPENERS) o (record { before = c; count = j; after = d; total = k }) other
-      → GuardsFound classes refs at d k
-  guards_are {o} {next} f h is n s call g =
+      → CallGuarded classes refs m (record { before = b; after = c })
+      → ConditionGuardsWalk classes refs (conjunction_reader OPENERS) o (record { before = c; after = d }) other
+      → GuardsFound classes refs at d
+  guards_are {o} {next} cleared f h is n s call g =
       let whole =
       walk_stops (all_rows classes) (λ w a p. ConditionGuards refs w a p.0 × ConditionGuards refs w a p.1) is_or
       (joined (conjunction_reader OPENERS) either_at) (condition_begins OPENERS (walk_both h g)) (or_joins.no (get_or classes next 0) (λ q. n (is ∙ q))) in
@@ -162,5 +165,5 @@ module _ {classes refs : List ℕ} {at : ℕ} where
             let both = y (omega arith) in
             both.1.extends r (condition_fails r)
             (call_extends f s call (walk_then (λ w a l k y. tt) whole) w l start r used e k
-            (both.0.extends r (condition_fails r) (λ j h. absurd (omega arith))));
+            (both.0.extends r (condition_fails r) (rw cleared (All-nil (Silences w refs (λ sp now previous. binding_writes sp now previous r ≡ []))))));
       }

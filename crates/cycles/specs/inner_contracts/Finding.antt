@@ -1,6 +1,6 @@
 -- What finding a rule's guards promises of each part of the rule. Guards are put into memory after those that stand there already, so a promise is
 -- of memory before and after: where there were guards of a rule, and a failure of the part silences that rule, there are guards of the rule still.
-use Rattle.std.specs.Prelude.{ℕ, ◌+◌, ◌*◌, ◌<◌, ◌≤◌, ◌≡◌, List, [], false, length, get_or, set}
+use Rattle.std.specs.Prelude.{ℕ, ◌+◌, ◌≤◌, ◌≡◌, List, [], ◌∷◌, ◌++◌, false, get_or}
 use Rattle.std.proofs.Math.Option.{Option}
 use Rattle.text.specs.definitions.Tokens.{NAME, WITH, COMMA}
 use Rattle.text.specs.definitions.Syntax.{Target, Filter, Test, Condition, Call, Rule}
@@ -12,40 +12,34 @@ use Rattle.cycles.specs.definitions.Store.{Store}
 use Rattle.cycles.specs.definitions.Spots.{Spots}
 use Rattle.cycles.specs.inner_contracts.TotalMachine.{filter_holds, test_holds, holds, call_writes, binding_writes}
 use Rattle.cycles.specs.inner_contracts.Evaluation.{all_rows}
-use Rattle.cycles.specs.inner_contracts.GuardKinds.{CELL_CHANGES, GUARD_ROWS, Covered, Names, spot_named, Guarded}
+use Rattle.cycles.specs.declared.guards.Guard.{Guard}
+use Rattle.cycles.specs.declared.guards.GuardKind.{GuardKind}
+use Rattle.cycles.specs.inner_contracts.GuardKinds.{Covered, Names, spot_named, Guarded}
 
--- memory of guards and how many there are, before and after
+-- guards before and after
 pub record Growth : Type 0 where
-  pub before : List ℕ
-  pub count : ℕ
-  pub after : List ℕ
-  pub total : ℕ
+  pub before : List Guard
+  pub after : List Guard
 
 -- a guard is put after those that stand there, or none is
-pub data GuardPut (level inner kind n m at : ℕ) (g : Growth) : Type 0 where
-  none_put : g.after ≡ g.before → g.total ≡ g.count → GuardPut level inner kind n m at g
-  one_put : GUARD_ROWS * g.count + 3 < length g.before
-      → g.after
-      ≡ set (set (set (set g.before (GUARD_ROWS * g.count) (kind + 8 * level + 32 * inner)) (GUARD_ROWS * g.count + 1) n) (GUARD_ROWS * g.count + 2) m)
-      (GUARD_ROWS * g.count + 3) at
-      → g.total ≡ g.count + 1 → GuardPut level inner kind n m at g
+pub data GuardPut (guard : Guard) (g : Growth) : Type 0 where
+  none_put : g.after ≡ g.before → GuardPut guard g
+  one_put : g.after ≡ g.before ++ guard ∷ [] → GuardPut guard g
 
--- the same, of a level that covers token number n and those from number `at` up to `next`; the inner level covers the latter where they are an expression
-pub record PartPut (refs : List ℕ) (kind n m at next : ℕ) (g : Growth) : Type 0 where
+-- the same of a guard of this kind about tokens number n and m: its level covers n and those from number `at` up to `next`, its inner level the latter
+pub record PartPut (refs : List ℕ) (kind : GuardKind) (n m at next : ℕ) (g : Growth) : Type 0 where
   pub level : ℕ
   pub inner : ℕ
-  pub few : level < 4
   pub within : inner ≤ level
   pub own : Covered refs level n (n + 1)
-  pub inside : Covered refs level at next
-  pub alone : kind < CELL_CHANGES → Covered refs inner at next
-  pub put : GuardPut level inner kind n m at g
+  pub inside : Covered refs inner at next
+  pub put : GuardPut (record { kind = kind; level = level; inner = inner; name = n; member = m; at = at }) g
 
 -- guards of each rule that writes nothing where a part of it fails
 pub record Extends {classes : List ℕ} (w : Rows classes) (refs : List ℕ) (fails : Spots → Store → Store → Type 0) (g : Growth) : Type 0 where
   pub extends : (r : Rule) → ((sp : Spots) (now previous : Store) → fails sp now previous → binding_writes sp now previous r ≡ [])
-      → Guarded w refs (λ sp now previous. binding_writes sp now previous r ≡ []) g.before g.count
-      → Guarded w refs (λ sp now previous. binding_writes sp now previous r ≡ []) g.after g.total
+      → Guarded w refs (λ sp now previous. binding_writes sp now previous r ≡ []) g.before
+      → Guarded w refs (λ sp now previous. binding_writes sp now previous r ≡ []) g.after
 
 module _ {classes : List ℕ} (refs : List ℕ) where
   -- of what may stand after a clause's target, whose name is token number n
@@ -75,6 +69,6 @@ module _ (classes refs : List ℕ) where
 
   -- of a rule's first call: if it is the only one, its guards; else none
   pub data CallGuarded (at : ℕ) (g : Growth) : Type 0 where
-    no_guard : g.after ≡ g.before → g.total ≡ g.count → CallGuarded at g
+    no_guard : g.after ≡ g.before → CallGuarded at g
     only_call : {next : ℕ} → (get_or classes next 0 ≡ COMMA → ⊥) → Walks (all_rows classes) (CallGuards refs) call_reader at g next
         → CallGuarded at g

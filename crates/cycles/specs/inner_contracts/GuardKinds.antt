@@ -1,6 +1,6 @@
 -- Guards of a rule: what must hold at a binding for the rule to write anything there. They are found in the rule's tokens, once for all bindings,
 -- and stand in memory with the tokens that they speak of. A binding that fails one is given up before its later variables get entities.
-use Rattle.std.specs.Prelude.{ℕ, ◌+◌, ◌*◌, ◌/◌, ◌%◌, ◌<◌, ◌≤◌, ◌≡◌, List, [], true, false, cond, ◌⊎◌, get_or, drop}
+use Rattle.std.specs.Prelude.{ℕ, ◌+◌, ◌%◌, ◌<◌, ◌≤◌, ◌≡◌, List, [], Bool, true, false, ◌⊎◌, All, get_or, drop}
 use Rattle.std.proofs.Math.Option.{Option}
 use Rattle.values.specs.definitions.Value.{equal, differ}
 use Rattle.text.specs.definitions.Tokens.{Token, NAME, EVENT, FROM, WITH, ON}
@@ -13,6 +13,8 @@ use Rattle.checking.specs.inner_contracts.Directory.{rule_row}
 use Rattle.checking.specs.definitions.CountFaults.{MOST_VARIABLES}
 use Rattle.checking.specs.inner_contracts.Resolution.{FIRST_VARIABLE}
 use Rattle.cycles.specs.declared.evaluate.Binding.{Binding}
+use Rattle.cycles.specs.declared.guards.Guard.{Guard}
+use Rattle.cycles.specs.declared.guards.GuardKind.TheVariants.{EqualNow, UnequalBefore, Changes, Holds}
 use Rattle.cycles.specs.definitions.Store.{Store}
 use Rattle.cycles.specs.definitions.Spots.{Spot, Spots}
 use Rattle.cycles.specs.inner_contracts.TotalMachine.{value_at, value, holds, binding_writes}
@@ -45,74 +47,34 @@ pub record Part {A : Type 0} {classes : List ℕ} (reader : Parser A) (w : Rows 
   pub before : at + used ≤ w.high
   pub covered : Covered refs level at (at + used)
 
--- the kinds of guards, those with an expression first: what tokens n and m name is equal to an expression now,
-abbrev pub EQUAL_NOW : ℕ
-EQUAL_NOW = 0
-
--- is not equal to it before,
-abbrev pub UNEQUAL_BEFORE : ℕ
-UNEQUAL_BEFORE = 1
-
--- changes,
-abbrev pub CELL_CHANGES : ℕ
-CELL_CHANGES = 2
-
--- or a condition in parentheses holds
-abbrev pub GROUP_HOLDS : ℕ
-GROUP_HOLDS = 3
-
--- a guard of this kind, for tokens number n, m and `at`: where it fails, there is silence. Its expression may need fewer variables than its cell
-pub data Guard {classes : List ℕ} (w : Rows classes) (refs : List ℕ) (silence : Spots → Store → Store → Type 0) (level inner kind n m at : ℕ)
-    : Type 0 where
-  equals_now : kind ≡ EQUAL_NOW → Names w n m → Covered refs level n (n + 1) → inner ≤ level
-      → {x : Expression} → Part (expression_reader OPENERS) w refs inner at x
-      → ((sp : Spots) (now previous : Store) → equal (value_at now (spot_named w sp n m)) (value sp now x) ≡ false → silence sp now previous)
-      → Guard w refs silence level inner kind n m at
-  differs_before : kind ≡ UNEQUAL_BEFORE → Names w n m → Covered refs level n (n + 1) → inner ≤ level
-      → {x : Expression} → Part (expression_reader OPENERS) w refs inner at x
-      → ((sp : Spots) (now previous : Store) → equal (value_at previous (spot_named w sp n m)) (value sp previous x) ≡ true → silence sp now previous)
-      → Guard w refs silence level inner kind n m at
-  changes : kind ≡ CELL_CHANGES → Names w n m → Covered refs level n (n + 1)
-      → ((sp : Spots) (now previous : Store) → differ (value_at now (spot_named w sp n m)) (value_at previous (spot_named w sp n m)) ≡ false
+-- where this guard fails, there is silence. Its expression may need fewer variables than its cell
+pub data Silences {classes : List ℕ} (w : Rows classes) (refs : List ℕ) (silence : Spots → Store → Store → Type 0) (g : Guard) : Type 0 where
+  equals_now : g.kind ≡ EqualNow → Names w g.name g.member → Covered refs g.level g.name (g.name + 1) → g.inner ≤ g.level
+      → {x : Expression} → Part (expression_reader OPENERS) w refs g.inner g.at x
+      → ((sp : Spots) (now previous : Store) → equal (value_at now (spot_named w sp g.name g.member)) (value sp now x) ≡ false → silence sp now previous)
+      → Silences w refs silence g
+  differs_before : g.kind ≡ UnequalBefore → Names w g.name g.member → Covered refs g.level g.name (g.name + 1) → g.inner ≤ g.level
+      → {x : Expression} → Part (expression_reader OPENERS) w refs g.inner g.at x
+      → ((sp : Spots) (now previous : Store) → equal (value_at previous (spot_named w sp g.name g.member)) (value sp previous x) ≡ true
       → silence sp now previous)
-      → Guard w refs silence level inner kind n m at
-  group : kind ≡ GROUP_HOLDS → {a : Condition} → Part (atom_reader OPENERS) w refs level at a
+      → Silences w refs silence g
+  changes : g.kind ≡ Changes → Names w g.name g.member → Covered refs g.level g.name (g.name + 1)
+      → ((sp : Spots) (now previous : Store)
+      → differ (value_at now (spot_named w sp g.name g.member)) (value_at previous (spot_named w sp g.name g.member)) ≡ false
+      → silence sp now previous)
+      → Silences w refs silence g
+  group : g.kind ≡ Holds → {a : Condition} → Part (atom_reader OPENERS) w refs g.level g.at a
       → ((sp : Spots) (now previous : Store) → holds sp now previous a ≡ false → silence sp now previous)
-      → Guard w refs silence level inner kind n m at
+      → Silences w refs silence g
 
--- a guard in memory has four rows: its kind and levels, each at most 3, and three tokens
-abbrev pub GUARD_ROWS : ℕ
-GUARD_ROWS = 4
-
--- the memory has room for so many
-abbrev pub MOST_GUARDS : ℕ
-MOST_GUARDS = 16
-
-abbrev pub ALL_GUARD_ROWS : ℕ
-ALL_GUARD_ROWS = GUARD_ROWS * MOST_GUARDS
-
--- guard number j
-module _ (guards : List ℕ) (j : ℕ) where
-  abbrev pub guard_kind : ℕ
-  guard_kind = get_or guards (GUARD_ROWS * j) 0 % 8
-
-  abbrev pub guard_level : ℕ
-  guard_level = get_or guards (GUARD_ROWS * j) 0 / 8 % 4
-
-  abbrev pub guard_inner : ℕ
-  guard_inner = get_or guards (GUARD_ROWS * j) 0 / 32
-
--- so many guards
-abbrev pub Guarded : {classes : List ℕ} → Rows classes → List ℕ → (Spots → Store → Store → Type 0) → List ℕ → ℕ → Type 0
-Guarded w refs silence guards count =
-    (j : ℕ) → j < count
-    → Guard w refs silence (guard_level guards j) (guard_inner guards j) (guard_kind guards j)
-    (get_or guards (GUARD_ROWS * j + 1) 0) (get_or guards (GUARD_ROWS * j + 2) 0) (get_or guards (GUARD_ROWS * j + 3) 0)
+-- so does each of a list
+abbrev pub Guarded : {classes : List ℕ} → Rows classes → List ℕ → (Spots → Store → Store → Type 0) → List Guard → Type 0
+Guarded w refs silence guards = All (Silences w refs silence) guards
 
 -- they are those of the rule whose tokens after `when` begin at number `at`: where one fails, the rule writes nothing
-pub record GuardsFound (classes refs : List ℕ) (at : ℕ) (guards : List ℕ) (count : ℕ) : Type 0 where
+pub record GuardsFound (classes refs : List ℕ) (at : ℕ) (guards : List Guard) : Type 0 where
   pub found : (w : Rows classes) → w.low ≤ at → (start : Token) (r : Rule) (used : ℕ) → rule_after start (drop at w.tokens) ≡ read r used
-      → at + used ≤ w.high → Guarded w refs (λ sp now previous. binding_writes sp now previous r ≡ []) guards count
+      → at + used ≤ w.high → Guarded w refs (λ sp now previous. binding_writes sp now previous r ≡ []) guards
 
 module _ (classes values d refs scopes flags cells previous_flags previous_cells : List ℕ) (k level : ℕ) (b : Binding) (face : ℕ) where
   -- entity e needs no turn as the next variable's: it is no candidate, or no binding with it writes anything
@@ -123,21 +85,21 @@ module _ (classes values d refs scopes flags cells previous_flags previous_cells
         → Needless e
 
   -- of the entities from `first` on, below `end`: those without a mark need no turn, and those with one are candidates
-  pub record Marked (first end : ℕ) (marks : List ℕ) : Type 0 where
-    pub unmarked : (e : ℕ) → first ≤ e → e < end → get_or marks e 0 ≡ 0 → Needless e
-    pub marked : (e : ℕ) → first ≤ e → e < end → (get_or marks e 0 ≡ 0 → ⊥) → candidate d flags face e ≡ true
+  pub record Marked (first end : ℕ) (marks : List Bool) : Type 0 where
+    pub unmarked : (e : ℕ) → first ≤ e → e < end → get_or marks e false ≡ false → Needless e
+    pub marked : (e : ℕ) → first ≤ e → e < end → get_or marks e false ≡ true → candidate d flags face e ≡ true
 
 -- the marks of the candidates
-pub record MarksSet (d flags : List ℕ) (face first end : ℕ) (marks : List ℕ) : Type 0 where
-  pub sets : (e : ℕ) → first ≤ e → e < end → get_or marks e 0 ≡ cond (candidate d flags face e) 1 0
+pub record MarksSet (d flags : List ℕ) (face first end : ℕ) (marks : List Bool) : Type 0 where
+  pub sets : (e : ℕ) → first ≤ e → e < end → get_or marks e false ≡ candidate d flags face e
 
 -- where a guard of the next level fails, the entity loses its mark
-pub record Narrowed (classes values refs flags cells previous_flags previous_cells : List ℕ) (b : Binding) (guards : List ℕ) (count level first end : ℕ)
-    (before after : List ℕ) : Type 0 where
-  pub narrows : (d scopes : List ℕ) (k face : ℕ) → GuardsFound classes refs (get_or d (rule_row k) 0 + 1) guards count
+pub record Narrowed (classes values refs flags cells previous_flags previous_cells : List ℕ) (b : Binding) (guards : List Guard) (level first end : ℕ)
+    (before after : List Bool) : Type 0 where
+  pub narrows : (d scopes : List ℕ) (k face : ℕ) → GuardsFound classes refs (get_or d (rule_row k) 0 + 1) guards
       → Marked classes values d refs scopes flags cells previous_flags previous_cells k level b face first end before
       → Marked classes values d refs scopes flags cells previous_flags previous_cells k level b face first end after
 
 -- the same over what is lent together
-abbrev pub Narrows : Rules → (current previous : StoreMemory) → Binding → (guards : List ℕ) → (count level first end : ℕ) → (before after : List ℕ) → Type 0
+abbrev pub Narrows : Rules → (current previous : StoreMemory) → Binding → (guards : List Guard) → (level first end : ℕ) → (before after : List Bool) → Type 0
 Narrows r current previous = Narrowed r.columns.classes.now r.literals.now r.references.now current.flags current.cells previous.flags previous.cells

@@ -1,10 +1,6 @@
 -- The loop has the ranges of the interfaces before number `face`.
 use Rattle.cycles.proofs.steps.BindingPuts.{RangesBefore}
-use Rattle.std.proofs.Common.{◌-◌, ◌≤◌}
 use Rattle.cycles.proofs.bindings.find_ranges.Given as goal
 
 abbrev pub invariant-loop-face : goal.invariant-loop-face
-invariant-loop-face l = (l.face ≤ 16) × RangesBefore l.rules.columns.d.now l.store.flags l.n l.ranges l.face
-
-abbrev pub decreases-loop-face : goal.decreases-loop-face
-decreases-loop-face l = 16 - l.face
+invariant-loop-face l = RangesBefore l.rules.columns.d.now l.store.flags l.n l.ranges l.face

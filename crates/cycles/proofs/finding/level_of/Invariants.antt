@@ -1,10 +1,6 @@
 -- What the loop of `level_of` keeps.
 use Rattle.cycles.specs.inner_contracts.GuardKinds.{Covered}
-use Rattle.std.proofs.Common.{◌-◌, ◌≤◌}
 use Rattle.cycles.proofs.finding.level_of.Given as goal
 
 abbrev pub invariant-loop-i : goal.invariant-loop-i
-invariant-loop-i l = Covered l.rules.references.now l.level l.from l.i × (l.level ≤ 3)
-
-abbrev pub decreases-loop-i : goal.decreases-loop-i
-decreases-loop-i l = l.to - l.i
+invariant-loop-i l = Covered l.rules.references.now l.level l.from l.i

@@ -1,8 +1,12 @@
 -- What is left of `narrow`.
 use Rattle.cycles.proofs.steps.GuardLaws.{narrowed}
 use Rattle.cycles.proofs.guards.narrow.Goals as goal
+use Rattle.cycles.proofs.guards.narrow.Goals.{then-guard-candidates, else-guard-candidates}
 
-pub loop-j-preserved : goal.loop-j-preserved
-loop-j-preserved c =
-    narrowed c.loop-j-test.true c.guard_row-code.ensures c.guard_row-n.ensures c.guard_row-m.ensures c.guard_row-at.ensures
-    c.if-code-candidates.false c.loop-j.invariant c.narrow_by.ensures
+pub loop-guard-preserved : goal.loop-guard-preserved
+loop-guard-preserved c = elim c.if-guard-candidates.branch [
+  | then-guard-candidates w ↦
+      rw w.marks-is
+      (narrowed c.as_slice-guard-items.ensures.value _ c.loop-guard-test.true w.if-guard-candidates.true c.loop-guard.invariant w.narrow_by.ensures)
+  | else-guard-candidates w ↦ rw w.marks-is c.loop-guard.invariant
+]

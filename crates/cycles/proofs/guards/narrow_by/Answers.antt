@@ -1,15 +1,16 @@
 -- What is left of `narrow_by`.
 use Rattle.cycles.proofs.steps.GuardLaws.{by_change, by_group, by_value_before, by_value_now, taken_for}
+use Rattle.std.proofs.Common.{rules}
 use Rattle.cycles.proofs.guards.narrow_by.Goals as goal
 
-pub returns-then-kind-eq-GROUP_HOLDS : goal.returns-then-kind-eq-GROUP_HOLDS
-returns-then-kind-eq-GROUP_HOLDS c = taken_for (by_group c.if-kind-eq-GROUP_HOLDS.true) c.unmark_group.ensures
+pub returns-in-EqualNow : goal.returns-in-EqualNow
+returns-in-EqualNow c = taken_for (λ e. by_value_now c.in-EqualNow.is) c.keep_by_value.ensures
 
-pub returns-then-kind-eq-CELL_CHANGES : goal.returns-then-kind-eq-CELL_CHANGES
-returns-then-kind-eq-CELL_CHANGES c = taken_for (by_change c.owner-r.ensures c.member-i.ensures c.if-kind-eq-CELL_CHANGES.true) c.unmark_unchanged.ensures
+pub returns-in-UnequalBefore : goal.returns-in-UnequalBefore
+returns-in-UnequalBefore c = taken_for (λ e. by_value_before c.in-UnequalBefore.is) c.keep_by_value-in-UnequalBefore.ensures
 
-pub returns-then-kind-eq-EQUAL_NOW : goal.returns-then-kind-eq-EQUAL_NOW
-returns-then-kind-eq-EQUAL_NOW c = taken_for (by_value_now c.owner-r.ensures c.member-i.ensures c.if-kind-eq-EQUAL_NOW.true) c.unmark_by_value.ensures
+pub returns-in-Changes : goal.returns-in-Changes
+returns-in-Changes c = taken_for (λ e f. by_change c.in-Changes.is (record { binding = f.binding; added = f.added; fails = search rules })) c.keep.ensures
 
-pub returns : goal.returns
-returns c = taken_for (by_value_before c.owner-r.ensures c.member-i.ensures c.if-kind-ne-UNEQUAL_BEFORE.false) c.unmark_by_value-2.ensures
+pub returns-in-Holds : goal.returns-in-Holds
+returns-in-Holds c = taken_for (λ e f. by_group c.in-Holds.is (record { binding = f.binding; added = f.added; fails = search rules })) c.keep-in-Holds.ensures
