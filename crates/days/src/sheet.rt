@@ -7,7 +7,7 @@ ghost use Rattle.senders.specs.definitions.StateImage;
 ghost use Rattle.cycles.specs.inner_contracts.Bundles.{of_bench, of_rules};
 ghost use Rattle.days.specs.definitions.DaySheet.{line_feeds, sheet_size};
 ghost use Rattle.days.specs.inner_contracts.Choosing;
-ghost use Rattle.days.specs.inner_contracts.SheetMemory.{LineEnd, Stepped, DayPut, SheetPut};
+ghost use Rattle.days.specs.inner_contracts.SheetMemory.{code_of, sheeted_as, LineEnd, Stepped, DayPut, SheetPut};
 
 use crate::choosing::{choose, read_chosen, real_cells};
 use cycles::Rules;
@@ -15,7 +15,7 @@ use cycles::header::{Header, read_header};
 use cycles::layout::MOST_COLUMNS;
 use senders::fingerprint::fingerprint;
 use senders::layout::STATE;
-use senders::{Judgement, advance, is_state};
+use senders::{Turn, advance, is_state};
 use sheets::layout::{MOST_CHOSEN, MOST_CLOSING_BYTES, MOST_LINE_BYTES};
 use sheets::{folded_values, no_folds, put_closings, put_line};
 use values::put_bytes;
@@ -23,11 +23,25 @@ use values::put_bytes;
 // The stated size of a sheet for readings without a line feed.
 const LEAST_SIZE: usize = MOST_CHOSEN * MOST_CLOSING_BYTES;
 
-// A refusal by its code, or the length of the sheet that was written.
-#[derive(Clone, Copy)]
-pub enum Sheeted {
-    Refused(u8),
-    Length(usize),
+/// Why a day sheet is refused.
+#[derive(Clone, Copy, Debug, PartialEq, Eq)]
+pub enum SheetError {
+    Header,
+    NoState,
+    Chosen, // the list of chosen cells
+}
+
+impl SheetError {
+    /// The number that the documents give it.
+    pub const fn code(self) -> u8
+        ensures { result ≡ code_of self }
+    {
+        match self {
+            SheetError::Header => 22,
+            SheetError::NoState => 33,
+            SheetError::Chosen => 41,
+        }
+    }
 }
 
 #[tactic(auto, using(crate::proofs::steps::LineSteps::feeds_counted))]
@@ -73,15 +87,15 @@ fn line_end(readings: &[u8], at: usize) -> usize
     i
 }
 
-// Takes a record: the number of a new line, or 0 for any other, which leaves the state.
-fn step(rules: &Rules<'_>, header: &Header<'_>, values: &[u8], state: &mut [u8]) -> u32
+// Takes a record: the number of a new line; any other leaves the state.
+fn step(rules: &Rules<'_>, header: &Header<'_>, values: &[u8], state: &mut [u8]) -> Option<u32>
     requires { StateImage.STATE ≤ length state.old }
     ensures { of_rules Stepped rules.now header.now.columns.now (length header.now.columns.now) values.now state.old state.new result }
 {
     match advance(rules, header, values, state) {
-        Judgement::Refused(_) => 0,
-        Judgement::New { number, .. } => number,
-        Judgement::Resent(_) => 0,
+        Ok(Turn::New { number, .. }) => Some(number),
+        Ok(Turn::Retransmission { .. }) => None,
+        Err(_) => None,
     }
 }
 
@@ -106,15 +120,14 @@ fn put_day(
     let mut at = from;
     while at < readings.len() {
         let stop = line_end(readings, at);
-        let number = step(rules, header, &readings[at..stop], state);
-        at = stop + 1;
-        if number == 0 {
-            continue;
+        if let Some(number) = step(rules, header, &readings[at..stop], state) {
+            let values = read_chosen(rules.columns.d, state, spots, count);
+            end = put_line(sheet, end, number as u64, values, count);
+            // by a second name: the borrow checker does not cover a call's result that is laid in an array
+            let more = folded_values(folds, values, count);
+            folds = more;
         }
-        let values = read_chosen(rules.columns.d, state, spots, count);
-        end = put_line(sheet, end, number as u64, values, count);
-        let more = folded_values(folds, values, count);
-        folds = more;
+        at = stop + 1;
     }
     let reals = real_cells(rules.columns.classes, rules.columns.d, spots, count);
     put_closings(sheet, end, reals, folds, count)
@@ -136,30 +149,30 @@ pub fn put_sheet(
     readings: &[u8],
     cells: &[u8],
     sheet: &mut [u8],
-) -> Sheeted
+) -> Result<usize, SheetError>
     requires in_bounds { StateImage.STATE ≤ length state.now }
     requires readings_in_bounds { sheet_size readings.now ≤ length sheet.old }
-    ensures { of_bench SheetPut rules.now state.now readings.now cells.now sheet.old sheet.new result }
+    ensures { of_bench SheetPut rules.now state.now readings.now cells.now sheet.old sheet.new (sheeted_as result) }
 {
     let bench = &rules.columns;
     if !is_state(bench, fingerprint(bench.text), state) {
-        return Sheeted::Refused(33);
+        return Err(SheetError::NoState);
     }
     let mut spots = [0u16; MOST_CHOSEN];
     let count = choose(bench, cells, &mut spots);
     if MOST_CHOSEN < count {
-        return Sheeted::Refused(41);
+        return Err(SheetError::Chosen);
     }
     let end = line_end(readings, 0);
     let mut columns = [0u16; MOST_COLUMNS];
     let width = read_header(bench, &readings[0..end], &mut columns);
     if MOST_COLUMNS < width {
-        return Sheeted::Refused(22);
+        return Err(SheetError::Header);
     }
     let header = Header::new(&columns, width);
     let mut copy = [0u8; STATE];
     copy_state(state, &mut copy);
-    Sheeted::Length(put_day(
+    Ok(put_day(
         rules,
         &header,
         &spots,

@@ -11,7 +11,7 @@ use cycles::Rules;
 use cycles::header::{Header, read_header};
 use cycles::layout::MOST_COLUMNS;
 use senders::fingerprint::fingerprint;
-use senders::{Judgement, advance, is_state, show_place};
+use senders::{Turn, advance, is_state, show_place};
 
 /// A record under a header that is read: the length of its sender's row, or its refusal. `columns` has the numbers of its columns. The memory is a
 /// state.
@@ -47,11 +47,10 @@ pub fn take_record(
         scopes,
     };
     let header = Header::new(columns, count);
-    let judgement = advance(&rules, &header, values, state);
-    match judgement {
-        Judgement::Refused(code) => Err(Refusal::Line(code)),
-        Judgement::New { place, number } => Ok(show_place(&bench, state, place, row)),
-        Judgement::Resent(place) => Ok(show_place(&bench, state, place, row)),
+    match advance(&rules, &header, values, state) {
+        Err(error) => Err(Refusal::Line(error.code())),
+        Ok(Turn::New { place, .. }) => Ok(show_place(&bench, state, place, row)),
+        Ok(Turn::Retransmission { place }) => Ok(show_place(&bench, state, place, row)),
     }
 }
 

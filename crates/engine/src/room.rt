@@ -21,7 +21,7 @@ use checking::check::{Checked, check};
 use checking::layout::DIRECTORY;
 use cycles::layout::SCOPES_BYTES;
 use cycles::put_row_header;
-use days::sheet::{Sheeted, put_sheet};
+use days::sheet::put_sheet;
 use senders::fingerprint::fingerprint;
 use senders::{is_sender, is_state, put_fresh, show};
 use std::marker::Model;
@@ -265,8 +265,8 @@ impl<'a> Rules<'a> {
             scopes,
         };
         match put_sheet(&rules, state, readings, cells, sheet) {
-            Sheeted::Refused(code) => Err(Refusal::Sheet(code)),
-            Sheeted::Length(length) => Ok(length),
+            Err(error) => Err(Refusal::Sheet(error.code())),
+            Ok(length) => Ok(length),
         }
     }
 }

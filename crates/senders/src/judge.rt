@@ -16,14 +16,6 @@ use cycles::{Inputs, cell_token, is_sort};
 use text::classes::ACTION;
 use values::same_bytes;
 
-// A refusal by its code; a new line, with its sender's place and its number; or a retransmission, with its sender's place.
-#[derive(Clone, Copy)]
-pub enum Judgement {
-    Refused(u8),
-    New { place: usize, number: u32 },
-    Resent(usize),
-}
-
 // Does cell number i have no reading, or is its entity present after the line?
 #[tactic(auto, unfolding(crate::specs::inner_contracts::Judging::takes_cell))]
 fn takes_cell(present: &[u8], inputs: &Inputs<'_>, i: usize) -> bool

@@ -9,9 +9,10 @@ pub mod parts; // the senders' parts of a state image
 pub mod record; // a record on a state
 pub mod rows; // the row of a sender
 pub mod state; // the state image
+pub mod turn; // what a line does, or why it is refused
 
-pub use judge::Judgement;
 pub use names::is_sender;
 pub use record::advance;
 pub use rows::{show, show_place};
 pub use state::{is_state, put_fresh};
+pub use turn::{LineError, Turn};

@@ -5,14 +5,16 @@ ghost use Rattle.cycles.specs.definitions.Planes;
 ghost use Rattle.cycles.specs.inner_contracts.Bundles.{entities_of, of_members, of_rules};
 ghost use Rattle.senders.specs.definitions.Sender;
 ghost use Rattle.senders.specs.definitions.StateImage;
+ghost use Rattle.senders.specs.inner_contracts.Judging.{judged_as};
 ghost use Rattle.senders.specs.inner_contracts.Advancing.{LastRead, ResentRead, Followed, Settled, SentTaken, Advanced};
 
-use crate::judge::{Judgement, in_turn, same_readings, takes_cells};
+use crate::judge::{in_turn, same_readings, takes_cells};
 use crate::layout::{
     COUNT_AT, HEAD_BYTES, MOST_SENDERS, NAME_PLACE, NUMBERS_BELOW, SENDER_HEAD_BYTES,
 };
 use crate::names::is_sender;
 use crate::parts::{part_at, place_of, put_kept, put_sender};
+use crate::turn::{LineError, Turn};
 use checking::Columns;
 use checking::layout::{ENTITY_COUNT_ROW, MOST_ENTITIES};
 use cycles::cycle::cycle;
@@ -95,29 +97,29 @@ fn settle(
     flags: &[u8],
     cells: &mut [u8],
     state: &mut [u8],
-) -> Judgement
+) -> Result<Turn, LineError>
     requires sender { (entities_of rules.now.columns ≤ CountFaults.MOST_ENTITIES) × (place < Sender.MOST_SENDERS) × (length name.now ≤ Sender.MOST_NAME_BYTES) }
     requires in_bounds { (CountFaults.MOST_ENTITIES ≤ length flags.now) × (Planes.MOST_CELL_BYTES ≤ length cells.old) × (StateImage.STATE ≤ length state.old) }
-    ensures { of_rules Settled rules.now name.now place line flags.now cells.old state.old state.new result }
+    ensures { of_rules Settled rules.now name.now place line flags.now cells.old state.old state.new (judged_as result) }
 {
     let n = rules.row(ENTITY_COUNT_ROW);
     let inputs = Inputs { flags, cells };
     if is_resent(&rules.columns, state, place, line, &inputs) {
-        return Judgement::Resent(place);
+        return Ok(Turn::Retransmission { place });
     }
     if !takes_cells(n, &state[HEAD_BYTES..], &inputs) {
-        return Judgement::Refused(23);
+        return Err(LineError::IllFormedValue);
     }
     let last = last_of(state, n, place);
     if !in_turn(last, line) {
-        return Judgement::Refused(24);
+        return Err(LineError::OutOfTurn);
     }
     if line == last as u64 {
-        return Judgement::Refused(25);
+        return Err(LineError::OtherReadings);
     }
     let number = (line % NUMBERS_BELOW) as u32;
     follow(rules, name, place, number, flags, cells, state);
-    Judgement::New { place, number }
+    Ok(Turn::New { place, number })
 }
 
 // A record whose sender and number are read. The memory is a state.
@@ -129,21 +131,21 @@ fn take_sent(
     name: &[u8],
     line: u64,
     state: &mut [u8],
-) -> Judgement
+) -> Result<Turn, LineError>
     requires { StateImage.STATE ≤ length state.old }
-    ensures { of_rules SentTaken rules.now header.now.columns.now (length header.now.columns.now) values.now name.now line state.old state.new result }
+    ensures { of_rules SentTaken rules.now header.now.columns.now (length header.now.columns.now) values.now name.now line state.old state.new (judged_as result) }
 {
     let n = rules.row(ENTITY_COUNT_ROW);
     let known = state[COUNT_AT] as usize;
     // neither, where the memory is a state of a bench
     if MOST_ENTITIES < n {
-        return Judgement::Refused(33);
+        return Err(LineError::NoState);
     }
     if MOST_SENDERS < known {
-        return Judgement::Refused(33);
+        return Err(LineError::NoState);
     }
     if !is_sender(name) {
-        return Judgement::Refused(43);
+        return Err(LineError::IllFormedSender);
     }
     let from = part_at(n, 0);
     let place = place_of(
@@ -154,7 +156,7 @@ fn take_sent(
     );
     let is_full = MOST_SENDERS <= place;
     if is_full {
-        return Judgement::Refused(42);
+        return Err(LineError::NinthSender);
     }
     let mut flags = [0u8; MOST_ENTITIES];
     let mut cells = [0u8; MOST_CELL_BYTES];
@@ -169,20 +171,25 @@ fn take_sent(
         &mut flags,
         &mut cells,
     ) {
-        return Judgement::Refused(23);
+        return Err(LineError::IllFormedValue);
     }
     settle(rules, name, place, line, &flags, &mut cells, state)
 }
 
 /// A record under a header. The memory is a state.
 #[tactic(auto, using(crate::proofs::laws::SentLaws::got_size))]
-pub fn advance(rules: &Rules<'_>, header: &Header<'_>, values: &[u8], state: &mut [u8]) -> Judgement
+pub fn advance(
+    rules: &Rules<'_>,
+    header: &Header<'_>,
+    values: &[u8],
+    state: &mut [u8],
+) -> Result<Turn, LineError>
     requires { StateImage.STATE ≤ length state.old }
-    ensures { of_rules Advanced rules.now header.now.columns.now (length header.now.columns.now) values.now state.old state.new result }
+    ensures { of_rules Advanced rules.now header.now.columns.now (length header.now.columns.now) values.now state.old state.new (judged_as result) }
 {
     let sent = read_sent(values, header.columns.len());
     match sent {
-        Sent::Refused => Judgement::Refused(21),
+        Sent::Refused => Err(LineError::IllFormed),
         Sent::Got { size, number } => {
             take_sent(rules, header, values, &values[0..size], number, state)
         }

@@ -22,6 +22,8 @@ use Rattle.senders.specs.definitions.Turns.{state_after, turns}
 use Rattle.senders.proofs.laws.SoundLine.{accepted_line_sound}
 use Rattle.sheets.specs.definitions.Rows.{PrintedLine}
 use Rattle.days.specs.definitions.DaySheet.{printed_for, printed_lines, line_feeds}
+use Rattle.values.specs.declared.Value.{Value}
+use Rattle.std.specs.Prelude.{Option, Some, None}
 use Rattle.days.specs.inner_contracts.SheetMemory.{LineEnd, new_number}
 
 -- ---- lines
@@ -120,29 +122,17 @@ records_most s = go (lines s) (lines_no_more s)
 abbrev pub printed_after : File → List Spot → State → Answer Accepted → List PrintedLine
 printed_after f ps s a = printed_for ps a (state_after f s a)
 
-module _ (f : File) (ps : List Spot) (s : State) (names v : List ℕ) where
-  pub printed_old : new_number (line f s names v) ≡ 0 → printed_after f ps s (line f s names v) ≡ []
-  unfolding printed_for new_number
-  printed_old h = go (line f s names v) refl
-    where
-      go : (b : Answer Accepted) → line f s names v ≡ b → printed_after f ps s b ≡ []
-      go (refused code) e = refl
-      go (accepted (resent l)) e = refl
-      go (accepted (new l)) e =
-          let z : l.number ≡ 0 = sym (ap new_number e) ∙ h in
-          absurd (omega (arith, (accepted_line_sound f s names v (new l) e).turn.next, z))
+-- what a line of that number prints, and any other
+abbrev pub printed_if : Option ℕ → List Value → List PrintedLine
+printed_if None vs = []
+printed_if (Some n) vs = record { number = n; values = vs } ∷ []
 
-  pub printed_new : (new_number (line f s names v) ≡ 0 → ⊥)
-      → printed_after f ps s (line f s names v)
-      ≡ record { number = new_number (line f s names v); values = map (read_spot (state_after f s (line f s names v)).stores.now) ps } ∷ []
-  unfolding printed_for new_number
-  printed_new h = go (line f s names v) h
-    where
-      go : (b : Answer Accepted) → (new_number b ≡ 0 → ⊥)
-          → printed_after f ps s b ≡ record { number = new_number b; values = map (read_spot (state_after f s b).stores.now) ps } ∷ []
-      go (refused code) h = absurd (h refl)
-      go (accepted (resent l)) h = absurd (h refl)
-      go (accepted (new l)) h = refl
+pub printed_by_number : (f : File) (ps : List Spot) (s : State) (a : Answer Accepted)
+    → printed_after f ps s a ≡ printed_if (new_number a) (map (read_spot (state_after f s a).stores.now) ps)
+unfolding printed_for new_number
+printed_by_number f ps s (refused code) = refl
+printed_by_number f ps s (accepted (resent l)) = refl
+printed_by_number f ps s (accepted (new l)) = refl
 
 module _ (f : File) (ps : List Spot) (s : State) where
   -- a record first

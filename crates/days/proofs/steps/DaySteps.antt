@@ -5,6 +5,7 @@ use mathlib.Core.Path.{◌≡◌, refl, sym, ap, ap₂, ◌∙◌, subst}
 use mathlib.Core.Bool.{Bool}
 use mathlib.Core.List.{List, [], ◌∷◌, ◌++◌, map, flat_map, append-nil, append_assoc}
 use mathlib.Core.Option.{some}
+use Rattle.std.specs.Prelude.{Option, Some, None}
 use lib.ListN.{length, take, drop, replicate}
 use Rattle.values.specs.declared.Value.{Value}
 use Rattle.values.specs.inner_contracts.Puts.{Put}
@@ -33,7 +34,7 @@ use Rattle.sheets.proofs.laws.SheetLaws.{lines_none, lines_next, sheet_put}
 use Rattle.days.specs.definitions.DaySheet.{printed_lines, day_sheet}
 use Rattle.days.specs.inner_contracts.Choosing.{CellsRead, RealsRead}
 use Rattle.days.specs.inner_contracts.SheetMemory.{LineEnd, new_number, Stepped, DayGiven, day_file, DayPut}
-use Rattle.days.proofs.laws.DayLaws.{line_taken, no_lines, printed_after, printed_old, printed_new, printed_first, printed_none}
+use Rattle.days.proofs.laws.DayLaws.{line_taken, no_lines, printed_after, printed_if, printed_by_number, printed_first, printed_none}
 
 module _ {classes literals d refs scopes columns : List ℕ} {width : ℕ} {spots : List ℕ} {count : ℕ} {state₀ : List ℕ} (readings : List ℕ) where
   -- what the records from `at` on print in a state
@@ -78,7 +79,7 @@ module _ (classes literals d refs scopes columns : List ℕ) (width : ℕ) (spot
     left_length : length (lines (drop at readings)) ≡ suc (length (lines (drop (stop + 1) readings)))
     left_length = ap length left
 
-    module _ {new_state : List ℕ} (kept : length new_state ≡ length state) {t : ℕ}
+    module _ {new_state : List ℕ} (kept : length new_state ≡ length state) {t : Option ℕ}
         (steps : Stepped classes literals d refs scopes columns width (take (stop - at) (drop at readings)) state new_state t) where
       -- the state after the record
       module _ (g : DayGiven classes literals d refs scopes columns width spots count state₀) where
@@ -117,8 +118,13 @@ module _ (classes literals d refs scopes columns : List ℕ) (width : ℕ) (spot
             ∙ ap (λ (ls : List (List ℕ)). (w.is g).done ++ printed_lines g.ps (turns f g.names s ls)) left
             ∙ ap (λ (l : List PrintedLine). (w.is g).done ++ l) (printed_first f g.ps s g.names v (lines (drop (stop + 1) readings)))
 
+        -- what it prints, by what the code says of its number
+        printed : {o : Option ℕ} → t ≡ o → printed_after f g.ps s a ≡ printed_if o (map (read_spot after.stores.now) g.ps)
+        printed q =
+            printed_by_number f g.ps s a ∙ ap (λ (k : Option ℕ). printed_if k (map (read_spot after.stores.now) g.ps)) (sym stepped.0 ∙ q)
+
       -- a record that prints nothing
-      pub going_passes : t ≡ 0 → Going (stop + 1) end new_state sheet gs
+      pub going_passes : t ≡ None → Going (stop + 1) end new_state sheet gs
       going_passes q = record {
         room =
             let r = w.room in
@@ -135,19 +141,19 @@ module _ (classes literals d refs scopes columns : List ℕ) (width : ℕ) (spot
           gathers = (w.is g).gathers;
           all = all_after g
               ∙ ap (λ (l : List PrintedLine). (w.is g).done ++ (l ++ rest g))
-              (printed_old (f g) g.ps (s g) g.names (v g) (sym (stepped g).0 ∙ q));
+              (printed g q);
         };
       }
 
       -- a new line: its rows are put, its values gathered
-      pub going_prints : (t ≡ 0 → ⊥) → {vs : List Value} → CellsRead d new_state spots count vs → count ≤ MOST_CHOSEN
-          → {new_sheet : List ℕ} {new_end : ℕ} → Put (with_feeds (line_rows (record { number = t; values = take count vs }))) sheet end new_sheet new_end
+      pub going_prints : {number : ℕ} → t ≡ Some number → {vs : List Value} → CellsRead d new_state spots count vs → count ≤ MOST_CHOSEN
+          → {new_sheet : List ℕ} {new_end : ℕ} → Put (with_feeds (line_rows (record { number = number; values = take count vs }))) sheet end new_sheet new_end
           → {hs : List Fold} → hs ≡ folded_values gs (take count vs) → Going (stop + 1) new_end new_state new_sheet hs
-      going_prints q {vs} reads few {new_sheet} {new_end} puts {hs} gathers = record {
+      going_prints {number} q {vs} reads few {new_sheet} {new_end} puts {hs} gathers = record {
         room =
             let r = w.room in
             let l = left_length in
-            let most = line_most (record { number = t; values = take count vs }) (chosen_most vs count few) in
+            let most = line_most (record { number = number; values = take count vs }) (chosen_most vs count few) in
             let z = puts.end in
             omega arith;
         size = put_length puts ∙ w.size;
@@ -155,11 +161,10 @@ module _ (classes literals d refs scopes columns : List ℕ) (width : ℕ) (spot
         state_kept = kept ∙ w.state_kept;
         is = λ g.
             let r = w.is g in
-            let p : PrintedLine = record { number = t; values = take count vs } in
+            let p : PrintedLine = record { number = number; values = take count vs } in
             let b = g.bench.checked in
-            let same : p ≡ record { number = new_number (a g); values = map (read_spot (after g).stores.now) g.ps } =
-            ap₂ (λ (k : ℕ) (l : List Value). record { number = k; values = l })
-            (stepped g).0
+            let same : p ≡ record { number = number; values = map (read_spot (after g).stores.now) g.ps } =
+            ap (λ (l : List Value). record { number = number; values = l })
             (reads.is g.text classes g.offsets g.lengths b.bench b.few (print g) (after g) (stands_after g) g.cells g.ps g.chosen_is
             g.spots_are) in
             record {
@@ -170,7 +175,7 @@ module _ (classes literals d refs scopes columns : List ℕ) (width : ℕ) (spot
               gathers = gathers ∙ ap (λ (l : List Fold). folded_values l (take count vs)) r.gathers ∙ sym (folds_snoc r.done p);
               all = all_after g
                   ∙ ap (λ (l : List PrintedLine). r.done ++ (l ++ rest g))
-                  (printed_new (f g) g.ps (s g) g.names (v g) (λ z. q ((stepped g).0 ∙ z)) ∙ ap (λ (l : PrintedLine). l ∷ []) (sym same))
+                  (printed g q ∙ ap (λ (l : PrintedLine). l ∷ []) (sym same))
                   ∙ sym (append_assoc r.done (p ∷ []) (rest g));
             };
       }

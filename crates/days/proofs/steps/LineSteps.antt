@@ -5,14 +5,15 @@ use native.Mathlib.Omega.{arith}
 use mathlib.Core.Path.{◌≡◌, refl, sym, ap, ◌∙◌}
 use mathlib.Core.Bool.{Bool, true, false}
 use mathlib.Core.List.{List, [], ◌∷◌}
+use Rattle.std.specs.Prelude.{Option, Some, None}
 use lib.Dec.{ltb}
 use lib.ListN.{length, get_or, take, drop, length-drop}
 use lib.Seq.{drop-cons, drop-length, take-suc, get_or-drop}
 use borrow.Author.Tests.{lt-ltb, le-ltb, ltb-true, ltb-false, ne_eqb}
 use Rattle.cycles.specs.definitions.Readings.{PartOfLine}
 use Rattle.cycles.proofs.laws.ReadingsLaws.{part_append}
-use Rattle.senders.specs.declared.judge.Judgement.{Judgement}
-use Rattle.senders.specs.declared.judge.Judgement.TheVariants.{Refused, New, Resent}
+use Rattle.senders.specs.inner_contracts.Judging.{Judged}
+use Rattle.senders.specs.inner_contracts.Judging.{Refused, New, Resent}
 use Rattle.senders.specs.definitions.Sender.{Sender}
 use Rattle.senders.specs.definitions.Answer.{Answer, refused, accepted}
 use Rattle.senders.specs.definitions.Line.{Accepted, new, resent, line}
@@ -124,10 +125,10 @@ pub ruleset feeds_counted = (feeds_begin, feeds_one, feeds_other, feeds_end)
 
 -- ---- a record
 
-unfoldable judged_number : Judgement → ℕ
-judged_number (Refused code) = 0
-judged_number (New at number) = number
-judged_number (Resent at) = 0
+unfoldable pub judged_number : Judged → Option ℕ
+judged_number (Refused code) = None
+judged_number (New at number) = Some number
+judged_number (Resent at) = None
 
 number_judged : (xs : List Sender) (a : Answer Accepted) → judged_number (judgement xs a) ≡ new_number a
 unfolding judgement new_number judged_number
@@ -135,23 +136,11 @@ number_judged xs (refused code) = refl
 number_judged xs (accepted (new l)) = refl
 number_judged xs (accepted (resent l)) = refl
 
-module _ {classes literals d refs scopes columns : List ℕ} {width : ℕ} {values state new_state : List ℕ} {j : Judgement}
+module _ {classes literals d refs scopes columns : List ℕ} {width : ℕ} {values state new_state : List ℕ} {j : Judged}
     (advances : Advanced classes literals d refs scopes columns width values state new_state j) where
-  stepped : {t : ℕ} → t ≡ judged_number j → Stepped classes literals d refs scopes columns width values state new_state t
+  pub stepped : {t : Option ℕ} → t ≡ judged_number j → Stepped classes literals d refs scopes columns width values state new_state t
   stepped e = record {
     is = λ text offsets lengths b print s h names cs x y.
         let m = advances.is text offsets lengths b print s h names cs x y in
         (e ∙ ap judged_number m.judged ∙ number_judged s.senders (line b.checked.bench.file s names values), m.left);
   }
-
-  pub stepped_refused : {code : ℕ} → j ≡ Refused code → Stepped classes literals d refs scopes columns width values state new_state 0
-  unfolding judged_number
-  stepped_refused q = stepped (sym (ap judged_number q))
-
-  pub stepped_new : {at number : ℕ} → j ≡ New at number → Stepped classes literals d refs scopes columns width values state new_state number
-  unfolding judged_number
-  stepped_new q = stepped (sym (ap judged_number q))
-
-  pub stepped_resent : {at : ℕ} → j ≡ Resent at → Stepped classes literals d refs scopes columns width values state new_state 0
-  unfolding judged_number
-  stepped_resent q = stepped (sym (ap judged_number q))

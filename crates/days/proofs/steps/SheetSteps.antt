@@ -29,7 +29,7 @@ use Rattle.cycles.specs.inner_contracts.RowMemory.{InFront}
 use Rattle.cycles.proofs.laws.PutLaws.{put_in_front}
 use Rattle.sheets.specs.definitions.Layout.{MOST_CHOSEN}
 use Rattle.sheets.specs.definitions.Sizes.{MOST_LINE_BYTES, MOST_CLOSING_BYTES}
-use Rattle.days.specs.declared.sheet.Sheeted.TheVariants.{Refused, Length}
+use Rattle.days.specs.inner_contracts.SheetMemory.{Refused, Length}
 use Rattle.days.specs.definitions.Chosen.{chosen}
 use Rattle.days.specs.definitions.DaySheet.{day_sheet, sheet_in, sheet_if_state, sheet_size}
 use Rattle.days.specs.inner_contracts.Choosing.{ChosenAre, ChosenRead}

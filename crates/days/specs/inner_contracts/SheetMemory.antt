@@ -1,5 +1,5 @@
 -- What the parts of a day sheet promise, on a checked bench in columns: contracts.
-use Rattle.std.specs.Prelude.{ℕ, ◌-◌, ◌≤◌, ◌<◌, ◌≡◌, List, map, length, get_or, take, drop}
+use Rattle.std.specs.Prelude.{ℕ, ◌-◌, ◌≤◌, ◌<◌, ◌≡◌, List, map, length, get_or, take, drop, Option, Some, None, Result, Ok, Err}
 use Rattle.std.proofs.Math.Option.{some}
 use Rattle.text.specs.definitions.Syntax.{File}
 use Rattle.values.specs.inner_contracts.Puts.{Put}
@@ -14,8 +14,8 @@ use Rattle.senders.specs.definitions.Fingerprint.{fingerprint}
 use Rattle.senders.specs.definitions.StateImage.{state_of}
 use Rattle.cycles.specs.inner_contracts.HeaderReads.{column_number, backwards}
 use Rattle.cycles.specs.inner_contracts.RowMemory.{InFront}
-use Rattle.days.specs.declared.sheet.Sheeted.{Sheeted}
-use Rattle.days.specs.declared.sheet.Sheeted.TheVariants.{Refused, Length}
+use Rattle.days.specs.declared.sheet.SheetError.{SheetError}
+use Rattle.days.specs.declared.sheet.SheetError.TheVariants.{Header, NoState, Chosen}
 use Rattle.days.specs.definitions.Chosen.{chosen}
 use Rattle.days.specs.definitions.DaySheet.{day_sheet, sheet_if_state}
 use Rattle.senders.specs.inner_contracts.Advancing.{ResolvedBench, state_memory}
@@ -32,13 +32,13 @@ pub record LineEnd (s : List ℕ) (at r : ℕ) : Type 0 where
 
 -- ---- a record
 
--- the number of a line that starts a cycle; 0, which no such line has, for any other
-unfoldable pub new_number : Answer Accepted → ℕ
-new_number (refused code) = 0
-new_number (accepted (resent l)) = 0
-new_number (accepted (new l)) = l.number
+-- the number of a line that starts a cycle
+unfoldable pub new_number : Answer Accepted → Option ℕ
+new_number (refused code) = None
+new_number (accepted (resent l)) = None
+new_number (accepted (new l)) = Some l.number
 
-pub record Stepped (classes literals d refs scopes columns : List ℕ) (width : ℕ) (values state new_state : List ℕ) (r : ℕ) : Type 0 where
+pub record Stepped (classes literals d refs scopes columns : List ℕ) (width : ℕ) (values state new_state : List ℕ) (r : Option ℕ) : Type 0 where
   pub is : (text offsets lengths : List ℕ) (b : ResolvedBench text classes offsets lengths literals d refs scopes)
       → (print : ℕ) (s : State) → state_of print b.checked.bench.file state ≡ some s
       → (names : List ℕ) (cs : List Column) → header b.checked.bench.file names ≡ some cs → map column_number cs ≡ backwards width columns
@@ -74,6 +74,21 @@ pub record DayPut (classes literals d refs scopes columns : List ℕ) (width : �
       → Put (day_sheet g.ps (turns (day_file g) g.names g.before (lines (drop from readings)))) m 0 new_m r
 
 -- ---- the sheet
+
+-- document 01's number
+abbrev pub code_of : SheetError → ℕ
+code_of Header = 22
+code_of NoState = 33
+code_of Chosen = 41
+
+-- a refusal by its number, or the length of the sheet
+pub data Sheeted : Type 0 where
+  Refused : ℕ → Sheeted
+  Length : ℕ → Sheeted
+
+abbrev pub sheeted_as : Result ℕ SheetError → Sheeted
+sheeted_as (Ok n) = Length n
+sheeted_as (Err e) = Refused (code_of e)
 
 -- a refusal leaves the memory; the sheet stands at its front
 abbrev pub SheetIs : Answer (List ℕ) → List ℕ → List ℕ → Sheeted → Type 0

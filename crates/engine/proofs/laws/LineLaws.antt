@@ -12,8 +12,8 @@ use Rattle.cycles.specs.definitions.Header.{Column, header}
 use Rattle.cycles.specs.inner_contracts.HeaderReads.{MOST_COLUMNS, HeaderIs, HeaderRead}
 use Rattle.cycles.specs.inner_contracts.RowMemory.{InFront}
 use Rattle.cycles.specs.inner_contracts.TotalMachine.{cycle}
-use Rattle.senders.specs.declared.judge.Judgement.{Judgement}
-use Rattle.senders.specs.declared.judge.Judgement.TheVariants.{Refused as Refuses, New, Resent}
+use Rattle.senders.specs.inner_contracts.Judging.{Judged}
+use Rattle.senders.specs.inner_contracts.Judging.{Refused as Refuses, New, Resent}
 use Rattle.senders.specs.definitions.Sender.{Sender, State, kept}
 use Rattle.senders.specs.definitions.Answer.{Answer, refused, accepted, or_refused, if_accepted}
 use Rattle.senders.specs.definitions.Line.{addressed, Accepted, new, resent, its_line, line}
@@ -97,7 +97,7 @@ row_shown : (print : ℕ) (f : File) (s : State) (a : Accepted) (m : List ℕ) {
 unfolding line_accepted line_row sender_row with_row
 row_shown print f s a m i short = rw (length_told short, i.is, i.count)
 
-module _ {classes literals d refs scopes columns : List ℕ} {count : ℕ} {values state w new_state : List ℕ} {j : Judgement}
+module _ {classes literals d refs scopes columns : List ℕ} {count : ℕ} {values state w new_state : List ℕ} {j : Judged}
     (advances : Advanced classes literals d refs scopes columns count values state new_state j) where
   pub record_refused : {code : ℕ} → j ≡ Refuses code
       → RecordTaken classes literals d refs scopes columns count values state w new_state w (Err (Line code))

@@ -28,8 +28,8 @@ use Rattle.senders.specs.inner_contracts.SenderMemory.{StateTest}
 use Rattle.senders.specs.inner_contracts.RowMemory.{Shown, FreshStatePut}
 use Rattle.senders.proofs.laws.SenderLaws.{name_short}
 use Rattle.senders.proofs.laws.StateLaws.{state_decoded, no_state}
-use Rattle.days.specs.declared.sheet.Sheeted.{Sheeted}
-use Rattle.days.specs.declared.sheet.Sheeted.TheVariants.{Refused, Length}
+use Rattle.days.specs.inner_contracts.SheetMemory.{Sheeted}
+use Rattle.days.specs.inner_contracts.SheetMemory.{Refused, Length}
 use Rattle.days.specs.definitions.DaySheet.{sheet_if_state}
 use Rattle.days.specs.inner_contracts.SheetMemory.{SheetIs, SheetPut}
 use Rattle.std.specs.Prelude.{Result, Ok, Err}

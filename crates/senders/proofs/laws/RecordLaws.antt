@@ -15,7 +15,7 @@ use Rattle.cycles.specs.definitions.Record.{Sent, record_of, Input, inputs_in, i
 use Rattle.cycles.specs.definitions.Planes.{entity_count, decode_store, decode_stores, each}
 use Rattle.cycles.proofs.laws.PlaneTestLaws.{behind, behind_all}
 use Rattle.cycles.proofs.laws.SoundLine.{header_sound, inputs_sound}
-use Rattle.senders.specs.declared.judge.Judgement.TheVariants.{Refused, New, Resent}
+use Rattle.senders.specs.inner_contracts.Judging.{Refused, New, Resent}
 use Rattle.senders.specs.definitions.Sender.{State, Line, kept}
 use Rattle.senders.specs.definitions.Answer.{Answer, refused, accepted}
 use Rattle.senders.specs.definitions.Line.{Accepted, new, resent, Reading, line_of, is_resent, in_turn, judged, line_in}

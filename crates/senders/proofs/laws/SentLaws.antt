@@ -25,8 +25,8 @@ use Rattle.cycles.proofs.laws.SoundLine.{SoundColumn, header_sound, inputs_sound
 use Rattle.cycles.proofs.laws.ColumnLaws.{backwards_length}
 use Rattle.cycles.proofs.laws.CellTokenLaws.{few_within}
 use Rattle.cycles.proofs.laws.RecordLaws.{record_fields}
-use Rattle.senders.specs.declared.judge.Judgement.{Judgement}
-use Rattle.senders.specs.declared.judge.Judgement.TheVariants.{Refused}
+use Rattle.senders.specs.inner_contracts.Judging.{Judged}
+use Rattle.senders.specs.inner_contracts.Judging.{Refused}
 use Rattle.senders.specs.definitions.Sender.{State, is_sender, has_place}
 use Rattle.senders.specs.definitions.Answer.{Answer}
 use Rattle.senders.specs.definitions.Line.{Accepted, line}
@@ -90,7 +90,7 @@ module _ (classes literals d refs scopes columns : List ℕ) (count : ℕ) (valu
         let z : length x.sender ≡ size = cc in
         subst (λ (i : ℕ). i ≤ length values) z (sends.front x r).1
 
-    pub advanced_sent : {size number : ℕ} → reads ≡ Got size number → {new_state : List ℕ} {r : Judgement}
+    pub advanced_sent : {size number : ℕ} → reads ≡ Got size number → {new_state : List ℕ} {r : Judged}
         → SentTaken classes literals d refs scopes columns count values (take (size - 0) values) number state new_state r
         → Advanced classes literals d refs scopes columns count values state new_state r
     advanced_sent {size} q takes = record {
@@ -104,14 +104,14 @@ module _ (classes literals d refs scopes columns : List ℕ) (count : ℕ) (valu
 
   module _ (name : List ℕ) (number : ℕ) (state : List ℕ) {n : ℕ} (e : n ≡ get_or d 1 0) where
     -- no file within the counts has so many entities
-    pub sent_impossible : 32 < n → {new_state : List ℕ} {r : Judgement}
+    pub sent_impossible : 32 < n → {new_state : List ℕ} {r : Judged}
         → SentTaken classes literals d refs scopes columns count values name number state new_state r
     sent_impossible more = record {
       is = λ text offsets lengths b. let q = b.checked.bench.directory.entities in absurd (omega (arith, b.checked.few.entities));
     }
 
     -- no state has so many senders
-    pub sent_too_many : 8 < get_or state 4 0 → {new_state : List ℕ} {r : Judgement}
+    pub sent_too_many : 8 < get_or state 4 0 → {new_state : List ℕ} {r : Judged}
         → SentTaken classes literals d refs scopes columns count values name number state new_state r
     sent_too_many more = record {
       is = λ text offsets lengths b print s h.
@@ -203,7 +203,7 @@ module _ (classes literals d refs scopes columns : List ℕ) (count : ℕ) (valu
             no_inputs none k z = refl
             no_inputs (some is) k (z, p, q) = absurd (true≢false (sym z ∙ t))
 
-        pub sent_settled : ok ≡ true → {new_state : List ℕ} {j : Judgement}
+        pub sent_settled : ok ≡ true → {new_state : List ℕ} {j : Judged}
             → Settled classes literals d refs scopes name at number new_flags new_cells state new_state j
             → SentTaken classes literals d refs scopes columns count values name number state new_state j
         sent_settled t {new_state} {j} settles = record {
@@ -238,7 +238,7 @@ module _ (classes literals d refs scopes columns : List ℕ) (count : ℕ) (valu
 pub ruleset sent_refused = (sent_impossible, sent_too_many, sent_ill_formed)
 
 -- of a header's columns, those that stand among more
-pub advanced_taken : {classes literals d refs scopes taken columns values state new_state : List ℕ} {count : ℕ} {r : Judgement}
+pub advanced_taken : {classes literals d refs scopes taken columns values state new_state : List ℕ} {count : ℕ} {r : Judged}
     → length taken ≡ count → backwards count taken ≡ backwards count columns
     → Advanced classes literals d refs scopes taken (length taken) values state new_state r
     → Advanced classes literals d refs scopes columns count values state new_state r

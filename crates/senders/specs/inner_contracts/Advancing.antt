@@ -11,7 +11,7 @@ use Rattle.cycles.specs.definitions.Record.{Sent, record_of, Input, inputs_in, i
 use Rattle.cycles.specs.definitions.Planes.{entity_count}
 use Rattle.cycles.specs.inner_contracts.ReadSets.{ReadsAre}
 use Rattle.cycles.specs.inner_contracts.HeaderReads.{column_number, backwards}
-use Rattle.senders.specs.declared.judge.Judgement.{Judgement}
+use Rattle.senders.specs.inner_contracts.Judging.{Judged}
 use Rattle.senders.specs.definitions.Sender.{State, Line, kept}
 use Rattle.senders.specs.definitions.Answer.{Answer, refused, accepted}
 use Rattle.senders.specs.definitions.Line.{Accepted, new, resent, Reading, is_resent, line_in, line}
@@ -34,7 +34,7 @@ state_memory print f s (refused code) m = m
 state_memory print f s (accepted (resent l)) m = m
 state_memory print f s (accepted (new l)) m = with_state print f (follow f s (new l)) m
 
-pub record Moves (print : ℕ) (f : File) (s : State) (a : Answer Accepted) (state new_state : List ℕ) (r : Judgement) : Type 0 where
+pub record Moves (print : ℕ) (f : File) (s : State) (a : Answer Accepted) (state new_state : List ℕ) (r : Judged) : Type 0 where
   pub judged : r ≡ judgement s.senders a
   pub left : new_state ≡ state_memory print f s a state
 
@@ -62,7 +62,7 @@ abbrev pub reading_with : Sent → List Input → Reading
 reading_with x is = record { sender = x.sender; number = x.number; inputs = is }
 
 -- a line that is read, of the sender at a place: its number, and its inputs in areas of their own
-pub record Settled (classes literals d refs scopes name : List ℕ) (at number : ℕ) (flags cells state new_state : List ℕ) (r : Judgement) : Type 0 where
+pub record Settled (classes literals d refs scopes name : List ℕ) (at number : ℕ) (flags cells state new_state : List ℕ) (r : Judged) : Type 0 where
   pub is : (text offsets lengths : List ℕ) (b : ResolvedBench text classes offsets lengths literals d refs scopes)
       → (print : ℕ) (s : State) → state_of print b.checked.bench.file state ≡ some s
       → (names values : List ℕ) (cs : List Column) → header b.checked.bench.file names ≡ some cs
@@ -73,7 +73,7 @@ pub record Settled (classes literals d refs scopes name : List ℕ) (at number :
 
 -- a record whose sender and number are read
 pub record SentTaken (classes literals d refs scopes columns : List ℕ) (count : ℕ) (values name : List ℕ) (number : ℕ) (state new_state : List ℕ)
-    (r : Judgement) : Type 0 where
+    (r : Judged) : Type 0 where
   pub is : (text offsets lengths : List ℕ) (b : ResolvedBench text classes offsets lengths literals d refs scopes)
       → (print : ℕ) (s : State) → state_of print b.checked.bench.file state ≡ some s
       → (names : List ℕ) (cs : List Column) → header b.checked.bench.file names ≡ some cs → map column_number cs ≡ backwards count columns
@@ -81,7 +81,7 @@ pub record SentTaken (classes literals d refs scopes columns : List ℕ) (count 
       → Moves print b.checked.bench.file s (line b.checked.bench.file s names values) state new_state r
 
 -- a record under a header, whose columns' numbers stand in memory
-pub record Advanced (classes literals d refs scopes columns : List ℕ) (count : ℕ) (values state new_state : List ℕ) (r : Judgement) : Type 0 where
+pub record Advanced (classes literals d refs scopes columns : List ℕ) (count : ℕ) (values state new_state : List ℕ) (r : Judged) : Type 0 where
   pub is : (text offsets lengths : List ℕ) (b : ResolvedBench text classes offsets lengths literals d refs scopes)
       → (print : ℕ) (s : State) → state_of print b.checked.bench.file state ≡ some s
       → (names : List ℕ) (cs : List Column) → header b.checked.bench.file names ≡ some cs → map column_number cs ≡ backwards count columns

@@ -1,5 +1,5 @@
 -- What a state says to a header and a record that are read: a refusal, a new line, or a retransmission; for a state and inputs in memory.
-use Rattle.std.specs.Prelude.{ℕ, ◌*◌, ◌/◌, ◌%◌, ◌≡◌, List, Bool, true, ◌||◌, eqb, get_or, take, drop}
+use Rattle.std.specs.Prelude.{ℕ, ◌*◌, ◌/◌, ◌%◌, ◌≡◌, List, Bool, true, ◌||◌, eqb, get_or, take, drop, Result, Ok, Err}
 use Rattle.values.specs.definitions.Bytes.{same_bytes}
 use Rattle.text.specs.definitions.Syntax.{File}
 use Rattle.checking.specs.inner_contracts.Directory.{Bench}
@@ -11,16 +11,39 @@ use Rattle.cycles.specs.definitions.SoundStores.{SoundInputs}
 use Rattle.cycles.specs.definitions.Planes.{CELL_BYTES, ENTITY_CELLS, ENTITY_CELL_BYTES, NO_READING, entity_count, kept_fits, plane_fits, KEPT_FLAGS}
 use Rattle.cycles.specs.inner_contracts.LineReads.{presence_table, input_table}
 use Rattle.cycles.specs.inner_contracts.CycleMemory.{present_by}
-use Rattle.senders.specs.declared.judge.Judgement.{Judgement}
-use Rattle.senders.specs.declared.judge.Judgement.TheVariants.{Refused, New, Resent}
+use Rattle.senders.specs.declared.turn.Turn.{Turn}
+use Rattle.senders.specs.declared.turn.Turn.TheVariants.{New as Begins, Retransmission}
+use Rattle.senders.specs.declared.turn.LineError.{LineError}
+use Rattle.senders.specs.declared.turn.LineError.TheVariants.{IllFormed, IllFormedValue, OutOfTurn, OtherReadings, NoState, NinthSender, IllFormedSender}
 use Rattle.senders.specs.definitions.Sender.{Sender}
 use Rattle.senders.specs.definitions.Answer.{Answer, refused, accepted}
 use Rattle.senders.specs.definitions.Line.{Accepted, new, resent, same_inputs}
 use Rattle.senders.specs.definitions.StateImage.{decode_inputs}
 use Rattle.senders.specs.inner_contracts.SenderMemory.{place}
 
+-- document 01's number
+abbrev pub code_of : LineError → ℕ
+code_of IllFormed = 21
+code_of IllFormedValue = 23
+code_of OutOfTurn = 24
+code_of OtherReadings = 25
+code_of NoState = 33
+code_of NinthSender = 42
+code_of IllFormedSender = 43
+
+-- what a state says: a refusal by its number, a new line by its sender's place and its number, or a line that is resent by its sender's place
+pub data Judged : Type 0 where
+  Refused : ℕ → Judged
+  New : (at number : ℕ) → Judged
+  Resent : (at : ℕ) → Judged
+
+abbrev pub judged_as : Result Turn LineError → Judged
+judged_as (Ok (Begins at number)) = New at number
+judged_as (Ok (Retransmission at)) = Resent at
+judged_as (Err e) = Refused (code_of e)
+
 -- an accepted line comes with the place of its sender, a new one with its number too
-unfoldable pub judgement : List Sender → Answer Accepted → Judgement
+unfoldable pub judgement : List Sender → Answer Accepted → Judged
 unfolding place
 judgement xs (refused code) = Refused code
 judgement xs (accepted (new l)) = New (place l.sender xs) l.number

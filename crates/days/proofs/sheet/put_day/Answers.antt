@@ -1,19 +1,23 @@
 -- What is left of `put_day`.
 use Rattle.days.proofs.steps.DaySteps.{going_begin, going_passes, going_prints, going_ends}
 use Rattle.days.proofs.sheet.put_day.Goals as goal
+use Rattle.days.proofs.sheet.put_day.Goals.{in-Some, in_default}
 
 pub loop-at-init : goal.loop-at-init
 loop-at-init c = going_begin _ _ _ _ _ _ _ _ _ _ _ _ _ c.requires.in_bounds c.requires.readings_in_bounds c.no_folds-folds.ensures
 
-pub loop-at-preserved-then-number-eq0 : goal.loop-at-preserved-then-number-eq0
-loop-at-preserved-then-number-eq0 c =
-    going_passes _ _ _ _ _ _ _ _ _ _ _ _ _ c.loop-at.invariant c.loop-at-test.true c.line_end-stop.ensures c.step-number.auto.state
-    c.step-number.ensures c.if-number-eq0.true
-
 pub loop-at-preserved : goal.loop-at-preserved
 loop-at-preserved c =
-    going_prints _ _ _ _ _ _ _ _ _ _ _ _ _ c.loop-at.invariant c.loop-at-test.true c.line_end-stop.ensures c.step-number.auto.state
-    c.step-number.ensures c.if-number-eq0.false c.read_chosen-values.ensures c.requires.count_bound.0 c.put_line-end.ensures c.folded_values-more.ensures
+    elim c.match-step.branch [
+      | in-Some w ↦
+          rw (w.end-is, w.sheet-is, w.folds-is)
+          (going_prints _ _ _ _ _ _ _ _ _ _ _ _ _ c.loop-at.invariant c.loop-at-test.true c.line_end-stop.ensures c.step.auto.state c.step.ensures
+          w.in-Some.is w.read_chosen-values.ensures c.requires.count_bound.0 w.put_line-end.ensures w.folded_values-more.ensures)
+      | in_default w ↦
+          rw (w.end-is, w.sheet-is, w.folds-is)
+          (going_passes _ _ _ _ _ _ _ _ _ _ _ _ _ c.loop-at.invariant c.loop-at-test.true c.line_end-stop.ensures c.step.auto.state c.step.ensures
+          w.in_default.is)
+    ]
 
 pub returns : goal.returns
 returns c = going_ends _ _ _ _ _ _ _ _ _ _ _ _ _ c.loop-at.invariant c.loop-at-test.false c.real_cells-reals.ensures c.put_closings.ensures

@@ -1,12 +1,20 @@
+use Rattle.std.proofs.Common.{ap, ◌∙◌}
+use Rattle.std.specs.Prelude.{Ok}
+use Rattle.senders.specs.inner_contracts.Judging.{judged_as}
 use Rattle.senders.proofs.laws.SentLaws.{advanced_taken}
 use Rattle.engine.proofs.laws.LineLaws.{record_refused, record_resent, record_new}
 use Rattle.engine.proofs.line.take_record.Goals as goal
 
-pub returns-in-Refused : goal.returns-in-Refused
-returns-in-Refused c = record_refused (advanced_taken c.new-header.ensures.size c.new-header.ensures.same c.advance-judgement.ensures) c.in-Refused.is
+pub returns-in-Err : goal.returns-in-Err
+returns-in-Err c =
+    rw c.code.ensures (record_refused (advanced_taken c.new-header.ensures.size c.new-header.ensures.same c.advance.ensures) (ap judged_as c.in-Err.is))
 
-pub returns-in-New : goal.returns-in-New
-returns-in-New c = record_new (advanced_taken c.new-header.ensures.size c.new-header.ensures.same c.advance-judgement.ensures) c.show_place.ensures c.in-New.is
+pub returns-in-Ok-New : goal.returns-in-Ok-New
+returns-in-Ok-New c =
+    record_new (advanced_taken c.new-header.ensures.size c.new-header.ensures.same c.advance.ensures) c.show_place.ensures
+    (ap judged_as (c.in-Ok-New.is ∙ ap Ok c.in-Ok-New.field-0-is))
 
-pub returns-in-Resent : goal.returns-in-Resent
-returns-in-Resent c = record_resent (advanced_taken c.new-header.ensures.size c.new-header.ensures.same c.advance-judgement.ensures) c.show_place-in-Resent.ensures c.in-Resent.is
+pub returns-in-Ok-Retransmission : goal.returns-in-Ok-Retransmission
+returns-in-Ok-Retransmission c =
+    record_resent (advanced_taken c.new-header.ensures.size c.new-header.ensures.same c.advance.ensures) c.show_place-in-Ok-Retransmission.ensures
+    (ap judged_as (c.in-Ok-Retransmission.is ∙ ap Ok c.in-Ok-Retransmission.field-0-is))

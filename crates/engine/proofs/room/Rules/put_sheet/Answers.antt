@@ -1,8 +1,10 @@
+use Rattle.std.proofs.Common.{ap}
+use Rattle.days.specs.inner_contracts.SheetMemory.{sheeted_as}
 use Rattle.engine.proofs.laws.ServingLaws.{sheet_is}
 use Rattle.engine.proofs.room.Rules.put_sheet.Goals as goal
 
-pub returns-in-Refused : goal.returns-in-Refused
-returns-in-Refused c = rw (← c.self.view_is) (sheet_is c.self.invariant c.put_sheet.ensures c.in-Refused.is)
+pub returns-in-Err : goal.returns-in-Err
+returns-in-Err c = rw (← c.self.view_is, c.code.ensures) (sheet_is c.self.invariant c.put_sheet.ensures (ap sheeted_as c.in-Err.is))
 
-pub returns-in-Length : goal.returns-in-Length
-returns-in-Length c = rw (← c.self.view_is) (sheet_is c.self.invariant c.put_sheet.ensures c.in-Length.is)
+pub returns-in-Ok : goal.returns-in-Ok
+returns-in-Ok c = rw (← c.self.view_is) (sheet_is c.self.invariant c.put_sheet.ensures (ap sheeted_as c.in-Ok.is))
