@@ -15,7 +15,7 @@ use crate::interfaces::interface_faults;
 use crate::layout::{DIRECTORY, MOST_BYTES, MOST_RULES, RULE_COUNT_ROW, RULE_ROWS};
 use crate::priorities::priority_fault;
 use crate::rules::rule_faults;
-use text::{Syntax, read};
+use text::{SyntaxError, read};
 
 // What a text is: accepted, with so many tokens in the columns; refused with a code, and the offset; or there is too little room in
 // the columns or in the directory.
@@ -127,7 +127,7 @@ fn concluded(n: usize, found: Option<Fault>) -> Checked
 // The answer by what `read` made of the text and the columns.
 #[tactic(auto, using(crate::proofs::laws::CheckLaws::settled_answers))]
 fn settled(
-    syntax: Syntax,
+    syntax: Result<usize, SyntaxError>,
     text: &[u8],
     classes: &[u8],
     offsets: &[u16],
@@ -139,15 +139,13 @@ fn settled(
         d.new syntax result }
 {
     match syntax {
-        Syntax::NoRoom => Checked::NoRoom,
-        Syntax::TooLong => refused(11, MOST_BYTES),
-        Syntax::NoTokenAt(p) => refused(12, p),
-        Syntax::UnfitAt(p) => refused(13, p),
-        Syntax::File(n) => {
+        Ok(n) => {
             let rows = first_rows(classes, n);
             let found = judged(text, rows, offsets, lengths, values, d);
             concluded(n, found)
         }
+        Err(SyntaxError::NoRoom) => Checked::NoRoom,
+        Err(error) => refused(error.code(), error.offset()),
     }
 }
 

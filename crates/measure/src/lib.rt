@@ -8,7 +8,7 @@ ghost use Rattle.std.specs.Prelude.{◌≡◌, ◌+◌, ◌*◌, ◌≤◌, ◌<
 ghost use Rattle.text.specs.inner_contracts.TokenTable.{columns_of};
 ghost use Rattle.measure.specs.inner_contracts.Measured.{syntax_number, Measures};
 
-use text::{Syntax, read};
+use text::{SyntaxError, read};
 
 // A code in the low 8 bits, and a number above them.
 fn packed(code: u64, above: usize) -> u64
@@ -19,16 +19,13 @@ fn packed(code: u64, above: usize) -> u64
 }
 
 #[tactic(auto, unfolding(crate::specs::inner_contracts::Measured::syntax_number))]
-fn number(syntax: Syntax) -> u64
+fn number(syntax: Result<usize, SyntaxError>) -> u64
     requires { syntax_number syntax < 256 * 32769 }
     ensures { result ≡ syntax_number syntax }
 {
     match syntax {
-        Syntax::File(n) => packed(0, n),
-        Syntax::TooLong => packed(11, 32768),
-        Syntax::NoTokenAt(p) => packed(12, p),
-        Syntax::UnfitAt(p) => packed(13, p),
-        Syntax::NoRoom => 31,
+        Ok(count) => packed(0, count),
+        Err(error) => packed(u64::from(error.code()), error.offset()),
     }
 }
 

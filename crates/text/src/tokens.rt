@@ -12,7 +12,7 @@ use crate::bytes::{
     BLANK, DIGIT, HASH, LETTER, MARK, NOT_ALLOWED, UNDERSCORE, class_table, entry, mark_table,
 };
 use crate::reader::item_in;
-use crate::{Item, Lexed, Run, classes};
+use crate::{Item, Run, SyntaxError, classes};
 use values::slices::same_bytes;
 
 // ---- runs
@@ -299,25 +299,25 @@ fn lex_by(
     offsets: &mut [u16],
     lengths: &mut [u8],
     values: &mut [u32],
-) -> Lexed
+) -> Result<usize, SyntaxError>
     requires { (table.now ≡ at_bytes byte_class) × (marks.now ≡ at_bytes mark_class) }
     ensures { Lexes text.now (columns_of classes.old offsets.old lengths.old values.old)
         (columns_of classes.new offsets.new lengths.new values.new) result }
 {
     if 32768 < text.len() {
-        return Lexed::TooLong;
+        return Err(SyntaxError::TooLong);
     }
     if classes.len() < text.len() {
-        return Lexed::NoRoom;
+        return Err(SyntaxError::NoRoom);
     }
     if offsets.len() < text.len() {
-        return Lexed::NoRoom;
+        return Err(SyntaxError::NoRoom);
     }
     if lengths.len() < text.len() {
-        return Lexed::NoRoom;
+        return Err(SyntaxError::NoRoom);
     }
     if values.len() < text.len() {
-        return Lexed::NoRoom;
+        return Err(SyntaxError::NoRoom);
     }
     let mut at: usize = 0;
     let mut n: usize = 0;
@@ -336,10 +336,10 @@ fn lex_by(
                 n += 1;
             }
             Item::Bad => {
-                return Lexed::BadAt(at);
+                return Err(SyntaxError::NoTokenAt(at));
             }
             Item::End => {
-                return Lexed::Count(n);
+                return Ok(n);
             }
         }
     }
@@ -352,7 +352,7 @@ pub fn lex(
     offsets: &mut [u16],
     lengths: &mut [u8],
     values: &mut [u32],
-) -> Lexed
+) -> Result<usize, SyntaxError>
     ensures { Lexes text.now (columns_of classes.old offsets.old lengths.old values.old)
         (columns_of classes.new offsets.new lengths.new values.new) result }
 {

@@ -3,11 +3,10 @@ ghost use Rattle.std.specs.Prelude.{ℕ, ◌≤◌, ◌≡◌, get_or};
 ghost use Rattle.text.specs.definitions.Readers.{halt};
 ghost use Rattle.text.specs.definitions.Syntax;
 ghost use Rattle.text.specs.definitions.Grammar.{simple_or, expression_reader, priority_reader, atom_reader};
-ghost use Rattle.text.specs.inner_contracts.ParseAnswers.{Next, parsed_of};
 ghost use Rattle.text.specs.inner_contracts.Walks.{Steps, Ends};
 
 use crate::classes::{NAME, PLUS, RANK, REAL};
-use crate::grammar::{OPENERS, REFUSED, atom, expression};
+use crate::grammar::{OPENERS, atom, expression};
 
 // The number after i, if there is a token number i of so many; else i, so that no walk leaves the table far.
 pub fn skip(i: usize, size: usize) -> usize
@@ -39,21 +38,6 @@ pub fn value_at(values: &[u32], i: usize) -> u32
     values[i]
 }
 
-// Where what was read from number `at` on ends; `at`, if it was refused.
-#[tactic(auto, using(crate::proofs::steps::EndLaws::refused_ends, crate::proofs::steps::EndLaws::next_same, crate::proofs::laws::CodeReaderLaws::parsed_next, crate::proofs::laws::CodeReaderLaws::parsed_refused))]
-fn end_of(answer: usize, at: usize) -> usize
-    ensures onward { at ≤ result }
-    ensures ends { (i : ℕ) → parsed_of answer ≡ Next i → at ≤ i → result ≡ i }
-{
-    if REFUSED <= answer {
-        return at;
-    }
-    if answer < at {
-        return at;
-    }
-    answer
-}
-
 // The number of the token after what begins with no opener: name `.` member, or a literal, which is one token.
 fn leaf_end(classes: &[u8], at: usize) -> usize
     ensures { Ends classes.now (simple_or halt) at result }
@@ -70,7 +54,7 @@ fn leaf_end(classes: &[u8], at: usize) -> usize
 fn parsed_end(classes: &[u8], at: usize) -> usize
     ensures { Ends classes.now (expression_reader Syntax.OPENERS) at result }
 {
-    end_of(expression(classes, at, OPENERS), at)
+    expression(classes, at, OPENERS).unwrap_or(at)
 }
 
 // The number of the token after the expression at number `at`. Most expressions are one leaf: no opener has a class below that of `real`, and no
@@ -103,5 +87,5 @@ pub fn priority_end(classes: &[u8], at: usize) -> usize
 pub fn atom_end(classes: &[u8], at: usize) -> usize
     ensures { Ends classes.now (atom_reader Syntax.OPENERS) at result }
 {
-    end_of(atom(classes, at, OPENERS), at)
+    atom(classes, at, OPENERS).unwrap_or(at)
 }

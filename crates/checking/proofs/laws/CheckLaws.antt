@@ -9,8 +9,10 @@ use lib.Dec.{ltb}
 use lib.ListN.{length, get_elem?, take}
 use lib.Seq.{take_all, length-take-le, get_or-take}
 use borrow.Author.Tests.{le-leb, lt-leb, le-ltb, ltb-false}
-use Rattle.text.specs.declared.reading.Syntax.{Syntax}
-use Rattle.text.specs.declared.reading.Syntax.TheVariants.{File, TooLong, NoTokenAt, UnfitAt, NoRoom as Short}
+use Rattle.std.specs.Prelude.{Result, Ok, Err}
+use Rattle.text.specs.declared.SyntaxError.{SyntaxError}
+use Rattle.text.specs.declared.SyntaxError.TheVariants.{TooLong, NoTokenAt, UnfitAt, NoRoom as Short}
+use Rattle.text.specs.inner_contracts.EnumAnswers.{code_of, offset_of}
 use Rattle.text.specs.definitions.Tokens.{Token}
 use Rattle.text.specs.definitions.Readers.{read}
 use Rattle.text.specs.inner_contracts.TokenTable.{TokenColumns, columns_of, row_token, rows, lacks_rows}
@@ -74,7 +76,7 @@ module _ (text : List ℕ) (t : TokenColumns) (d : List ℕ) where
   columns_short h m l = rw (le-leb DIRECTORY (length d) h, le-ltb MOST_BYTES (length text) m, l)
 
   -- any other answer of `read` says that there is room
-  room_enough : {u : TokenColumns} {s : Syntax} → DIRECTORY ≤ length d → ReadsText text t u s → (s ≡ Short → ⊥) → has_room text t d ≡ true
+  room_enough : {u : TokenColumns} {s : Result ℕ SyntaxError} → DIRECTORY ≤ length d → ReadsText text t u s → (s ≡ Err Short → ⊥) → has_room text t d ≡ true
   unfolding has_room
   room_enough h l n = go (ltb MOST_BYTES (length text)) refl (lacks_rows (length text) t) refl
     where
@@ -110,16 +112,10 @@ refused_room h = let z : ◌≡◌ {A = ℕ} 0 1 = cc in omega arith
 accepted_room : {n : ℕ} → Accepted n ≡ NoRoom → ⊥
 accepted_room h = let z : ◌≡◌ {A = ℕ} 0 1 = cc in omega arith
 
-long_short : TooLong ≡ Short → ⊥
-long_short h = let z : ◌≡◌ {A = ℕ} 0 1 = cc in omega arith
+error_short : {x : SyntaxError} → (x ≡ Short → ⊥) → ◌≡◌ {A = Result ℕ SyntaxError} (Err x) (Err Short) → ⊥
+error_short f h = f cc
 
-bad_short : {p : ℕ} → NoTokenAt p ≡ Short → ⊥
-bad_short h = let z : ◌≡◌ {A = ℕ} 0 1 = cc in omega arith
-
-unfit_short : {p : ℕ} → UnfitAt p ≡ Short → ⊥
-unfit_short h = let z : ◌≡◌ {A = ℕ} 0 1 = cc in omega arith
-
-file_short : {n : ℕ} → File n ≡ Short → ⊥
+file_short : {n : ℕ} → ◌≡◌ {A = Result ℕ SyntaxError} (Ok n) (Err Short) → ⊥
 file_short h = let z : ◌≡◌ {A = ℕ} 0 1 = cc in omega arith
 
 -- document 01's number, without room and with it
@@ -152,9 +148,9 @@ checks_short {text} {t} {d} h = record {
 pub judged_rows : {text cs firsts os ls vs d e : List ℕ} {r : Found} → cs ≡ firsts → Judged text cs os ls vs d e r → Judged text firsts os ls vs d e r
 judged_rows {text} {os = os} {ls = ls} {vs = vs} {d = d} {e = e} {r = r} q j = subst (λ l. Judged text l os ls vs d e r) q j
 
-module _ {text cs os ls vs d e : List ℕ} {s : Syntax} where
+module _ {text cs os ls vs d e : List ℕ} {s : Result ℕ SyntaxError} where
   -- an answer that is not NoRoom
-  room_told : {r : Checked} → (s ≡ Short → ⊥)
+  room_told : {r : Checked} → (s ≡ Err Short → ⊥)
       → ((t : TokenColumns) → ReadsText text t (columns_of cs os ls vs) s → DIRECTORY ≤ length d
       → (r ≡ NoRoom → ⊥) × Says text (columns_of cs os ls vs) e r)
       → Settles text cs os ls vs d e s r
@@ -172,7 +168,7 @@ module _ {text cs os ls vs d e : List ℕ} {s : Syntax} where
     };
   }
 
-  pub settles_short : s ≡ Short → Settles text cs os ls vs d e s NoRoom
+  pub settles_short : s ≡ Err Short → Settles text cs os ls vs d e s NoRoom
   settles_short x = record {
     told = λ t l k size. record {
       answer = short_answer text t t d d (columns_short text t d k (said l x).0 (said l x).1);
@@ -187,24 +183,26 @@ module _ {text cs os ls vs d e : List ℕ} {s : Syntax} where
     };
   }
 
-  refusal_told : {r : Checked} {code p : ℕ} → (s ≡ Short → ⊥)
+  refusal_told : {r : Checked} {code p : ℕ} → (s ≡ Err Short → ⊥)
       → ((t : TokenColumns) → ReadsText text t (columns_of cs os ls vs) s → (p ≤ MOST_BYTES) × (verdict text ≡ refused_at code p))
       → Refuses code p r → Settles text cs os ls vs d e s r
   refusal_told a h f = room_told a λ t l k.
       let q = f.is (h t l).0 in
       (λ z. refused_room (sym q ∙ z), subst (Says text (columns_of cs os ls vs) e) (sym q) (h t l).1)
 
-  pub settles_long : {r : Checked} → s ≡ TooLong → Refuses 11 32768 r → Settles text cs os ls vs d e s r
-  settles_long x = refusal_told (λ z. long_short (sym x ∙ z)) (λ t l. (omega arith, long_verdict l x))
-
-  pub settles_bad : {r : Checked} {p : ℕ} → s ≡ NoTokenAt p → Refuses 12 p r → Settles text cs os ls vs d e s r
-  settles_bad x = refusal_told (λ z. bad_short (sym x ∙ z)) (λ t l. let h = said l x in (omega (arith, h.within, h.allowed), bad_verdict l x))
-
-  pub settles_unfit : {r : Checked} {p : ℕ} → s ≡ UnfitAt p → Refuses 13 p r → Settles text cs os ls vs d e s r
-  settles_unfit x = refusal_told (λ z. unfit_short (sym x ∙ z)) (λ t l. let h = said l x in (omega (arith, h.within, h.allowed), unfit_verdict l x))
+  -- what `read` refuses is refused so
+  pub settles_error : {r : Checked} {code p : ℕ} (x : SyntaxError) → s ≡ Err x → (x ≡ Short → ⊥) → code ≡ code_of x → p ≡ offset_of x → Refuses code p r
+      → Settles text cs os ls vs d e s r
+  unfolding code_of offset_of
+  settles_error TooLong x z a b f = refusal_told (λ y. error_short z (sym x ∙ y)) (λ t l. (omega (arith, b), long_verdict l x)) (rw (a, b) at f)
+  settles_error (NoTokenAt q) x z a b f =
+      refusal_told (λ y. error_short z (sym x ∙ y)) (λ t l. let h = said l x in (omega (arith, h.within, h.allowed), bad_verdict l x)) (rw (a, b) at f)
+  settles_error (UnfitAt q) x z a b f =
+      refusal_told (λ y. error_short z (sym x ∙ y)) (λ t l. let h = said l x in (omega (arith, h.within, h.allowed), unfit_verdict l x)) (rw (a, b) at f)
+  settles_error Short x z a b f = absurd (z refl)
 
   -- a file of n tokens, judged by its first n rows
-  module _ {n : ℕ} (x : s ≡ File n) {found : Found} (j : Judged text (take n cs) os ls vs d e found) where
+  module _ {n : ℕ} (x : s ≡ Ok n) {found : Found} (j : Judged text (take n cs) os ls vs d e found) where
     module _ (t : TokenColumns) (l : ReadsText text t (columns_of cs os ls vs) s) (k : DIRECTORY ≤ length d) where
       abbrev columns : TokenColumns
       columns = columns_of cs os ls vs
@@ -269,4 +267,4 @@ module _ {text cs os ls vs d e : List ℕ} {s : Syntax} where
         (λ z. a (sym q ∙ z), subst (Says text (columns_of cs os ls vs) e) (sym q) b)
 
 -- the answer by what `read` made of the text
-pub ruleset settled_answers = (settles_short, settles_long, settles_bad, settles_unfit, judged_rows, settles_file)
+pub ruleset settled_answers = (settles_short, settles_error, judged_rows, settles_file)

@@ -1,6 +1,6 @@
 -- The steps of the check from the answer of `read` to its own, and of the search for where an entity's name stands.
-use Rattle.std.specs.Prelude.{ℕ, ◌≤◌, ◌≡◌, List, true, length}
-use Rattle.text.specs.declared.reading.Syntax.{Syntax}
+use Rattle.std.specs.Prelude.{ℕ, ◌≤◌, ◌≡◌, List, true, length, Result}
+use Rattle.text.specs.declared.SyntaxError.{SyntaxError}
 use Rattle.text.specs.inner_contracts.TokenTable.{TokenColumns, columns_of}
 use Rattle.text.specs.inner_contracts.Syntaxes.{ReadsText}
 use Rattle.std.specs.Prelude.{Some, None}
@@ -23,7 +23,7 @@ pub record Refuses (code p : ℕ) (r : Checked) : Type 0 where
   pub is : p ≤ MOST_BYTES → r ≡ Refused code p
 
 -- the answer r for columns that `read` left with the answer s
-pub record Settles (text cs os ls vs d e : List ℕ) (s : Syntax) (r : Checked) : Type 0 where
+pub record Settles (text cs os ls vs d e : List ℕ) (s : Result ℕ SyntaxError) (r : Checked) : Type 0 where
   pub told : (t : TokenColumns) → ReadsText text t (columns_of cs os ls vs) s → DIRECTORY ≤ length d → length e ≡ length d
       → Checks text t (columns_of cs os ls vs) d e r
 

@@ -1,15 +1,20 @@
 -- Laws of the readers in code, one for each combinator: from what the parts answer to what the whole answers.
-use Prim.Native.Nat.{ℕ, zero, suc, ◌+◌, ◌-◌, ◌≤◌, ◌<◌}
+use Prim.Native.Nat.{ℕ, zero, suc, ◌+◌, ◌≤◌, ◌<◌}
 use mathlib.Core.Path.{◌≡◌, refl, sym, ◌∙◌, ap}
 use mathlib.Core.List.{List, [], ◌∷◌, cons≢nil}
-use mathlib.Core.Bool.{Bool, true, false, false≢true}
+use mathlib.Core.Bool.{Bool, true, false, ◌||◌, false≢true}
+use mathlib.Core.Logic.{◌⊎◌, inl, inr}
 use native.Mathlib.Nat.{add-zero}
 use native.Mathlib.Omega.{arith}
-use lib.Dec.{eqb, ltb}
-use lib.ListN.{length, drop, get_or, length-drop, length-map, drop_of_length-le}
+use lib.Dec.{eqb}
+use lib.ListN.{length, drop, length-drop, length-map}
 use lib.Seq.{drop-cons, drop-drop}
-use borrow.Author.Tests.{eq-eqb, ne_eqb, eqb-true, lt-ltb, le-ltb, ltb-true, ltb-false}
-use Rattle.text.specs.definitions.Tokens.{Token}
+use borrow.Author.Tests.{eq-eqb, ne_eqb, eqb-true}
+use Rattle.std.specs.Prelude.{Option, Some, None, Result, Ok, Err, slice_get}
+use Rattle.std.specs.Option.{option_eq}
+use Rattle.std.proofs.lemmas.Option.{none-some}
+use Rattle.text.specs.declared.grammar.Unfit.{Unfit}
+use Rattle.text.specs.definitions.Tokens.{Token, TRUE, FALSE, WHOLE_NUMBER, REAL_NUMBER}
 use Rattle.text.specs.definitions.Readers.{
   Parse,
   read,
@@ -34,7 +39,6 @@ use Rattle.text.specs.inner_contracts.ParseAnswers.{
   Parsed,
   Next,
   Refused,
-  REFUSED,
   parsed_of,
   classes_of,
   parse_answer,
@@ -46,7 +50,13 @@ use Rattle.text.specs.inner_contracts.ParseAnswers.{
   first_class,
   first_passes,
   is_class,
-  refused_at,
+  is_either,
+  is_unsigned,
+  Passes,
+  Repeats,
+  none_begins,
+  item_unfit,
+  item_read,
 }
 use Rattle.text.proofs.laws.ReaderLaws.{expect_takes, expect_refuses, if_next_first, if_next_second, loop_ends, loop_stops, loop_turns}
 use Rattle.text.proofs.laws.LanguageLaws.{sample, classes_sample}
@@ -91,28 +101,20 @@ tokens_left {A} {cs} {r} {p} {q} h = on p (h.told (sample cs) (classes_sample cs
     on (Next at) e = part at (r (drop at (sample cs))) e
     on (Refused at) e = rw e (omega arith)
 
--- one token that is taken, where there is one, leaves fewer
-taken_less : {cs : List ℕ} {q : Parsed} (p : Parsed) → 0 < length (classes_from cs p) → ReadsAs cs any_token p q
-    → length (classes_from cs q) < length (classes_from cs p)
-unfolding answer_from parse_answer classes_from any_token
-taken_less (Refused at) some h = absurd (omega arith)
-taken_less {cs} {q} (Next at) some h =
-    part (drop at (sample cs)) (drop_classes at (sample cs) ∙ ap (drop at) (classes_sample cs)) (h.told (sample cs) (classes_sample cs))
-  where
-    part : (us : List Token) → classes_of us ≡ drop at cs → q ≡ parse_answer at (any_token us) → length (classes_from cs q) < length (drop at cs)
-    part [] i f = absurd (omega (arith, ap length i))
-    part (t ∷ ts) i f = rw f (omega (arith, length-drop at cs, length-drop (at + 1) cs, ap length i))
-
 module _ {A : Type 0} {cs : List ℕ} where
   pub give_answers : (a : A) (p : Parsed) → ReadsAs cs (give a) p p
   unfolding answer_from parse_answer give
   give_answers a (Next at) = record { told = λ ts e. ap Next (sym (add-zero at)) }
   give_answers a (Refused at) = record { told = λ ts e. refl }
 
-  pub halt_answers : {q : Parsed} (p : Parsed) → q ≡ refused_at p → ReadsAs cs (halt {A = A}) p q
-  unfolding answer_from parse_answer halt refused_at
-  halt_answers (Next at) i = record { told = λ ts e. i ∙ ap Refused (sym (add-zero at)) }
-  halt_answers (Refused at) i = record { told = λ ts e. i }
+  pub halt_answers : (at : ℕ) → ReadsAs cs (halt {A = A}) (Next at) (Refused at)
+  unfolding answer_from parse_answer halt
+  halt_answers at = record { told = λ ts e. ap Refused (sym (add-zero at)) }
+
+  -- what was refused stays so, whatever was still to be read
+  pub refused : {r : Parser A} {at : ℕ} → ReadsAs cs r (Refused at) (Refused at)
+  unfolding answer_from
+  refused = record { told = λ ts e. refl }
 
 module _ {A B : Type 0} {cs : List ℕ} {r : Parser A} {p q : Parsed} (h : ReadsAs cs r p q) where
   -- what r answers, and from there on what k answers, whatever tree it is given; after a refusal, one tree serves
@@ -160,16 +162,16 @@ module _ {A : Type 0} {cs : List ℕ} (c : ℕ) {k : Token → Parser A} {p q w 
       same [] = refl
       same (t ∷ ts) = on (eqb t.class c) t ts
 
--- the class c comes next, which the end's 255 is not; or it does not
-comes : (c : ℕ) (us : List Token) → ltb c 255 ≡ true → c ≡ first_class (classes_of us) → next_is c us ≡ true
+-- the class c comes next, or it does not
+comes : (c : ℕ) (us : List Token) → first_class (classes_of us) ≡ Some c → next_is c us ≡ true
 unfolding next_is first_class
-comes c [] l e = absurd (omega (arith, ltb-true c 255 l))
-comes c (t ∷ ts) l e = eq-eqb t.class c (sym e)
+comes c [] e = absurd (none-some c e)
+comes c (t ∷ ts) e = eq-eqb t.class c (cc)
 
-lacks : (c : ℕ) (us : List Token) → (first_class (classes_of us) ≡ c → ⊥) → next_is c us ≡ false
+lacks : (c : ℕ) (us : List Token) → (first_class (classes_of us) ≡ Some c → ⊥) → next_is c us ≡ false
 unfolding next_is first_class
 lacks c [] e = refl
-lacks c (t ∷ ts) e = ne_eqb t.class c e
+lacks c (t ∷ ts) e = ne_eqb t.class c λ f. e (ap Some f)
 
 -- any token is the expected one, where that comes
 comes_any : (c : ℕ) (us : List Token) → next_is c us ≡ true → any_token us ≡ expect c give us
@@ -177,45 +179,95 @@ unfolding any_token give next_is shift
 comes_any c [] i = absurd (false≢true i)
 comes_any c (t ∷ ts) i = sym (expect_takes c give t ts (eqb-true t.class c i))
 
--- there is a token where a class is seen or a test passes
-class_some : (c : ℕ) (cs : List ℕ) → ltb c 255 ≡ true → c ≡ first_class cs → 0 < length cs
-unfolding first_class
-class_some c [] l e = absurd (omega (arith, ltb-true c 255 l))
-class_some c (d ∷ ds) l e = omega arith
+-- the class c is seen at an index, or it is not
+pub record Sees (cs : List ℕ) (at c : ℕ) : Type 0 where
+  pub is : first_class (classes_from cs (Next at)) ≡ Some c
 
-passes_some : (test : ℕ → Bool) (cs : List ℕ) → first_passes test cs ≡ true → 0 < length cs
-unfolding first_passes
-passes_some test [] e = absurd (false≢true e)
-passes_some test (c ∷ cs) e = omega arith
+pub record SeesNot (cs : List ℕ) (at c : ℕ) : Type 0 where
+  pub is : first_class (classes_from cs (Next at)) ≡ Some c → ⊥
 
-module _ {cs : List ℕ} {p : Parsed} {c d : ℕ} (n : d ≡ first_class (classes_from cs p)) where
-  module _ (e : d ≡ c) (l : ltb c 255 ≡ true) where
+module _ {cs : List ℕ} {at : ℕ} where
+  -- by a test for the class
+  pub seen : {c : ℕ} → Passes cs at (is_class c) true → Sees cs at c
+  unfolding first_passes first_class is_class
+  seen {c} h = record { is = go (classes_from cs (Next at)) h.is }
+    where
+      go : (ds : List ℕ) → true ≡ first_passes (is_class c) ds → first_class ds ≡ Some c
+      go [] i = absurd (false≢true (sym i))
+      go (d ∷ ds) i = ap Some (eqb-true d c (sym i))
+
+  -- a class that would pass a test which fails is not seen
+  pub unpassed : {test : ℕ → Bool} → Passes cs at test false → (c : ℕ) → test c ≡ true → SeesNot cs at c
+  unfolding first_passes first_class
+  unpassed {test} h c t = record { is = go (classes_from cs (Next at)) h.is }
+    where
+      go : (ds : List ℕ) → false ≡ first_passes test ds → first_class ds ≡ Some c → ⊥
+      go [] i f = none-some c f
+      go (d ∷ ds) i f = let k : d ≡ c = cc in false≢true (i ∙ ap test k ∙ t)
+
+  pub unseen : {c : ℕ} → Passes cs at (is_class c) false → SeesNot cs at c
+  unfolding is_class
+  unseen {c} h = unpassed h c (eq-eqb c c refl)
+
+  pub seen_other : {c d : ℕ} → Sees cs at c → (c ≡ d → ⊥) → SeesNot cs at d
+  seen_other {c} {d} s n = record { is = λ e. let k : Some c ≡ Some d = sym s.is ∙ e in n cc }
+
+  module _ {c : ℕ} (s : Sees cs at c) where
+    -- there is a token
+    pub seen_below : at < length cs
+    unfolding classes_from first_class
+    seen_below = go (drop at cs) refl s.is
+      where
+        go : (ds : List ℕ) → drop at cs ≡ ds → first_class ds ≡ Some c → at < length cs
+        go [] e i = absurd (none-some c i)
+        go (d ∷ ds) e i = omega (arith, length-drop at cs, ap length e)
+
+    pub seen_taken : ReadsAs cs any_token (Next at) (Next (at + 1))
+    unfolding answer_from parse_answer any_token
+    seen_taken = record {
+      told = λ ts e. let first = drop-cons ts at some_token (omega (arith, seen_below, same_length cs ts e)) in rw first;
+    }
+
     -- the token that was looked at is the expected one
-    pub seen_answers : {q : Parsed} → ReadsAs cs any_token p q → ReadsAs cs (expect c give) p q
-    seen_answers h = instead p (λ us i. comes_any c us (comes c us l (sym e ∙ n ∙ sym (ap first_class i)))) h
+    pub seen_answers : ReadsAs cs (expect c give) (Next at) (Next (at + 1))
+    seen_answers = instead (Next at) (λ us i. comes_any c us (comes c us (ap first_class i ∙ s.is))) seen_taken
 
-    pub seen_less : {q : Parsed} → ReadsAs cs any_token p q → length (classes_from cs q) < length (classes_from cs p)
-    seen_less h = taken_less p (class_some c (classes_from cs p) l (sym e ∙ n)) h
+    pub seen_less : length (classes_from cs (Next (at + 1))) < length (classes_from cs (Next at))
+    unfolding classes_from
+    seen_less = omega (arith, seen_below, length-drop at cs, length-drop (at + 1) cs)
 
-    pub if_next_answers : {A : Type 0} {r : Parser A} (s : Parser A) {q : Parsed} → ReadsAs cs r p q → ReadsAs cs (if_next c r s) p q
-    if_next_answers {r = r} s h = instead p (λ us i. sym (if_next_first c r s us (comes c us l (sym e ∙ n ∙ sym (ap first_class i))))) h
+    pub if_next_answers : {A : Type 0} {r : Parser A} (o : Parser A) {q : Parsed} → ReadsAs cs r (Next at) q → ReadsAs cs (if_next c r o) (Next at) q
+    if_next_answers {r = r} o h = instead (Next at) (λ us i. sym (if_next_first c r o us (comes c us (ap first_class i ∙ s.is)))) h
 
     -- the two together
-    pub chosen_answers : {A : Type 0} {k : Token → Parser A} (s : Parser A) {q w : Parsed} → ReadsAs cs any_token p q → ((t : Token) → ReadsAs cs (k t) q w)
-        → ReadsAs cs (if_next c (expect c k) s) p w
-    chosen_answers s h f = if_next_answers s (expect_answers c (seen_answers h) f)
+    pub chosen_answers : {A : Type 0} {k : Token → Parser A} (o : Parser A) {w : Parsed} → ((t : Token) → ReadsAs cs (k t) (Next (at + 1)) w)
+        → ReadsAs cs (if_next c (expect c k) o) (Next at) w
+    chosen_answers o f = if_next_answers o (expect_answers c seen_answers f)
 
-  pub if_not_answers : {A : Type 0} (r : Parser A) {s : Parser A} {q : Parsed} → (d ≡ c → ⊥) → ReadsAs cs s p q → ReadsAs cs (if_next c r s) p q
-  if_not_answers r {s} e h = instead p (λ us i. sym (if_next_second c r s us (lacks c us (λ f. e (n ∙ sym (ap first_class i) ∙ f))))) h
+  module _ {c : ℕ} (s : SeesNot cs at c) where
+    pub if_not_answers : {A : Type 0} (r : Parser A) {o : Parser A} {q : Parsed} → ReadsAs cs o (Next at) q → ReadsAs cs (if_next c r o) (Next at) q
+    if_not_answers r {o} h = instead (Next at) (λ us i. sym (if_next_second c r o us (lacks c us (λ f. s.is (sym (ap first_class i) ∙ f))))) h
 
-  -- another class is seen than the expected one
-  pub unfit_answers : {A : Type 0} (k : Token → Parser A) {q : Parsed} → (d ≡ c → ⊥) → q ≡ refused_at p → ReadsAs cs (expect c k) p q
-  unfolding halt next_is expect
-  unfit_answers k e h = instead p (λ us i. same us (lacks c us (λ f. e (n ∙ sym (ap first_class i) ∙ f)))) (halt_answers p h)
-    where
-      same : (us : List Token) → next_is c us ≡ false → halt us ≡ expect c k us
-      same [] i = refl
-      same (t ∷ ts) i = sym (expect_refuses c k t ts i)
+    -- another class is seen than the expected one, or none
+    pub unfit_answers : {A : Type 0} (k : Token → Parser A) → ReadsAs cs (expect c k) (Next at) (Refused at)
+    unfolding halt next_is expect
+    unfit_answers k = instead (Next at) (λ us i. same us (lacks c us (λ f. s.is (sym (ap first_class i) ∙ f)))) (halt_answers at)
+      where
+        same : (us : List Token) → next_is c us ≡ false → halt us ≡ expect c k us
+        same [] i = refl
+        same (t ∷ ts) i = sym (expect_refuses c k t ts i)
+
+-- there is a token where a test passes
+pub passes_seen : {cs : List ℕ} {at : ℕ} {test : ℕ → Bool} → Passes cs at test true → (c : ℕ) × Sees cs at c × (test c ≡ true)
+unfolding first_passes first_class
+passes_seen {cs} {at} {test} h = go (classes_from cs (Next at)) refl h.is
+  where
+    go : (ds : List ℕ) → classes_from cs (Next at) ≡ ds → true ≡ first_passes test ds → (c : ℕ) × Sees cs at c × (test c ≡ true)
+    go [] e i = absurd (false≢true (sym i))
+    go (d ∷ ds) e i = (d, record { is = rw e }, sym i)
+
+pub passes_below : {cs : List ℕ} {at : ℕ} {test : ℕ → Bool} → Passes cs at test true → at < length cs
+passes_below h = seen_below (passes_seen h).1
 
 -- a loop after some turns: who answers the rest answers the loop; and, given a tree, there are no more tokens left than before them
 pub record Going {A : Type 0} (cs : List ℕ) (test : ℕ → Bool) (step : A → Token → Parser A) (p q : Parsed) : Type 0 where
@@ -226,21 +278,21 @@ module _ {A : Type 0} {cs : List ℕ} {test : ℕ → Bool} {step : A → Token 
   pub begins : Going cs test step p p
   begins = record { finish = λ r f. f; no_more = λ a. omega arith }
 
-  module _ {q : Parsed} (g : Going cs test step p q) {b : Bool} (n : b ≡ first_passes test (classes_from cs q)) where
-    pub stops : b ≡ false → (a : A) → ReadsAs cs (loop test step a 0) p q
+  module _ {at : ℕ} (g : Going cs test step p (Next at)) where
+    pub stops : Passes cs at test false → (a : A) → ReadsAs cs (loop test step a 0) p (Next at)
     unfolding give first_passes
-    stops e = g.finish q λ a. instead q (λ us i. same a us (ap (first_passes test) i ∙ sym n ∙ e)) (give_answers a q)
+    stops n = g.finish (Next at) λ a. instead (Next at) (λ us i. same a us (ap (first_passes test) i ∙ sym n.is)) (give_answers a (Next at))
       where
         same : (a : A) (us : List Token) → first_passes test (classes_of us) ≡ false → give a us ≡ loop test step a 0 us
         same a [] i = sym (loop_ends test step a)
         same a (t ∷ ts) i = sym (loop_stops test step a t ts i)
 
-    pub goes_on : b ≡ true → {u v : Parsed} → ReadsAs cs any_token q u → ((a : A) (t : Token) → ReadsAs cs (step a t) u v) → Going cs test step p v
+    pub goes_on : Passes cs at test true → {v : Parsed} → ((a : A) (t : Token) → ReadsAs cs (step a t) (Next (at + 1)) v) → Going cs test step p v
     unfolding any_token first_passes and_then continued
-    goes_on e h s = record {
-      finish = λ r f. g.finish r λ a. instead q (λ us i. same a us (ap (first_passes test) i ∙ sym n ∙ e))
-          (and_then_answers h some_token λ t. and_then_answers (s a t) a f);
-      no_more = λ a. omega (arith, g.no_more a, tokens_left h, tokens_left (s a some_token));
+    goes_on n s = record {
+      finish = λ r f. g.finish r λ a. instead (Next at) (λ us i. same a us (ap (first_passes test) i ∙ sym n.is))
+          (and_then_answers (seen_taken (passes_seen n).1) some_token λ t. and_then_answers (s a t) a f);
+      no_more = λ a. omega (arith, g.no_more a, seen_less (passes_seen n).1, tokens_left (s a some_token));
     }
       where
         same : (a : A) (us : List Token) → first_passes test (classes_of us) ≡ true
@@ -271,69 +323,105 @@ module _ {A : Type 0} {cs : List ℕ} {p q : Parsed} where
   many_answers c item f = f []
 
 -- where a chain's loop takes a token, no more are left than the chain found
-pub chain_left : {A B : Type 0} {cs : List ℕ} {test : ℕ → Bool} {step : A → Token → Parser A} {r : Parser B} {p q u v : Parsed} → A
-    → ReadsAs cs r p q → Going cs test step q u → ReadsAs cs any_token u v → length (classes_from cs v) ≤ length (classes_from cs p)
-chain_left one h g s = omega (arith, tokens_left h, g.no_more one, tokens_left s)
+pub chain_left : {A B : Type 0} {cs : List ℕ} {test : ℕ → Bool} {step : A → Token → Parser A} {r : Parser B} {p q : Parsed} {at : ℕ} → A
+    → ReadsAs cs r p q → Going cs test step q (Next at) → Passes cs at test true → length (classes_from cs (Next (at + 1))) ≤ length (classes_from cs p)
+chain_left one h g n = omega (arith, tokens_left h, g.no_more one, seen_less (passes_seen n).1)
 
 -- a turn of a loop leaves fewer tokens
-pub turn_less : {A : Type 0} {cs : List ℕ} {r : Parser A} {u v : Parsed} (test : ℕ → Bool) (q : Parsed) {b : Bool}
-    → b ≡ first_passes test (classes_from cs q) → b ≡ true → ReadsAs cs any_token q u → ReadsAs cs r u v
-    → length (classes_from cs v) < length (classes_from cs q)
-turn_less {cs = cs} test q n e h s = omega (arith, taken_less q (passes_some test (classes_from cs q) (sym n ∙ e)) h, tokens_left s)
+pub turn_less : {A : Type 0} {cs : List ℕ} {r : Parser A} {v : Parsed} {test : ℕ → Bool} {at : ℕ} → Passes cs at test true → ReadsAs cs r (Next (at + 1)) v
+    → length (classes_from cs v) < length (classes_from cs (Next at))
+turn_less n s = omega (arith, seen_less (passes_seen n).1, tokens_left s)
 
--- what a position stands for: below REFUSED, from there on, and with REFUSED added to it
-pub parsed_next : (n : ℕ) → n < REFUSED → parsed_of n ≡ Next n
-unfolding parsed_of
-parsed_next n l = rw (lt-ltb n REFUSED l, parsed_of)
+-- a reading goes onward
+pub reads_onward : {A : Type 0} {cs : List ℕ} {r : Parser A} {at next : ℕ} → ReadsAs cs r (Next at) (Next next) → at ≤ next
+unfolding answer_from parse_answer
+reads_onward {A} {cs} {r} {at} {next} h = go (r (drop at (sample cs))) (h.told (sample cs) (classes_sample cs))
+  where
+    go : (x : Parse A) → Next next ≡ parse_answer at x → at ≤ next
+    go (read a n) i = let k : next ≡ at + n = cc in omega arith
+    go (unfit_after n) i = let z : ◌≡◌ {A = ℕ} 0 1 = cc in absurd (omega arith)
 
-pub parsed_refused : (n : ℕ) → REFUSED ≤ n → parsed_of n ≡ Refused (n - REFUSED)
-unfolding parsed_of
-parsed_refused n l = rw (le-ltb n REFUSED l, parsed_of)
+-- items that a loop reads one after another are those of `many`
+pub repeats_many : {A : Type 0} {cs : List ℕ} {first : ℕ} {item : ℕ → Result ℕ Unfit → Type 0} (reader : Token → Parser A) {at : ℕ} {r : Result ℕ Unfit}
+    → Repeats cs first item at r → ((at next : ℕ) → item at (Ok next) → (t : Token) → ReadsAs cs (reader t) (Next at) (Next next))
+    → ((at : ℕ) (u : Unfit) → item at (Err u) → (t : Token) → ReadsAs cs (reader t) (Next at) (Refused u.at)) → ReadsFrom cs (many first reader) at r
+repeats_many {A} {cs} {first} {item} reader h ok err = many_answers first reader (go begins h)
+  where
+    go : {p : Parsed} {at : ℕ} {r : Result ℕ Unfit} → Going cs (is_class first) (added reader) p (Next at) → Repeats cs first item at r
+        → (a : List A) → ReadsAs cs (loop (is_class first) (added reader) a 0) p (parsed_of r)
+    go g (none_begins n) = stops g n
+    go g (item_unfit {at} {u} n i) = (goes_on g n (added_answers (err (at + 1) u i))).finish _ (λ a. refused)
+    go g (item_read {at} {next} n i h) = go (goes_on g n (added_answers (ok (at + 1) next i))) h
 
-pub parsed_added : (n : ℕ) → parsed_of (n + REFUSED) ≡ Refused n
-parsed_added n = let k : n + REFUSED - REFUSED ≡ n = omega arith in parsed_refused (n + REFUSED) (omega arith) ∙ ap Refused k
+-- ---- the tests of the next token
 
--- what the functions that look at one token answer: behind the last token, and at a token of fewer than REFUSED
-module _ (cs : List ℕ) (from : ℕ) where
-  pub none_left : length cs ≤ from → classes_from cs (parsed_of from) ≡ []
-  unfolding classes_from
-  none_left l = by (ltb from REFUSED) refl
+-- for one class, by what the slice has there
+pub class_passes : (cs : List ℕ) (at c : ℕ) {b : Bool} → b ≡ option_eq eqb (slice_get cs at) (Some c) → Passes cs at (is_class c) b
+unfolding classes_from first_passes is_class
+class_passes cs at c e = record { is = e ∙ go at cs }
+  where
+    go : (i : ℕ) (ds : List ℕ) → option_eq eqb (slice_get ds i) (Some c) ≡ first_passes (is_class c) (drop i ds)
+    go zero [] = refl
+    go zero (d ∷ ds) = refl
+    go (suc i) [] = refl
+    go (suc i) (d ∷ ds) = go i ds
+
+-- for any of two tests
+module _ {cs : List ℕ} {at : ℕ} {f k : ℕ → Bool} where
+  pub first_of_two : ((c : ℕ) → f c ≡ true → k c ≡ true) → Passes cs at f true → Passes cs at k true
+  unfolding first_passes
+  first_of_two h n = record { is = go (classes_from cs (Next at)) n.is }
     where
-      by : (b : Bool) → ltb from REFUSED ≡ b → classes_from cs (parsed_of from) ≡ []
-      by true e = rw (parsed_next from (ltb-true from REFUSED e)) (drop_of_length-le cs l)
-      by false e = rw (parsed_refused from (ltb-false from REFUSED e))
+      go : (ds : List ℕ) → true ≡ first_passes f ds → true ≡ first_passes k ds
+      go [] i = i
+      go (d ∷ ds) i = sym (h d (sym i))
 
-  pub none_answers : {A : Type 0} (r : Parser A) → r [] ≡ unfit_after 0 → length cs ≤ from → {q : Parsed} → q ≡ refused_at (parsed_of from)
-      → ReadsAs cs r (parsed_of from) q
-  unfolding halt
-  none_answers r e l h = instead (parsed_of from) (λ us i. on us (i ∙ none_left l)) (halt_answers (parsed_of from) h)
+  pub second_of_two : {g : ℕ → Bool} {b : Bool} → ((c : ℕ) → f c ≡ false → k c ≡ g c) → Passes cs at f false → Passes cs at g b → Passes cs at k b
+  unfolding first_passes
+  second_of_two {g} {b} h n m = record { is = go (classes_from cs (Next at)) n.is m.is }
     where
-      on : (us : List Token) → classes_of us ≡ [] → halt us ≡ r us
-      on [] i = sym e
-      on (t ∷ ts) i = absurd (cons≢nil i)
+      go : (ds : List ℕ) → false ≡ first_passes f ds → b ≡ first_passes g ds → b ≡ first_passes k ds
+      go [] i j = j
+      go (d ∷ ds) i j = j ∙ sym (h d (sym i))
 
-  module _ (few : length cs < REFUSED) (l : from < length cs) where
-    pub some_left : classes_from cs (parsed_of from) ≡ get_or cs from 0 ∷ drop (suc from) cs
-    unfolding classes_from
-    some_left = rw (parsed_next from (omega arith)) (drop-cons cs from 0 l)
+module _ (c d e : ℕ) where
+  pub either_first : is_class c e ≡ true → is_either c d e ≡ true
+  unfolding is_class is_either
+  either_first h = rw h
 
-    pub any_token_answers : ReadsFrom cs any_token from (from + 1)
-    unfolding answer_from parse_answer any_token
-    any_token_answers = record {
-      told = λ ts e.
-          let first = drop-cons ts from some_token (omega (arith, same_length cs ts e)) in
-          rw (parsed_next (from + 1) (omega arith), parsed_next from (omega arith), first);
-    }
+  pub either_second : is_class c e ≡ false → is_either c d e ≡ is_class d e
+  unfolding is_class is_either
+  either_second h = rw h
 
-    -- the class of the token that comes next
-    pub class_there : get_or cs from 0 ≡ first_class (classes_from cs (parsed_of from))
-    unfolding first_class
-    class_there = ap first_class (sym some_left)
+pub unsigned_first : (c : ℕ) → is_either TRUE FALSE c ≡ true → is_unsigned c ≡ true
+unfolding is_either is_unsigned
+unsigned_first c h = rw h
 
-    pub token_answers : {c : ℕ} → get_or cs from 0 ≡ c → ReadsFrom cs (expect c give) from (from + 1)
-    unfolding next_is
-    token_answers {c} h = instead (parsed_of from) (λ us i. comes_any c us (on us (i ∙ some_left))) any_token_answers
+pub unsigned_second : (c : ℕ) → is_either TRUE FALSE c ≡ false → is_unsigned c ≡ is_either WHOLE_NUMBER REAL_NUMBER c
+unfolding is_either is_unsigned
+unsigned_second c h = rw h
+
+pub either_seen : {cs : List ℕ} {at c d : ℕ} → Passes cs at (is_either c d) true → Sees cs at c ⊎ Sees cs at d
+unfolding is_either
+either_seen {cs} {at} {c} {d} n = by (passes_seen n).0 (passes_seen n).1 (passes_seen n).2
+  where
+    by : (e : ℕ) → Sees cs at e → is_either c d e ≡ true → Sees cs at c ⊎ Sees cs at d
+    by e s t = go (eqb e c) refl
       where
-        on : (us : List Token) → classes_of us ≡ get_or cs from 0 ∷ drop (suc from) cs → next_is c us ≡ true
-        on [] i = absurd (cons≢nil (sym i))
-        on (t ∷ ts) i = eq-eqb t.class c (cc)
+        go : (b : Bool) → eqb e c ≡ b → Sees cs at c ⊎ Sees cs at d
+        go true k = inl (rw (eqb-true e c k) at s)
+        go false k = inr (rw (eqb-true e d (rw k at t)) at s)
+
+-- the expected token leaves fewer
+pub expect_less : {cs : List ℕ} (c : ℕ) {at next : ℕ} → ReadsAs cs (expect c give) (Next at) (Next next)
+    → length (classes_from cs (Next next)) < length (classes_from cs (Next at))
+unfolding answer_from parse_answer classes_from expect expected give shift
+expect_less {cs} c {at} {next} h = go (drop at (sample cs)) (drop_classes at (sample cs) ∙ ap (drop at) (classes_sample cs)) (h.told (sample cs) (classes_sample cs))
+  where
+    go : (us : List Token) → classes_of us ≡ drop at cs → Next next ≡ parse_answer at (expect c give us) → length (drop next cs) < length (drop at cs)
+    go [] i e = let z : ◌≡◌ {A = ℕ} 0 1 = cc in absurd (omega arith)
+    go (t ∷ ts) i e = by (eqb t.class c) e
+      where
+        by : (b : Bool) → Next next ≡ parse_answer at (expected b (give t) ts) → length (drop next cs) < length (drop at cs)
+        by true f = let k : next ≡ at + 1 = cc in omega (arith, length-drop at cs, length-drop next cs, ap length i)
+        by false f = let z : ◌≡◌ {A = ℕ} 0 1 = cc in absurd (omega arith)

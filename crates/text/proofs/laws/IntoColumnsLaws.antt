@@ -6,10 +6,11 @@ use Prim.Native.Nat.{ℕ, ◌<◌, ◌≤◌}
 use lib.Dec.{ltb}
 use lib.ListN.{length}
 use borrow.Author.Tests.{lt-ltb, le-ltb, ltb-true, ltb-false}
-use Rattle.text.specs.declared.Lexed.{Lexed}
-use Rattle.text.specs.declared.Lexed.TheVariants.{Count, TooLong, BadAt, NoRoom}
+use Rattle.std.specs.Prelude.{Result, Ok, Err}
+use Rattle.text.specs.declared.SyntaxError.{SyntaxError}
+use Rattle.text.specs.declared.SyntaxError.TheVariants.{TooLong, NoTokenAt, UnfitAt, NoRoom}
 use Rattle.text.specs.definitions.Tokens.{tokens, no_token_at, tokens_of}
-use Rattle.text.specs.inner_contracts.EnumAnswers.{lexed_answer}
+use Rattle.text.specs.inner_contracts.EnumAnswers.{syntax_answer}
 use Rattle.text.specs.inner_contracts.TokenTable.{
   TokenColumns,
   rows,
@@ -21,6 +22,7 @@ use Rattle.text.specs.inner_contracts.TokenTable.{
   into_columns,
   columns_answer,
   told,
+  Inside,
   Lexes,
 }
 
@@ -94,41 +96,42 @@ into_columns_says text t = go (ltb 32768 (length text)) refl (lacks_rows (length
 -- ---- what each answer of `lex` tells
 
 module _ (text : List ℕ) (t u : TokenColumns) where
-  pub count_says : (n : ℕ) → Lexes text t u (Count n) → (length text ≤ 32768) × (tokens_of text ≡ tokens (rows n u text))
+  pub count_says : (n : ℕ) → Lexes text t u (Ok n) → (length text ≤ 32768) × (tokens_of text ≡ tokens (rows n u text))
   unfolding told
   count_says n l = rw (← l.says) at (into_columns_says text t)
 
-  pub bad_says : (p : ℕ) → Lexes text t u (BadAt p) → (length text ≤ 32768) × (tokens_of text ≡ no_token_at p)
+  pub bad_says : (p : ℕ) → Lexes text t u (Err (NoTokenAt p)) → (length text ≤ 32768) × (tokens_of text ≡ no_token_at p)
   unfolding told
   bad_says p l = rw (← l.says) at (into_columns_says text t)
 
-  pub too_long_says : Lexes text t u TooLong → 32768 < length text
+  pub too_long_says : Lexes text t u (Err TooLong) → 32768 < length text
   unfolding told
   too_long_says l = rw (← l.says) at (into_columns_says text t)
 
-  pub no_room_says : Lexes text t u NoRoom → (length text ≤ 32768) × (lacks_rows (length text) t ≡ true)
+  pub no_room_says : Lexes text t u (Err NoRoom) → (length text ≤ 32768) × (lacks_rows (length text) t ≡ true)
   unfolding told
   no_room_says l = rw (← l.says) at (into_columns_says text t)
 
 -- ---- an answer as document 01's number
 
-pub lexed_as : (x : Lexed) (text : List ℕ) (t u : TokenColumns) → told x u text ≡ into_columns text t
-    → lexed_answer x ≡ columns_answer (λ ts. 0) (into_columns text t)
-unfolding lexed_answer columns_answer told
-lexed_as x text t u e = of_answer x ∙ ap (columns_answer (λ ts. 0)) e
+pub lexed_as : (x : Result ℕ SyntaxError) (text : List ℕ) (t u : TokenColumns) → Inside x u text → told x u text ≡ into_columns text t
+    → syntax_answer x ≡ columns_answer (λ ts. 0) (into_columns text t)
+unfolding syntax_answer columns_answer told
+lexed_as x text t u h e = of_answer x h ∙ ap (columns_answer (λ ts. 0)) e
   where
-    of_answer : (y : Lexed) → lexed_answer y ≡ columns_answer (λ ts. 0) (told y u text)
-    of_answer (Count n) = refl
-    of_answer TooLong = refl
-    of_answer (BadAt p) = refl
-    of_answer NoRoom = refl
+    of_answer : (y : Result ℕ SyntaxError) → Inside y u text → syntax_answer y ≡ columns_answer (λ ts. 0) (told y u text)
+    of_answer (Ok n) h = refl
+    of_answer (Err TooLong) h = refl
+    of_answer (Err (NoTokenAt p)) h = refl
+    of_answer (Err (UnfitAt p)) h = absurd h
+    of_answer (Err NoRoom) h = refl
 
 -- ---- the answers before the loop
 
-pub too_long_lexes : (text : List ℕ) (t : TokenColumns) → 32768 < length text → Lexes text t t TooLong
+pub too_long_lexes : (text : List ℕ) (t : TokenColumns) → 32768 < length text → Lexes text t t (Err TooLong)
 unfolding told
 too_long_lexes text t h = record {
-  answer = lexed_as TooLong text t t (sym (into_columns_long text t h));
+  answer = lexed_as (Err TooLong) text t t tt (sym (into_columns_long text t h));
   says = sym (into_columns_long text t h);
   inside = tt;
   classes_kept = refl;
@@ -137,10 +140,10 @@ too_long_lexes text t h = record {
   values_kept = refl;
 }
 
-pub no_room_lexes : (text : List ℕ) (t : TokenColumns) → length text ≤ 32768 → lacks_rows (length text) t ≡ true → Lexes text t t NoRoom
+pub no_room_lexes : (text : List ℕ) (t : TokenColumns) → length text ≤ 32768 → lacks_rows (length text) t ≡ true → Lexes text t t (Err NoRoom)
 unfolding told
 no_room_lexes text t h e = record {
-  answer = lexed_as NoRoom text t t (sym (into_columns_short text t h e));
+  answer = lexed_as (Err NoRoom) text t t tt (sym (into_columns_short text t h e));
   says = sym (into_columns_short text t h e);
   inside = tt;
   classes_kept = refl;

@@ -2,23 +2,20 @@
 use mathlib.Core.Path.{◌≡◌, refl, sym, ap, ◌∙◌, subst}
 use mathlib.Core.List.{List}
 use mathlib.Core.Bool.{Bool, true, false, true≢false}
-use Prim.Native.Nat.{ℕ, ◌-◌, ◌<◌, ◌≤◌}
+use Prim.Native.Nat.{ℕ, ◌<◌, ◌≤◌}
 use native.Mathlib.Omega.{arith}
 use lib.Dec.{ltb}
-use lib.ListN.{length, get_or, drop}
+use lib.ListN.{length, get_or, take, drop}
 use borrow.Author.Tests.{ltb-true, ltb-false}
-use Rattle.text.specs.declared.Lexed.{Lexed}
-use Rattle.text.specs.declared.Lexed.TheVariants.{Count, TooLong as Long, BadAt, NoRoom as Short}
-use Rattle.text.specs.declared.grammar.Parsing.{Parsing}
-use Rattle.text.specs.declared.grammar.Parsing.TheVariants.{Grammatical, UngrammaticalAt}
-use Rattle.text.specs.declared.reading.Syntax.{Syntax}
-use Rattle.text.specs.declared.reading.Syntax.TheVariants.{File, TooLong, NoTokenAt, UnfitAt, NoRoom}
+use Rattle.std.specs.Prelude.{Result, Ok, Err}
+use Rattle.text.specs.declared.SyntaxError.{SyntaxError}
+use Rattle.text.specs.declared.SyntaxError.TheVariants.{TooLong, NoTokenAt, UnfitAt, NoRoom}
+use Rattle.text.specs.declared.grammar.Unfit.{Unfit}
 use Rattle.text.specs.definitions.Tokens.{Lexing}
 use Rattle.text.specs.inner_contracts.EnumAnswers.{syntax_answer}
 use Rattle.text.specs.inner_contracts.TokenTable.{
   TokenColumns,
   columns_of,
-  part,
   row_token,
   rows,
   lacks_rows,
@@ -31,7 +28,7 @@ use Rattle.text.specs.inner_contracts.TokenTable.{
 use Rattle.text.specs.definitions.Readers.{read}
 use Rattle.text.specs.definitions.Parse.{ungrammatical_at, offset_of, parse}
 use Rattle.text.specs.inner_contracts.ParseAnswers.{classes_of, outcome_answer, ParsesAs}
-use Rattle.text.specs.inner_contracts.Syntaxes.{text_answer, Says, ReadsText, HasRows, Settles}
+use Rattle.text.specs.inner_contracts.Syntaxes.{text_answer, Says, ReadsText, Settles}
 use Rattle.text.proofs.laws.RowLaws.{length_rows, drop_rows, drop_rows_past, rows_class}
 use Rattle.text.proofs.laws.IntoColumnsLaws.{
   lacks_classes,
@@ -87,24 +84,17 @@ lexing_room text t y h e = go (lacks_rows (length text) t) refl
     go true f = let g = into_columns_short text t h f in let z : ◌≡◌ {A = ℕ} 0 1 = cc in absurd (omega arith)
     go false f = f
 
-module _ {text : List ℕ} {t u : TokenColumns} where
-  pub count_room : (n : ℕ) → Lexes text t u (Count n) → HasRoom (length text) u
-  unfolding told
-  count_room n l =
-      let r = has_room (length text) t (lexing_room text t _ (count_says text t u n l).0 (sym l.says)) in
-      room_kept r l.classes_kept l.offsets_kept l.lengths_kept l.values_kept
-
-  pub lexed_rows : (x : Lexed) → Lexes text t u x → HasRows x u.classes u.offsets
-  lexed_rows (Count n) l = let r = count_room n l in (omega (arith, l.inside.0, r.classes), omega (arith, l.inside.0, r.offsets))
-  lexed_rows Long l = tt
-  lexed_rows (BadAt p) l = tt
-  lexed_rows Short l = tt
+pub count_room : {text : List ℕ} {t u : TokenColumns} (n : ℕ) → Lexes text t u (Ok n) → HasRoom (length text) u
+unfolding told
+count_room {text} {t} {u} n l =
+    let r = has_room (length text) t (lexing_room text t _ (count_says text t u n l).0 (sym l.says)) in
+    room_kept r l.classes_kept l.offsets_kept l.lengths_kept l.values_kept
 
 -- ---- the answers
 
 -- what the answer of lexing leads to, and what it says
-module _ {text : List ℕ} {t u : TokenColumns} {x : Lexed} (l : Lexes text t u x) where
-  reads : (s : Syntax) → columns_answer (λ ts. outcome_answer (parse (length text) ts)) (told x u text) ≡ syntax_answer s → Says text t u s
+module _ {text : List ℕ} {t u : TokenColumns} {x : Result ℕ SyntaxError} (l : Lexes text t u x) where
+  reads : (s : Result ℕ SyntaxError) → columns_answer (λ ts. outcome_answer (parse (length text) ts)) (told x u text) ≡ syntax_answer s → Says text t u s
       → ReadsText text t u s
   unfolding text_answer
   reads s e h = record {
@@ -116,41 +106,29 @@ module _ {text : List ℕ} {t u : TokenColumns} {x : Lexed} (l : Lexes text t u 
     values_kept = l.values_kept;
   }
 
-rows_of : (text : List ℕ) (u : TokenColumns) (n : ℕ) (cs : List ℕ) → n ≤ length cs → u.classes ≡ cs → classes_of (rows n u text) ≡ part 0 n cs
-rows_of text u n cs h c = let k : n - 0 ≡ n = omega arith in rw (k, ← c) (rows_class n u text (rw c h))
+-- a text that the lexer refuses is refused so
+pub lexed_refused : {text : List ℕ} {t u : TokenColumns} (e : SyntaxError) → Lexes text t u (Err e) → ReadsText text t u (Err e)
+unfolding told columns_answer syntax_answer
+lexed_refused {text} {t} {u} TooLong l = reads l (Err TooLong) refl (too_long_says text t u l)
+lexed_refused {text} {t} {u} (NoTokenAt p) l =
+    let h = bad_says text t u p l in
+    reads l (Err (NoTokenAt p)) refl (record { allowed = h.0; lexed = h.1; within = refused_within text p h.1 })
+lexed_refused (UnfitAt p) l = absurd l.inside
+lexed_refused {text} {t} {u} NoRoom l = reads l (Err NoRoom) refl (no_room_says text t u l)
 
-pub count_rows : (x : Lexed) (n : ℕ) (cs os : List ℕ) → x ≡ Count n → HasRows x cs os → (n ≤ length cs) × (n ≤ length os)
-count_rows x n cs os e h = subst (λ y. HasRows y cs os) e h
+rows_of : (text : List ℕ) (u : TokenColumns) (n : ℕ) (cs : List ℕ) → n ≤ length cs → u.classes ≡ cs → classes_of (rows n u text) ≡ take n cs
+rows_of text u n cs h c = rw (← c) (rows_class n u text (rw c h))
 
-module _ {end : ℕ} {cs os : List ℕ} {x : Lexed} where
-  -- an answer that holds of every text and of all columns with these classes and offsets
-  settles : {s : Syntax} (y : Lexed) → x ≡ y
-      → ((text : List ℕ) (u t : TokenColumns) → length text ≡ end → u.classes ≡ cs → u.offsets ≡ os → Lexes text t u y → ReadsText text t u s)
-      → Settles end cs os x s
-  settles y e h = record { told = λ text ls vs t f l. h text (columns_of cs os ls vs) t f refl refl (subst (Lexes text t (columns_of cs os ls vs)) e l) }
-
-  pub settles_long : x ≡ Long → Settles end cs os x TooLong
-  unfolding told columns_answer syntax_answer
-  settles_long e = settles Long e λ text u t f c o l. reads l TooLong refl (too_long_says text t u l)
-
-  pub settles_short : x ≡ Short → Settles end cs os x NoRoom
-  unfolding told columns_answer syntax_answer
-  settles_short e = settles Short e λ text u t f c o l. reads l NoRoom refl (no_room_says text t u l)
-
-  pub settles_bad : {p : ℕ} → x ≡ BadAt p → Settles end cs os x (NoTokenAt p)
-  unfolding told columns_answer syntax_answer
-  settles_bad {p} e = settles (BadAt p) e λ text u t f c o l.
-      let h = bad_says text t u p l in
-      reads l (NoTokenAt p) refl (record { allowed = h.0; lexed = h.1; within = refused_within text p h.1 })
-
-  module _ {n : ℕ} (e : x ≡ Count n) (h : HasRows x cs os) {a : Parsing} (parsed : ParsesAs (part 0 n cs) a) where
-    pub settles_file : a ≡ Grammatical → Settles end cs os x (File n)
-    unfolding told columns_answer outcome_answer syntax_answer
-    settles_file g = settles (Count n) e λ text u t f c o l.
+module _ {n end : ℕ} {cs os : List ℕ} (h : n ≤ length cs) {a : Result (Unit {0}) Unfit} (parsed : ParsesAs (take n cs) a) where
+  pub settles_file : a ≡ Ok tt → Settles n end cs os (Ok n)
+  unfolding told columns_answer outcome_answer syntax_answer
+  settles_file g = record {
+    told = λ text ls vs t f l.
+        let u = columns_of cs os ls vs in
         let s = count_says text t u n l in
-        let m = file_made parsed (rows n u text) (rows_of text u n cs (count_rows x n cs os e h).0 c) g in
+        let m = file_made parsed (rows n u text) (rows_of text u n cs h refl) g in
         let k = length_rows n u text in
-        reads l (File n) (rw (m.parses (length text))) (record {
+        reads l (Ok n) (rw (m.parses (length text))) (record {
           allowed = s.0;
           lexed = s.1;
           count = k;
@@ -159,54 +137,58 @@ module _ {end : ℕ} {cs os : List ℕ} {x : Lexed} where
           parses = m.parses (length text);
           within = l.inside.0;
           inside = l.inside.1;
-        })
+        });
+  }
 
-    -- an offset that is refused is that of the first unfit token, or the text's length
-    unfit : {i p : ℕ} → a ≡ UngrammaticalAt i
-        → ((text : List ℕ) (u t : TokenColumns) → length text ≡ end → u.offsets ≡ os → Lexes text t u (Count n)
-        → (offset_of (length text) (drop i (rows n u text)) ≡ p) × (p ≤ length text))
-        → Settles end cs os x (UnfitAt p)
-    unfolding told columns_answer outcome_answer syntax_answer
-    unfit {i} {p} g k = settles (Count n) e λ text u t f c o l.
+  -- an offset that is refused is that of the first unfit token, or the text's length
+  unfit : {i : Unfit} {p : ℕ} → a ≡ Err i
+      → ((text ls vs : List ℕ) (t : TokenColumns) → length text ≡ end → Lexes text t (columns_of cs os ls vs) (Ok n)
+      → (offset_of (length text) (drop i.at (rows n (columns_of cs os ls vs) text)) ≡ p) × (p ≤ length text))
+      → Settles n end cs os (Err (UnfitAt p))
+  unfolding told columns_answer outcome_answer syntax_answer
+  unfit {i} {p} g k = record {
+    told = λ text ls vs t f l.
+        let u = columns_of cs os ls vs in
         let s = count_says text t u n l in
-        let q = k text u t f o l in
-        let m = (token_unfit parsed (rows n u text) (rows_of text u n cs (count_rows x n cs os e h).0 c) g).parses (length text) ∙ ap ungrammatical_at q.0 in
-        reads l (UnfitAt p) (rw m) (record { allowed = s.0; all = rows n u text; lexed = s.1; parses = m; within = q.1 })
+        let q = k text ls vs t f l in
+        let m = (token_unfit parsed (rows n u text) (rows_of text u n cs h refl) g).parses (length text) ∙ ap ungrammatical_at q.0 in
+        reads l (Err (UnfitAt p)) (rw m) (record { allowed = s.0; all = rows n u text; lexed = s.1; parses = m; within = q.1 });
+  }
 
-    pub settles_unfit : {i p : ℕ} → a ≡ UngrammaticalAt i → i < n → p ≡ get_or os i 0 → Settles end cs os x (UnfitAt p)
-    unfolding offset_of row_token
-    settles_unfit {i} g b q = unfit g λ text u t f o l. rw (drop_rows n u text i b, q, ← o) (refl, omega (arith, l.inside.1 i b))
+  pub settles_unfit : {i : Unfit} {p : ℕ} → a ≡ Err i → i.at < n → p ≡ get_or os i.at 0 → Settles n end cs os (Err (UnfitAt p))
+  unfolding offset_of row_token
+  settles_unfit {i} g b q = unfit g λ text ls vs t f l. rw (drop_rows n (columns_of cs os ls vs) text i.at b, q) (refl, omega (arith, l.inside.1 i.at b))
 
-    pub settles_ended : {i : ℕ} → a ≡ UngrammaticalAt i → n ≤ i → Settles end cs os x (UnfitAt end)
-    unfolding offset_of
-    settles_ended {i} g b = unfit g λ text u t f o l. rw (drop_rows_past n u text i b) (f, omega arith)
+  pub settles_ended : {i : Unfit} → a ≡ Err i → n ≤ i.at → Settles n end cs os (Err (UnfitAt end))
+  unfolding offset_of
+  settles_ended {i} g b = unfit g λ text ls vs t f l. rw (drop_rows_past n (columns_of cs os ls vs) text i.at b) (f, omega arith)
 
 -- ---- for callers
 
-module _ {text : List ℕ} {t u : TokenColumns} {r : Syntax} (l : ReadsText text t u r) where
+module _ {text : List ℕ} {t u : TokenColumns} {r : Result ℕ SyntaxError} (l : ReadsText text t u r) where
   -- by the answer
-  pub said : {s : Syntax} → r ≡ s → Says text t u s
+  pub said : {s : Result ℕ SyntaxError} → r ≡ s → Says text t u s
   said e = subst (Says text t u) e l.says
 
   -- the columns are only too short for a text that is refused for it
-  pub room_refused : length text ≤ 32768 → lacks_rows (length text) t ≡ true → r ≡ NoRoom
+  pub room_refused : length text ≤ 32768 → lacks_rows (length text) t ≡ true → r ≡ Err NoRoom
   unfolding text_answer columns_answer syntax_answer
   room_refused h e = of_answer r (l.answer ∙ rw (into_columns_short text t h e))
     where
-      of_answer : (s : Syntax) → syntax_answer s ≡ 31 → s ≡ NoRoom
-      of_answer (File n) z = absurd (omega arith)
-      of_answer TooLong z = absurd (omega arith)
-      of_answer (NoTokenAt p) z = absurd (omega arith)
-      of_answer (UnfitAt p) z = absurd (omega arith)
-      of_answer NoRoom z = refl
+      of_answer : (s : Result ℕ SyntaxError) → syntax_answer s ≡ 31 → s ≡ Err NoRoom
+      of_answer (Ok n) z = absurd (omega arith)
+      of_answer (Err TooLong) z = absurd (omega arith)
+      of_answer (Err (NoTokenAt p)) z = absurd (omega arith)
+      of_answer (Err (UnfitAt p)) z = absurd (omega arith)
+      of_answer (Err NoRoom) z = refl
 
   -- a row for each byte of a text that is a file
-  pub file_room : {n : ℕ} → r ≡ File n → HasRoom (length text) u
+  pub file_room : {n : ℕ} → r ≡ Ok n → HasRoom (length text) u
   file_room {n} e = go (lacks_rows (length text) t) refl
     where
       go : (b : Bool) → lacks_rows (length text) t ≡ b → HasRoom (length text) u
       go true f =
-          let i : r ≡ NoRoom = room_refused (said e).allowed f in
+          let i : r ≡ Err NoRoom = room_refused (said e).allowed f in
           let z : ◌≡◌ {A = ℕ} 0 1 = cc in
           absurd (omega arith)
       go false f = room_kept (has_room (length text) t f) l.classes_kept l.offsets_kept l.lengths_kept l.values_kept
@@ -214,33 +196,33 @@ module _ {text : List ℕ} {t u : TokenColumns} {r : Syntax} (l : ReadsText text
 -- ---- no other answer meets the contract
 
 module _ (text : List ℕ) (t u v : TokenColumns) where
-  same_answer : (r s : Syntax) → syntax_answer r ≡ syntax_answer s → Says text t u r → Says text t v s → r ≡ s
+  same_answer : (r s : Result ℕ SyntaxError) → syntax_answer r ≡ syntax_answer s → Says text t u r → Says text t v s → r ≡ s
   unfolding syntax_answer
-  same_answer (File n) (File m) e h k = let z : rows n u text ≡ rows m v text = cc (h.lexed, k.lexed) in ap File (sym h.count ∙ ap length z ∙ k.count)
-  same_answer (File n) TooLong e h k = absurd (omega arith)
-  same_answer (File n) (NoTokenAt q) e h k = absurd (omega arith)
-  same_answer (File n) (UnfitAt q) e h k = absurd (omega arith)
-  same_answer (File n) NoRoom e h k = absurd (omega arith)
-  same_answer TooLong (File m) e h k = absurd (omega arith)
-  same_answer TooLong TooLong e h k = refl
-  same_answer TooLong (NoTokenAt q) e h k = absurd (omega arith)
-  same_answer TooLong (UnfitAt q) e h k = absurd (omega arith)
-  same_answer TooLong NoRoom e h k = absurd (omega arith)
-  same_answer (NoTokenAt p) (File m) e h k = absurd (omega arith)
-  same_answer (NoTokenAt p) TooLong e h k = absurd (omega arith)
-  same_answer (NoTokenAt p) (NoTokenAt q) e h k = let z : p ≡ q = omega arith in ap NoTokenAt z
-  same_answer (NoTokenAt p) (UnfitAt q) e h k = absurd (omega arith)
-  same_answer (NoTokenAt p) NoRoom e h k = absurd (omega arith)
-  same_answer (UnfitAt p) (File m) e h k = absurd (omega arith)
-  same_answer (UnfitAt p) TooLong e h k = absurd (omega arith)
-  same_answer (UnfitAt p) (NoTokenAt q) e h k = absurd (omega arith)
-  same_answer (UnfitAt p) (UnfitAt q) e h k = let z : p ≡ q = omega arith in ap UnfitAt z
-  same_answer (UnfitAt p) NoRoom e h k = absurd (omega arith)
-  same_answer NoRoom (File m) e h k = absurd (omega arith)
-  same_answer NoRoom TooLong e h k = absurd (omega arith)
-  same_answer NoRoom (NoTokenAt q) e h k = absurd (omega arith)
-  same_answer NoRoom (UnfitAt q) e h k = absurd (omega arith)
-  same_answer NoRoom NoRoom e h k = refl
+  same_answer (Ok n) (Ok m) e h k = let z : rows n u text ≡ rows m v text = cc (h.lexed, k.lexed) in ap Ok (sym h.count ∙ ap length z ∙ k.count)
+  same_answer (Ok n) (Err TooLong) e h k = absurd (omega arith)
+  same_answer (Ok n) (Err (NoTokenAt q)) e h k = absurd (omega arith)
+  same_answer (Ok n) (Err (UnfitAt q)) e h k = absurd (omega arith)
+  same_answer (Ok n) (Err NoRoom) e h k = absurd (omega arith)
+  same_answer (Err TooLong) (Ok m) e h k = absurd (omega arith)
+  same_answer (Err TooLong) (Err TooLong) e h k = refl
+  same_answer (Err TooLong) (Err (NoTokenAt q)) e h k = absurd (omega arith)
+  same_answer (Err TooLong) (Err (UnfitAt q)) e h k = absurd (omega arith)
+  same_answer (Err TooLong) (Err NoRoom) e h k = absurd (omega arith)
+  same_answer (Err (NoTokenAt p)) (Ok m) e h k = absurd (omega arith)
+  same_answer (Err (NoTokenAt p)) (Err TooLong) e h k = absurd (omega arith)
+  same_answer (Err (NoTokenAt p)) (Err (NoTokenAt q)) e h k = let z : p ≡ q = omega arith in ap (λ p. Err (NoTokenAt p)) z
+  same_answer (Err (NoTokenAt p)) (Err (UnfitAt q)) e h k = absurd (omega arith)
+  same_answer (Err (NoTokenAt p)) (Err NoRoom) e h k = absurd (omega arith)
+  same_answer (Err (UnfitAt p)) (Ok m) e h k = absurd (omega arith)
+  same_answer (Err (UnfitAt p)) (Err TooLong) e h k = absurd (omega arith)
+  same_answer (Err (UnfitAt p)) (Err (NoTokenAt q)) e h k = absurd (omega arith)
+  same_answer (Err (UnfitAt p)) (Err (UnfitAt q)) e h k = let z : p ≡ q = omega arith in ap (λ p. Err (UnfitAt p)) z
+  same_answer (Err (UnfitAt p)) (Err NoRoom) e h k = absurd (omega arith)
+  same_answer (Err NoRoom) (Ok m) e h k = absurd (omega arith)
+  same_answer (Err NoRoom) (Err TooLong) e h k = absurd (omega arith)
+  same_answer (Err NoRoom) (Err (NoTokenAt q)) e h k = absurd (omega arith)
+  same_answer (Err NoRoom) (Err (UnfitAt q)) e h k = absurd (omega arith)
+  same_answer (Err NoRoom) (Err NoRoom) e h k = refl
 
-  pub one_answer : {r s : Syntax} → ReadsText text t u r → ReadsText text t v s → r ≡ s
+  pub one_answer : {r s : Result ℕ SyntaxError} → ReadsText text t u r → ReadsText text t v s → r ≡ s
   one_answer {r} {s} l k = same_answer r s (l.answer ∙ sym k.answer) l.says k.says

@@ -1,6 +1,6 @@
 -- Where the parser ends a reading, the walk of its reader ends.
 use Prim.Native.Nat.{ℕ, suc, ◌+◌, ◌≤◌, ◌<◌}
-use mathlib.Core.Path.{◌≡◌, refl, sym, ap, ◌∙◌}
+use mathlib.Core.Path.{◌≡◌, refl, sym, ap, ◌∙◌, subst}
 use mathlib.Core.List.{List, [], ◌∷◌}
 use mathlib.Core.Bool.{Bool, true, false}
 use mathlib.Core.Option.{some}
@@ -8,31 +8,24 @@ use native.Mathlib.Omega.{arith}
 use lib.Dec.{ltb}
 use lib.ListN.{length, get_or, get_elem?, drop, drop_of_length-le}
 use borrow.Author.Tests.{ltb-true, ltb-false}
+use Rattle.std.specs.Prelude.{Result, Ok, Err}
+use Rattle.std.specs.Result.{result_unwrap_or}
+use Rattle.text.specs.declared.grammar.Unfit.{Unfit}
 use Rattle.text.specs.definitions.Tokens.{Token}
 use Rattle.text.specs.definitions.Readers.{Parse, read, unfit_after, Parser}
 use Rattle.text.specs.inner_contracts.ParseAnswers.{
   Parsed,
   Next,
   Refused,
-  REFUSED,
-  parsed_of,
   classes_of,
   parse_answer,
   answer_from,
   ReadsAs,
+  ReadsFrom,
 }
 use Rattle.text.specs.inner_contracts.Walks.{Rows, meant, vain, MeansAt, Walks, ReadThere, Ends}
-use Rattle.text.proofs.laws.CodeReaderLaws.{parsed_next}
+use Rattle.text.proofs.laws.CodeReaderLaws.{reads_onward}
 use Rattle.text.proofs.laws.WalkLaws.{walk_yields}
-
--- what is refused has no next token
-pub refused_ends : {p : Parsed} {i j : ℕ} → p ≡ Refused j → p ≡ Next i → ⊥
-refused_ends r e = let z : ◌≡◌ {A = ℕ} 0 1 = cc in absurd (omega arith)
-
-pub next_same : {p : Parsed} {i j : ℕ} → p ≡ Next i → p ≡ Next j → i ≡ j
-next_same {p} {i} {j} e q =
-    let k : Next i ≡ Next j = sym e ∙ q in
-    cc
 
 -- tokens that have the classes of a column one by one have them all
 column_of : (ts : List Token) (cs : List ℕ) → length ts ≡ length cs
@@ -59,17 +52,27 @@ module _ {A : Type 0} {classes : List ℕ} {r : Parser A} {at next : ℕ} where
   pub walk_ends : {R : Type 0} {yields : Rows classes → A → R → Type 0} {v : R} → Walks (λ w. w) yields r at v next → Ends classes r at next
   walk_ends h = record { onward = h.onward; means = λ w l. read_there w (λ a n e. (walk_yields h w l e).1) }
 
-  -- by the parser, where there are fewer tokens than REFUSED; behind the last of them the reader reads nothing
-  pub answer_ends : length classes < REFUSED → r [] ≡ unfit_after 0 → {answer : Parsed} → ReadsAs classes r (parsed_of at) answer → at ≤ next
-      → ((i : ℕ) → answer ≡ Next i → at ≤ i → next ≡ i) → Ends classes r at next
+  -- by the parser
+  pub read_ends : ReadsAs classes r (Next at) (Next next) → Ends classes r at next
   unfolding answer_from parse_answer
-  answer_ends few none h o f = record { onward = o; means = λ w l. read_there w (λ a n e. on w a n e (ltb at (length classes)) refl) }
-    where
-      on : (w : Rows classes) (a : A) (n : ℕ) → r (drop at w.tokens) ≡ read a n → (b : Bool) → ltb at (length classes) ≡ b → next ≡ at + n
-      on w a n e true i =
-          let p : parsed_of at ≡ Next at = parsed_next at (omega (arith, ltb-true at (length classes) i)) in
-          f (at + n) (rw p at (h.told w.tokens (row_classes w)) ∙ ap (parse_answer at) e) (omega arith)
-      on w a n e false i =
-          let q : drop at w.tokens ≡ [] = drop_of_length-le w.tokens {i = at} (omega (arith, ltb-false at (length classes) i, w.count)) in
-          let z : ◌≡◌ {A = ℕ} 0 1 = cc in
-          absurd (omega arith)
+  read_ends h = record {
+    onward = reads_onward h;
+    means = λ w l. read_there w λ a n e. let i = h.told w.tokens (row_classes w) ∙ ap (parse_answer at) e in cc;
+  }
+
+-- which walks nothing where it refuses
+pub refused_ends : {A : Type 0} {classes : List ℕ} {r : Parser A} {at n : ℕ} → ReadsAs classes r (Next at) (Refused n) → Ends classes r at at
+unfolding answer_from parse_answer
+refused_ends {at = at} h = record {
+  onward = omega arith;
+  means = λ w l. read_there w λ a n e.
+      let i = h.told w.tokens (row_classes w) ∙ ap (parse_answer at) e in
+      let z : ◌≡◌ {A = ℕ} 0 1 = cc in
+      absurd (omega arith);
+}
+
+-- by the parser's answer
+pub answer_ends : {A : Type 0} {classes : List ℕ} {r : Parser A} {at : ℕ} (x : Result ℕ Unfit) {next : ℕ} → ReadsFrom classes r at x → next ≡ result_unwrap_or x at
+    → Ends classes r at next
+answer_ends {classes = classes} {r = r} {at = at} (Ok n) h e = subst (λ m. Ends classes r at m) (sym e) (read_ends h)
+answer_ends {classes = classes} {r = r} {at = at} (Err u) h e = subst (λ m. Ends classes r at m) (sym e) (refused_ends h)

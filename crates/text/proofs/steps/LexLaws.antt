@@ -9,7 +9,8 @@ use lib.ListN.{length, get_or, set, drop, length-set}
 use lib.Seq.{get_or-set_same, get_or-set_other}
 use borrow.Author.Tests.{eqb-true, eqb-false}
 use Rattle.text.specs.declared.Item.TheVariants.{Gap, Found, Bad, End}
-use Rattle.text.specs.declared.Lexed.TheVariants.{Count, BadAt}
+use Rattle.std.specs.Prelude.{Ok, Err}
+use Rattle.text.specs.declared.SyntaxError.TheVariants.{NoTokenAt}
 use Rattle.text.specs.definitions.Tokens.{Token, Lexing, tokens, no_token_at, add_token, tokens_from, tokens_of}
 use Rattle.text.specs.inner_contracts.TokenTable.{token_at, TokenColumns, columns_of, rows, lexing, into_columns, told, Lexes}
 use Rattle.text.proofs.laws.IntoColumnsLaws.{has_rows, into_columns_lexing, lexed_as}
@@ -85,13 +86,13 @@ module _ {text : List ℕ} {t : TokenColumns} {cs os ls vs : List ℕ} {at n : �
     e,
   )
 
-  pub going_end : token_at text at ≡ End → Lexes text t (columns_of cs os ls vs) (Count n)
+  pub going_end : token_at text at ≡ End → Lexes text t (columns_of cs os ls vs) (Ok n)
   unfolding told onto
   going_end e =
       let r = rw e at (answer_says text at) in
       let s = lexes (tokens (rows n (columns_of cs os ls vs) text)) (rw r.1 (ap tokens (append-nil (rows n (columns_of cs os ls vs) text)))) in
       record {
-        answer = lexed_as (Count n) text t (columns_of cs os ls vs) s;
+        answer = lexed_as (Ok n) text t (columns_of cs os ls vs) (omega (arith, g), g.parts) s;
         says = s;
         inside = (omega (arith, g), g.parts);
         classes_kept = g.kept_classes;
@@ -100,13 +101,13 @@ module _ {text : List ℕ} {t : TokenColumns} {cs os ls vs : List ℕ} {at n : �
         values_kept = g.kept_values;
       }
 
-  pub going_bad : token_at text at ≡ Bad → Lexes text t (columns_of cs os ls vs) (BadAt at)
+  pub going_bad : token_at text at ≡ Bad → Lexes text t (columns_of cs os ls vs) (Err (NoTokenAt at))
   unfolding told onto
   going_bad e =
       let r = rw e at (answer_says text at) in
       let s = lexes (no_token_at at) (rw r.1) in
       record {
-        answer = lexed_as (BadAt at) text t (columns_of cs os ls vs) s;
+        answer = lexed_as (Err (NoTokenAt at)) text t (columns_of cs os ls vs) tt s;
         says = s;
         inside = tt;
         classes_kept = g.kept_classes;

@@ -1,31 +1,33 @@
 -- The answers of the lexer, of the parser and of reading a text as document 01's numbers: one definition for each enum.
-use Rattle.std.specs.Prelude.{ℕ, List, drop}
-use Rattle.text.specs.declared.Lexed.{Lexed}
-use Rattle.text.specs.declared.Lexed.TheVariants.{Count, TooLong as Long, BadAt, NoRoom as Short}
-use Rattle.text.specs.declared.grammar.Parsing.{Parsing}
-use Rattle.text.specs.declared.grammar.Parsing.TheVariants.{Grammatical, UngrammaticalAt}
-use Rattle.text.specs.declared.reading.Syntax.{Syntax}
-use Rattle.text.specs.declared.reading.Syntax.TheVariants.{File, TooLong, NoTokenAt, UnfitAt, NoRoom}
+use Rattle.std.specs.Prelude.{ℕ, List, drop, Result, Ok, Err}
+use Rattle.text.specs.declared.SyntaxError.{SyntaxError}
+use Rattle.text.specs.declared.SyntaxError.TheVariants.{TooLong, NoTokenAt, UnfitAt, NoRoom}
+use Rattle.text.specs.declared.grammar.Unfit.{Unfit}
 use Rattle.text.specs.definitions.Tokens.{Token}
-use Rattle.text.specs.definitions.Parse.{offset_of}
+use Rattle.text.specs.definitions.Parse.{offset_of as token_offset}
 use Rattle.text.specs.definitions.Answers.{refusal_answer}
 
--- "Acceptance returns 0"; "11, 32768", "12, place"; 31 where a column is too short
-unfoldable pub lexed_answer : Lexed → ℕ
-lexed_answer (Count n) = 0
-lexed_answer Long = refusal_answer 11 32768
-lexed_answer (BadAt p) = refusal_answer 12 p
-lexed_answer Short = 31
+-- "11, 32768"; "12, place"; "13, place"; 31 where a column is too short: the number, and the offset
+unfoldable pub code_of : SyntaxError → ℕ
+code_of TooLong = 11
+code_of (NoTokenAt p) = 12
+code_of (UnfitAt p) = 13
+code_of NoRoom = 31
+
+unfoldable pub offset_of : SyntaxError → ℕ
+offset_of TooLong = 32768
+offset_of (NoTokenAt p) = p
+offset_of (UnfitAt p) = p
+offset_of NoRoom = 0
+
+-- "Acceptance returns 0"
+unfoldable pub syntax_answer : Result ℕ SyntaxError → ℕ
+unfolding code_of offset_of
+syntax_answer (Ok n) = 0
+syntax_answer (Err e) = refusal_answer (code_of e) (offset_of e)
 
 -- "13, place .. the length if the text ends early", of these tokens in a text of `end` bytes
-unfoldable pub parsing_answer : ℕ → List Token → Parsing → ℕ
-unfolding offset_of
-parsing_answer end ts Grammatical = 0
-parsing_answer end ts (UngrammaticalAt i) = refusal_answer 13 (offset_of end (drop i ts))
-
-unfoldable pub syntax_answer : Syntax → ℕ
-syntax_answer (File n) = 0
-syntax_answer TooLong = refusal_answer 11 32768
-syntax_answer (NoTokenAt p) = refusal_answer 12 p
-syntax_answer (UnfitAt p) = refusal_answer 13 p
-syntax_answer NoRoom = 31
+unfoldable pub parsing_answer : ℕ → List Token → Result (Unit {0}) Unfit → ℕ
+unfolding token_offset
+parsing_answer end ts (Ok u) = 0
+parsing_answer end ts (Err u) = refusal_answer 13 (token_offset end (drop u.at ts))

@@ -1,9 +1,7 @@
 -- What reading a text into columns answers: document 01's 11 to 13, or a file whose tokens the columns hold.
-use Rattle.std.specs.Prelude.{ℕ, ◌+◌, ◌≤◌, ◌<◌, ◌≡◌, List, true, length, get_or}
-use Rattle.text.specs.declared.Lexed.{Lexed}
-use Rattle.text.specs.declared.Lexed.TheVariants.{Count, TooLong as Long, BadAt, NoRoom as Short}
-use Rattle.text.specs.declared.reading.Syntax.{Syntax}
-use Rattle.text.specs.declared.reading.Syntax.TheVariants.{File, TooLong, NoTokenAt, UnfitAt, NoRoom}
+use Rattle.std.specs.Prelude.{ℕ, ◌+◌, ◌≤◌, ◌<◌, ◌≡◌, List, true, length, get_or, Result, Ok, Err}
+use Rattle.text.specs.declared.SyntaxError.{SyntaxError}
+use Rattle.text.specs.declared.SyntaxError.TheVariants.{TooLong, NoTokenAt, UnfitAt, NoRoom}
 use Rattle.text.specs.definitions.Tokens.{Token, tokens, no_token_at, tokens_of}
 use Rattle.text.specs.inner_contracts.TokenTable.{TokenColumns, rows, lacks_rows, into_columns, columns_answer, columns_of, Lexes}
 use Rattle.text.specs.definitions.Syntax.{File as Syntax-tree}
@@ -45,15 +43,15 @@ pub record FileText (text : List ℕ) (u : TokenColumns) (n : ℕ) : Type 0 wher
   pub within : n ≤ length text
   pub inside : (i : ℕ) → i < n → get_or u.offsets i 0 + get_or u.lengths i 0 ≤ length text
 
-abbrev pub Says : List ℕ → TokenColumns → TokenColumns → Syntax → Type 0
-Says text t u (File n) = FileText text u n
-Says text t u TooLong = 32768 < length text
-Says text t u (NoTokenAt p) = BadText text p
-Says text t u (UnfitAt p) = UnfitText text p
-Says text t u NoRoom = (length text ≤ 32768) × (lacks_rows (length text) t ≡ true)
+abbrev pub Says : List ℕ → TokenColumns → TokenColumns → Result ℕ SyntaxError → Type 0
+Says text t u (Ok n) = FileText text u n
+Says text t u (Err TooLong) = 32768 < length text
+Says text t u (Err (NoTokenAt p)) = BadText text p
+Says text t u (Err (UnfitAt p)) = UnfitText text p
+Says text t u (Err NoRoom) = (length text ≤ 32768) × (lacks_rows (length text) t ≡ true)
 
 -- the answer r and the columns, which were t and are u: it is document 01's, it says what a caller needs, and no column changed its length
-pub record ReadsText (text : List ℕ) (t u : TokenColumns) (r : Syntax) : Type 0 where
+pub record ReadsText (text : List ℕ) (t u : TokenColumns) (r : Result ℕ SyntaxError) : Type 0 where
   pub answer : syntax_answer r ≡ text_answer text t
   pub says : Says text t u r
   pub classes_kept : length u.classes ≡ length t.classes
@@ -63,14 +61,7 @@ pub record ReadsText (text : List ℕ) (t u : TokenColumns) (r : Syntax) : Type 
 
 -- ---- the steps of reading
 
--- the rows of a lexed text are there
-abbrev pub HasRows : Lexed → List ℕ → List ℕ → Type 0
-HasRows (Count n) cs os = (n ≤ length cs) × (n ≤ length os)
-HasRows Long cs os = Unit {0}
-HasRows (BadAt p) cs os = Unit {0}
-HasRows Short cs os = Unit {0}
-
--- the answer r for every text of this length that was lexed into these classes and offsets with the answer x
-pub record Settles (end : ℕ) (cs os : List ℕ) (x : Lexed) (r : Syntax) : Type 0 where
-  pub told : (text ls vs : List ℕ) (t : TokenColumns) → length text ≡ end → Lexes text t (columns_of cs os ls vs) x
+-- the answer r for every text of this length that was lexed into so many rows, with these classes and offsets
+pub record Settles (count end : ℕ) (cs os : List ℕ) (r : Result ℕ SyntaxError) : Type 0 where
+  pub told : (text ls vs : List ℕ) (t : TokenColumns) → length text ≡ end → Lexes text t (columns_of cs os ls vs) (Ok count)
       → ReadsText text t (columns_of cs os ls vs) r

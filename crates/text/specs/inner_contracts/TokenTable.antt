@@ -1,14 +1,14 @@
 -- What the lexer's answers and columns stand for.
-use Rattle.std.specs.Prelude.{ℕ, zero, suc, ◌+◌, ◌-◌, ◌≤◌, ◌<◌, ◌≡◌, List, [], ◌∷◌, Bool, true, false, cond, ◌||◌, ltb, eqb, length, get_or, take, drop}
+use Rattle.std.specs.Prelude.{ℕ, zero, suc, ◌+◌, ◌-◌, ◌≤◌, ◌<◌, ◌≡◌, List, [], ◌∷◌, Bool, true, false, cond, ◌||◌, ltb, eqb, length, get_or, take, drop, Result, Ok, Err}
 use Rattle.text.specs.declared.Item.{Item as Answer}
 use Rattle.text.specs.declared.Item.TheVariants.{Gap, Found, Bad, End}
-use Rattle.text.specs.declared.Lexed.{Lexed}
-use Rattle.text.specs.declared.Lexed.TheVariants.{Count, TooLong, BadAt, NoRoom}
+use Rattle.text.specs.declared.SyntaxError.{SyntaxError}
+use Rattle.text.specs.declared.SyntaxError.TheVariants.{TooLong, NoTokenAt, UnfitAt, NoRoom}
 use Rattle.text.specs.declared.Run.{Run}
 use Rattle.text.specs.declared.Run.TheVariants.{Comment, Name, Digits}
 use Rattle.text.specs.definitions.Bytes.{is_digit, is_name_byte, is_comment_byte}
 use Rattle.text.specs.definitions.Answers.{refusal_answer}
-use Rattle.text.specs.inner_contracts.EnumAnswers.{lexed_answer}
+use Rattle.text.specs.inner_contracts.EnumAnswers.{syntax_answer}
 use Rattle.text.specs.definitions.Tokens.{Fixed, Token, Lexeme, gap, found, bad, item, Lexing, tokens, no_token_at, tokens_of}
 
 -- which bytes a run goes on with
@@ -113,23 +113,25 @@ columns_answer of_tokens (lexing (no_token_at p)) = refusal_answer 12 p
 columns_answer of_tokens (lexing (tokens ts)) = of_tokens ts
 
 -- what an answer and the columns say
-unfoldable pub told : Lexed → TokenColumns → List ℕ → IntoColumns
+unfoldable pub told : Result ℕ SyntaxError → TokenColumns → List ℕ → IntoColumns
 unfolding rows
-told (Count n) t text = lexing (tokens (rows n t text))
-told TooLong t text = too_long
-told (BadAt p) t text = lexing (no_token_at p)
-told NoRoom t text = no_room
+told (Ok n) t text = lexing (tokens (rows n t text))
+told (Err TooLong) t text = too_long
+told (Err (NoTokenAt p)) t text = lexing (no_token_at p)
+told (Err (UnfitAt p)) t text = no_room
+told (Err NoRoom) t text = no_room
 
--- at most one row for each byte of the text, and each row lies in it
-abbrev pub Inside : Lexed → TokenColumns → List ℕ → Type 0
-Inside (Count n) t text = (n ≤ length text) × ((i : ℕ) → i < n → get_or t.offsets i 0 + get_or t.lengths i 0 ≤ length text)
-Inside TooLong t text = Unit {0}
-Inside (BadAt p) t text = Unit {0}
-Inside NoRoom t text = Unit {0}
+-- at most one row for each byte of the text, and each row lies in it; that a token is unfit is no answer of the lexer
+abbrev pub Inside : Result ℕ SyntaxError → TokenColumns → List ℕ → Type 0
+Inside (Ok n) t text = (n ≤ length text) × ((i : ℕ) → i < n → get_or t.offsets i 0 + get_or t.lengths i 0 ≤ length text)
+Inside (Err TooLong) t text = Unit {0}
+Inside (Err (NoTokenAt p)) t text = Unit {0}
+Inside (Err (UnfitAt p)) t text = ⊥
+Inside (Err NoRoom) t text = Unit {0}
 
 -- the answer r and the columns, which were t and are u: it is document 01's, they say what lexing comes to, and no column changed its length
-pub record Lexes (text : List ℕ) (t u : TokenColumns) (r : Lexed) : Type 0 where
-  pub answer : lexed_answer r ≡ columns_answer (λ ts. 0) (into_columns text t)
+pub record Lexes (text : List ℕ) (t u : TokenColumns) (r : Result ℕ SyntaxError) : Type 0 where
+  pub answer : syntax_answer r ≡ columns_answer (λ ts. 0) (into_columns text t)
   pub says : told r u text ≡ into_columns text t
   pub inside : Inside r u text
   pub classes_kept : length u.classes ≡ length t.classes

@@ -1,7 +1,7 @@
 -- What is left of `+atom_condition_conjunction`.
-use Rattle.std.proofs.Common.{refl, rules}
+use Rattle.std.proofs.Common.{rules, arith, ◌≡◌, true, false, Err}
 use Rattle.text.proofs.laws.CodeGrammarLaws.{atom_halts, atom_lacks, atom_opens, some_condition}
-use Rattle.text.proofs.laws.CodeReaderLaws.{chain_answers, chain_left, goes_on, joined_answers, seen_less, stops, turn_less}
+use Rattle.text.proofs.laws.CodeReaderLaws.{chain_answers, chain_left, goes_on, joined_answers, passes_below, refused, seen, seen_less, stops, turn_less, unseen}
 use Rattle.text.specs.definitions.Grammar.{both_at, condition_reader, conjunction_reader, either_at}
 use Rattle.text.specs.inner_contracts.ParseAnswers.{is_class}
 use Rattle.text.proofs.grammar.+atom_condition_conjunction.Goals as goal
@@ -9,43 +9,83 @@ use Rattle.text.proofs.grammar.+atom_condition_conjunction.Goals as goal
 pub atom-returns-then-depth-eq0 : goal.atom-returns-then-depth-eq0
 atom-returns-then-depth-eq0 t c = atom_halts c.if-depth-eq0.true c.clause.ensures
 
-pub atom-returns-then-next_class-ne-ROUND_OPEN : goal.atom-returns-then-next_class-ne-ROUND_OPEN
-atom-returns-then-next_class-ne-ROUND_OPEN t c = atom_lacks c.next_class.ensures _ c.if-depth-eq0.false c.if-next_class-ne-ROUND_OPEN.true c.clause-then-next_class-ne-ROUND_OPEN.ensures
+pub atom-returns-then-not-next_is : goal.atom-returns-then-not-next_is
+atom-returns-then-not-next_is t c = atom_lacks _ c.if-depth-eq0.false (unseen c.if-not-next_is.ensures) c.clause-then-not-next_is.ensures
 
-pub atom-condition-inside-requires : goal.atom-condition-inside-requires
-atom-condition-inside-requires t c =
-    let taken = seen_less c.next_class.ensures c.if-next_class-ne-ROUND_OPEN.false refl c.any_token-open.ensures in
+pub atom-overflow_add-from : goal.atom-overflow_add-from
+atom-overflow_add-from t c = let l = passes_below c.if-not-next_is.ensures in omega arith
+
+pub atom-condition-requires : goal.atom-condition-requires
+atom-condition-requires t c =
+    let taken = seen_less (seen c.if-not-next_is.ensures) in
     search rules
+
+pub atom-returns-in_err-inside : goal.atom-returns-in_err-inside
+atom-returns-in_err-inside t c =
+    let e : c.from_residual.result ≡ Err c.in_err-inside.field-0.0 = search rules in
+    rw e (atom_opens _ c.if-depth-eq0.false (seen c.if-not-next_is.ensures) c.in_err-inside.ensures refused)
 
 pub atom-returns : goal.atom-returns
-atom-returns t c = atom_opens c.next_class.ensures _ c.if-depth-eq0.false c.if-next_class-ne-ROUND_OPEN.false c.any_token-open.ensures c.condition-inside.ensures c.token.ensures
+atom-returns t c = atom_opens _ c.if-depth-eq0.false (seen c.if-not-next_is.ensures) c.in_ok-inside.ensures c.token.ensures
 
-pub condition-conjunction-p-requires-in-loop-p : goal.condition-conjunction-p-requires-in-loop-p
-condition-conjunction-p-requires-in-loop-p t c =
-    let left = chain_left some_condition c.conjunction-p.ensures c.loop-p.invariant c.any_token.ensures in
+pub condition-returns-in_err-at : goal.condition-returns-in_err-at
+unfolding condition_reader conjunction_reader is_class
+condition-returns-in_err-at t c =
+    let e : c.from_residual.result ≡ Err c.in_err-at.field-0.0 = search rules in
+    rw e (chain_answers either_at c.in_err-at.ensures _ some_condition λ a. refused)
+
+pub condition-overflow_add-at : goal.condition-overflow_add-at
+condition-overflow_add-at t c = let l = passes_below c.loop-at-test.ensures in omega arith
+
+pub condition-conjunction-requires-in-loop-at : goal.condition-conjunction-requires-in-loop-at
+condition-conjunction-requires-in-loop-at t c =
+    let left = chain_left some_condition c.in_ok-at.ensures c.loop-at.invariant c.loop-at-test.ensures in
     search rules
 
-pub condition-loop-p-smaller : goal.condition-loop-p-smaller
-condition-loop-p-smaller t c = turn_less _ _ c.next_is.ensures c.loop-p-test.true c.any_token.ensures c.conjunction-p-in-loop-p.ensures
+pub condition-returns-in_err-at-2 : goal.condition-returns-in_err-at-2
+unfolding condition_reader conjunction_reader is_class
+condition-returns-in_err-at-2 t c =
+    let e : c.from_residual-in_err-at-2.result ≡ Err c.in_err-at-2.field-0.0 = search rules in
+    let g = goes_on c.loop-at.invariant c.loop-at-test.ensures (joined_answers _ c.in_err-at-2.ensures) in
+    rw e (chain_answers either_at c.in_ok-at.ensures _ some_condition (g.finish _ λ a. refused))
 
-pub condition-loop-p-preserved : goal.condition-loop-p-preserved
-condition-loop-p-preserved t c = goes_on c.loop-p.invariant c.next_is.ensures c.loop-p-test.true c.any_token.ensures (joined_answers _ c.conjunction-p-in-loop-p.ensures)
+pub condition-loop-at-smaller : goal.condition-loop-at-smaller
+condition-loop-at-smaller t c = turn_less c.loop-at-test.ensures c.in_ok-at-2.ensures
+
+pub condition-loop-at-preserved : goal.condition-loop-at-preserved
+condition-loop-at-preserved t c = goes_on c.loop-at.invariant c.loop-at-test.ensures (joined_answers _ c.in_ok-at-2.ensures)
 
 pub condition-returns : goal.condition-returns
 unfolding condition_reader conjunction_reader is_class
-condition-returns t c = chain_answers either_at c.conjunction-p.ensures _ some_condition (stops c.loop-p.invariant c.next_is.ensures c.loop-p-test.false)
+condition-returns t c = chain_answers either_at c.in_ok-at.ensures _ some_condition (stops c.loop-at.invariant c.loop-at-test.ensures)
 
-pub conjunction-atom-p-requires-in-loop-p : goal.conjunction-atom-p-requires-in-loop-p
-conjunction-atom-p-requires-in-loop-p t c =
-    let left = chain_left some_condition c.atom-p.ensures c.loop-p.invariant c.any_token.ensures in
+pub conjunction-returns-in_err-at : goal.conjunction-returns-in_err-at
+unfolding conjunction_reader is_class
+conjunction-returns-in_err-at t c =
+    let e : c.from_residual.result ≡ Err c.in_err-at.field-0.0 = search rules in
+    rw e (chain_answers both_at c.in_err-at.ensures _ some_condition λ a. refused)
+
+pub conjunction-overflow_add-at : goal.conjunction-overflow_add-at
+conjunction-overflow_add-at t c = let l = passes_below c.loop-at-test.ensures in omega arith
+
+pub conjunction-atom-requires-in-loop-at : goal.conjunction-atom-requires-in-loop-at
+conjunction-atom-requires-in-loop-at t c =
+    let left = chain_left some_condition c.in_ok-at.ensures c.loop-at.invariant c.loop-at-test.ensures in
     search rules
 
-pub conjunction-loop-p-smaller : goal.conjunction-loop-p-smaller
-conjunction-loop-p-smaller t c = turn_less _ _ c.next_is.ensures c.loop-p-test.true c.any_token.ensures c.atom-p-in-loop-p.ensures
+pub conjunction-returns-in_err-at-2 : goal.conjunction-returns-in_err-at-2
+unfolding conjunction_reader is_class
+conjunction-returns-in_err-at-2 t c =
+    let e : c.from_residual-in_err-at-2.result ≡ Err c.in_err-at-2.field-0.0 = search rules in
+    let g = goes_on c.loop-at.invariant c.loop-at-test.ensures (joined_answers _ c.in_err-at-2.ensures) in
+    rw e (chain_answers both_at c.in_ok-at.ensures _ some_condition (g.finish _ λ a. refused))
 
-pub conjunction-loop-p-preserved : goal.conjunction-loop-p-preserved
-conjunction-loop-p-preserved t c = goes_on c.loop-p.invariant c.next_is.ensures c.loop-p-test.true c.any_token.ensures (joined_answers _ c.atom-p-in-loop-p.ensures)
+pub conjunction-loop-at-smaller : goal.conjunction-loop-at-smaller
+conjunction-loop-at-smaller t c = turn_less c.loop-at-test.ensures c.in_ok-at-2.ensures
+
+pub conjunction-loop-at-preserved : goal.conjunction-loop-at-preserved
+conjunction-loop-at-preserved t c = goes_on c.loop-at.invariant c.loop-at-test.ensures (joined_answers _ c.in_ok-at-2.ensures)
 
 pub conjunction-returns : goal.conjunction-returns
 unfolding conjunction_reader is_class
-conjunction-returns t c = chain_answers both_at c.atom-p.ensures _ some_condition (stops c.loop-p.invariant c.next_is.ensures c.loop-p-test.false)
+conjunction-returns t c = chain_answers both_at c.in_ok-at.ensures _ some_condition (stops c.loop-at.invariant c.loop-at-test.ensures)

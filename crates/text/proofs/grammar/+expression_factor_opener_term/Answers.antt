@@ -1,101 +1,160 @@
 -- What is left of `+expression_factor_opener_term`.
-use Rattle.std.proofs.Common.{refl, rules}
+use Rattle.std.proofs.Common.{rules, arith, ◌≡◌, true, false, Err}
 use Rattle.text.proofs.laws.CodeGrammarLaws.{factor_halts, factor_name, factor_opens, factor_unsigned, some_expression}
-use Rattle.text.proofs.laws.CodeReaderLaws.{and_give_answers, and_then_answers, chain_answers, chain_left, chosen_answers, expect_answers, give_answers, goes_on, if_not_answers, joined_answers, seen_answers, seen_less, stops, tokens_left, turn_less, unfit_answers}
+use Rattle.text.proofs.laws.CodeReaderLaws.{and_give_answers, and_then_answers, chain_answers, chain_left, chosen_answers, expect_answers, expect_less, give_answers, goes_on, if_not_answers, joined_answers, passes_below, refused, seen, seen_less, stops, turn_less, unseen}
 use Rattle.text.specs.definitions.Grammar.{apply_at, expression_reader, opener_reader, term_reader}
 use Rattle.text.specs.definitions.Tokens.{MINUS, ROUND_CLOSE, ROUND_OPEN}
 use Rattle.text.specs.inner_contracts.ParseAnswers.{is_either}
 use Rattle.text.proofs.grammar.+expression_factor_opener_term.Goals as goal
 
-pub expression-term-p-requires-in-loop-p : goal.expression-term-p-requires-in-loop-p
-expression-term-p-requires-in-loop-p t c =
-    let left = chain_left some_expression c.term-p.ensures c.loop-p.invariant c.any_token.ensures in
+pub expression-returns-in_err-at : goal.expression-returns-in_err-at
+unfolding expression_reader term_reader is_either
+expression-returns-in_err-at t c =
+    let e : c.from_residual.result ≡ Err c.in_err-at.field-0.0 = search rules in
+    rw e (chain_answers apply_at c.in_err-at.ensures _ some_expression λ a. refused)
+
+pub expression-overflow_add-at : goal.expression-overflow_add-at
+expression-overflow_add-at t c = let l = passes_below c.loop-at-test.ensures in omega arith
+
+pub expression-term-requires-in-loop-at : goal.expression-term-requires-in-loop-at
+expression-term-requires-in-loop-at t c =
+    let left = chain_left some_expression c.in_ok-at.ensures c.loop-at.invariant c.loop-at-test.ensures in
     search rules
 
-pub expression-loop-p-smaller : goal.expression-loop-p-smaller
-expression-loop-p-smaller t c = turn_less _ _ c.next_is_either.ensures c.loop-p-test.true c.any_token.ensures c.term-p-in-loop-p.ensures
+pub expression-returns-in_err-at-2 : goal.expression-returns-in_err-at-2
+unfolding expression_reader term_reader is_either
+expression-returns-in_err-at-2 t c =
+    let e : c.from_residual-in_err-at-2.result ≡ Err c.in_err-at-2.field-0.0 = search rules in
+    let g = goes_on c.loop-at.invariant c.loop-at-test.ensures (joined_answers _ c.in_err-at-2.ensures) in
+    rw e (chain_answers apply_at c.in_ok-at.ensures _ some_expression (g.finish _ λ a. refused))
 
-pub expression-loop-p-preserved : goal.expression-loop-p-preserved
-expression-loop-p-preserved t c = goes_on c.loop-p.invariant c.next_is_either.ensures c.loop-p-test.true c.any_token.ensures (joined_answers _ c.term-p-in-loop-p.ensures)
+pub expression-loop-at-smaller : goal.expression-loop-at-smaller
+expression-loop-at-smaller t c = turn_less c.loop-at-test.ensures c.in_ok-at-2.ensures
+
+pub expression-loop-at-preserved : goal.expression-loop-at-preserved
+expression-loop-at-preserved t c = goes_on c.loop-at.invariant c.loop-at-test.ensures (joined_answers _ c.in_ok-at-2.ensures)
 
 pub expression-returns : goal.expression-returns
 unfolding expression_reader term_reader is_either
-expression-returns t c = chain_answers apply_at c.term-p.ensures _ some_expression (stops c.loop-p.invariant c.next_is_either.ensures c.loop-p-test.false)
+expression-returns t c = chain_answers apply_at c.in_ok-at.ensures _ some_expression (stops c.loop-at.invariant c.loop-at-test.ensures)
 
-pub factor-returns-then-class-eq-NAME : goal.factor-returns-then-class-eq-NAME
-factor-returns-then-class-eq-NAME t c = factor_name c.next_class-class.ensures _ c.if-class-eq-NAME.true c.dotted.ensures
+pub factor-returns-then-next_is : goal.factor-returns-then-next_is
+factor-returns-then-next_is t c = factor_name _ (seen c.if-next_is.ensures) c.dotted.ensures
 
-pub factor-returns-then-is_unsigned : goal.factor-returns-then-is_unsigned
-factor-returns-then-is_unsigned t c = factor_unsigned c.next_class-class.ensures c.is_unsigned.ensures _ c.if-is_unsigned.true c.any_token.ensures
+pub factor-overflow_add-result : goal.factor-overflow_add-result
+factor-overflow_add-result t c = let l = passes_below c.if-next_is_unsigned.ensures in omega arith
+
+pub factor-returns-then-next_is_unsigned : goal.factor-returns-then-next_is_unsigned
+factor-returns-then-next_is_unsigned t c = factor_unsigned _ c.if-next_is_unsigned.ensures
 
 pub factor-returns-then-depth-eq0 : goal.factor-returns-then-depth-eq0
-factor-returns-then-depth-eq0 t c = factor_halts c.next_class-class.ensures c.is_unsigned.ensures c.if-class-eq-NAME.false c.if-is_unsigned.false c.if-depth-eq0.true c.refused.ensures
+factor-returns-then-depth-eq0 t c = factor_halts (unseen c.if-next_is.ensures) c.if-next_is_unsigned.ensures c.if-depth-eq0.true
 
 pub factor-returns : goal.factor-returns
-factor-returns t c = factor_opens c.next_class-class.ensures c.is_unsigned.ensures c.if-class-eq-NAME.false c.if-is_unsigned.false _ c.if-depth-eq0.false c.opener.ensures
+factor-returns t c = factor_opens (unseen c.if-next_is.ensures) c.if-next_is_unsigned.ensures _ c.if-depth-eq0.false c.opener.ensures
+
+pub opener-overflow_add-from : goal.opener-overflow_add-from
+opener-overflow_add-from t c = let l = passes_below c.if-next_is.ensures in omega arith
+
+pub opener-returns-in_err-open : goal.opener-returns-in_err-open
+unfolding opener_reader
+opener-returns-in_err-open t c =
+    let e : c.from_residual.result ≡ Err c.in_err-open.field-0.0 = search rules in
+    rw e (chosen_answers (seen c.if-next_is.ensures) _ λ r. expect_answers ROUND_OPEN c.in_err-open.ensures λ o. refused)
 
 pub opener-expression-requires : goal.opener-expression-requires
 opener-expression-requires t c =
-    let taken = seen_less c.next_class-class.ensures c.if-class-eq-REAL.true refl c.any_token.ensures in
-    let opened = tokens_left c.token-open.ensures in
+    let taken = seen_less (seen c.if-next_is.ensures) in
+    let opened = expect_less _ c.in_ok-open.ensures in
     search rules
 
-pub opener-returns-then-class-eq-REAL : goal.opener-returns-then-class-eq-REAL
+pub opener-returns-in_err-parameter : goal.opener-returns-in_err-parameter
 unfolding opener_reader expression_reader
-opener-returns-then-class-eq-REAL t c =
-    chosen_answers c.next_class-class.ensures c.if-class-eq-REAL.true refl _ c.any_token.ensures λ r.
-    expect_answers ROUND_OPEN c.token-open.ensures λ o.
-    and_then_answers c.expression.ensures some_expression λ e.
-    expect_answers ROUND_CLOSE c.token.ensures λ t.
+opener-returns-in_err-parameter t c =
+    let e : c.from_residual-in_err-parameter.result ≡ Err c.in_err-parameter.field-0.0 = search rules in
+    rw e (chosen_answers (seen c.if-next_is.ensures) _ λ r. expect_answers ROUND_OPEN c.in_ok-open.ensures λ o.
+    and_then_answers c.in_err-parameter.ensures some_expression λ e. refused)
+
+pub opener-returns-then-next_is : goal.opener-returns-then-next_is
+unfolding opener_reader expression_reader
+opener-returns-then-next_is t c =
+    chosen_answers (seen c.if-next_is.ensures) _ λ r.
+    expect_answers ROUND_OPEN c.in_ok-open.ensures λ o.
+    and_then_answers c.in_ok-parameter.ensures some_expression λ e.
+    expect_answers ROUND_CLOSE c.token-then-next_is.ensures λ t.
     give_answers _ _
 
-pub opener-expression-requires-then-class-eq-ROUND_OPEN : goal.opener-expression-requires-then-class-eq-ROUND_OPEN
-opener-expression-requires-then-class-eq-ROUND_OPEN t c =
-    let taken = seen_less c.next_class-class.ensures c.if-class-eq-ROUND_OPEN.true refl c.any_token-open.ensures in
+pub opener-overflow_add-from-then-next_is-2 : goal.opener-overflow_add-from-then-next_is-2
+opener-overflow_add-from-then-next_is-2 t c = let l = passes_below c.if-next_is-2.ensures in omega arith
+
+pub opener-expression-requires-then-next_is-2 : goal.opener-expression-requires-then-next_is-2
+opener-expression-requires-then-next_is-2 t c =
+    let taken = seen_less (seen c.if-next_is-2.ensures) in
     search rules
 
-pub opener-returns-then-class-eq-ROUND_OPEN : goal.opener-returns-then-class-eq-ROUND_OPEN
+pub opener-returns-in_err-enclosed : goal.opener-returns-in_err-enclosed
 unfolding opener_reader expression_reader
-opener-returns-then-class-eq-ROUND_OPEN t c =
-    let n = c.next_class-class.ensures in
-    if_not_answers n _ c.if-class-eq-REAL.false
-    (chosen_answers n c.if-class-eq-ROUND_OPEN.true refl _ c.any_token-open.ensures λ o.
-    and_then_answers c.expression-then-class-eq-ROUND_OPEN.ensures some_expression λ e.
-    expect_answers ROUND_CLOSE c.token-then-class-eq-ROUND_OPEN.ensures λ t.
+opener-returns-in_err-enclosed t c =
+    let e : c.from_residual-in_err-enclosed.result ≡ Err c.in_err-enclosed.field-0.0 = search rules in
+    rw e (if_not_answers (unseen c.if-next_is.ensures) _
+    (chosen_answers (seen c.if-next_is-2.ensures) _ λ o. and_then_answers c.in_err-enclosed.ensures some_expression λ e. refused))
+
+pub opener-returns-then-next_is-2 : goal.opener-returns-then-next_is-2
+unfolding opener_reader expression_reader
+opener-returns-then-next_is-2 t c =
+    if_not_answers (unseen c.if-next_is.ensures) _
+    (chosen_answers (seen c.if-next_is-2.ensures) _ λ o.
+    and_then_answers c.in_ok-enclosed.ensures some_expression λ e.
+    expect_answers ROUND_CLOSE c.token-then-next_is-2.ensures λ t.
     give_answers _ _)
 
-pub opener-returns-then-class-ne-MINUS : goal.opener-returns-then-class-ne-MINUS
+pub opener-returns-in_err-minus : goal.opener-returns-in_err-minus
 unfolding opener_reader
-opener-returns-then-class-ne-MINUS t c =
-    let n = c.next_class-class.ensures in
-    if_not_answers n _ c.if-class-eq-REAL.false
-    (if_not_answers n _ c.if-class-eq-ROUND_OPEN.false (unfit_answers n _ c.if-class-ne-MINUS.true c.refused.ensures))
+opener-returns-in_err-minus t c =
+    let e : c.from_residual-in_err-minus.result ≡ Err c.in_err-minus.field-0.0 = search rules in
+    rw e (if_not_answers (unseen c.if-next_is.ensures) _ (if_not_answers (unseen c.if-next_is-2.ensures) _
+    (expect_answers MINUS c.in_err-minus.ensures λ m. refused)))
 
 pub opener-factor-requires : goal.opener-factor-requires
 opener-factor-requires t c =
-    let taken = seen_less c.next_class-class.ensures c.if-class-ne-MINUS.false refl c.any_token-2.ensures in
+    let taken = expect_less _ c.in_ok-minus.ensures in
     search rules
 
 pub opener-returns : goal.opener-returns
 unfolding opener_reader
 opener-returns t c =
-    let n = c.next_class-class.ensures in
-    if_not_answers n _ c.if-class-eq-REAL.false
-    (if_not_answers n _ c.if-class-eq-ROUND_OPEN.false
-    (expect_answers MINUS (seen_answers n c.if-class-ne-MINUS.false refl c.any_token-2.ensures) λ m.
+    if_not_answers (unseen c.if-next_is.ensures) _
+    (if_not_answers (unseen c.if-next_is-2.ensures) _
+    (expect_answers MINUS c.in_ok-minus.ensures λ m.
     and_give_answers c.factor.ensures _))
 
-pub term-factor-p-requires-in-loop-p : goal.term-factor-p-requires-in-loop-p
-term-factor-p-requires-in-loop-p t c =
-    let left = chain_left some_expression c.factor-p.ensures c.loop-p.invariant c.any_token.ensures in
+pub term-returns-in_err-at : goal.term-returns-in_err-at
+unfolding term_reader is_either
+term-returns-in_err-at t c =
+    let e : c.from_residual.result ≡ Err c.in_err-at.field-0.0 = search rules in
+    rw e (chain_answers apply_at c.in_err-at.ensures _ some_expression λ a. refused)
+
+pub term-overflow_add-at : goal.term-overflow_add-at
+term-overflow_add-at t c = let l = passes_below c.loop-at-test.ensures in omega arith
+
+pub term-factor-requires-in-loop-at : goal.term-factor-requires-in-loop-at
+term-factor-requires-in-loop-at t c =
+    let left = chain_left some_expression c.in_ok-at.ensures c.loop-at.invariant c.loop-at-test.ensures in
     search rules
 
-pub term-loop-p-smaller : goal.term-loop-p-smaller
-term-loop-p-smaller t c = turn_less _ _ c.next_is_either.ensures c.loop-p-test.true c.any_token.ensures c.factor-p-in-loop-p.ensures
+pub term-returns-in_err-at-2 : goal.term-returns-in_err-at-2
+unfolding term_reader is_either
+term-returns-in_err-at-2 t c =
+    let e : c.from_residual-in_err-at-2.result ≡ Err c.in_err-at-2.field-0.0 = search rules in
+    let g = goes_on c.loop-at.invariant c.loop-at-test.ensures (joined_answers _ c.in_err-at-2.ensures) in
+    rw e (chain_answers apply_at c.in_ok-at.ensures _ some_expression (g.finish _ λ a. refused))
 
-pub term-loop-p-preserved : goal.term-loop-p-preserved
-term-loop-p-preserved t c = goes_on c.loop-p.invariant c.next_is_either.ensures c.loop-p-test.true c.any_token.ensures (joined_answers _ c.factor-p-in-loop-p.ensures)
+pub term-loop-at-smaller : goal.term-loop-at-smaller
+term-loop-at-smaller t c = turn_less c.loop-at-test.ensures c.in_ok-at-2.ensures
+
+pub term-loop-at-preserved : goal.term-loop-at-preserved
+term-loop-at-preserved t c = goes_on c.loop-at.invariant c.loop-at-test.ensures (joined_answers _ c.in_ok-at-2.ensures)
 
 pub term-returns : goal.term-returns
 unfolding term_reader is_either
-term-returns t c = chain_answers apply_at c.factor-p.ensures _ some_expression (stops c.loop-p.invariant c.next_is_either.ensures c.loop-p-test.false)
+term-returns t c = chain_answers apply_at c.in_ok-at.ensures _ some_expression (stops c.loop-at.invariant c.loop-at-test.ensures)

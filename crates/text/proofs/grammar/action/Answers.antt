@@ -1,15 +1,40 @@
 -- What is left of `action`.
-use Rattle.text.proofs.laws.CodeReaderLaws.{and_then_answers, expect_answers, give_answers}
+use Rattle.std.proofs.Common.{rules, ◌≡◌, Err}
+use Rattle.values.specs.declared.Kind.TheVariants.{Wholes}
+use Rattle.text.proofs.laws.CodeReaderLaws.{and_then_answers, expect_answers, give_answers, refused}
 use Rattle.text.specs.definitions.Grammar.{action_after}
 use Rattle.text.specs.definitions.Tokens.{NAME, ROUND_CLOSE, ROUND_OPEN}
-use Rattle.values.specs.declared.Kind.TheVariants.{Wholes}
 use Rattle.text.proofs.grammar.action.Goals as goal
+
+pub returns-in_err-name : goal.returns-in_err-name
+unfolding action_after
+returns-in_err-name c start =
+    let e : c.from_residual.result ≡ Err c.in_err-name.field-0.0 = search rules in rw e
+    (expect_answers NAME c.in_err-name.ensures λ n.
+    refused)
+
+pub returns-in_err-open : goal.returns-in_err-open
+unfolding action_after
+returns-in_err-open c start =
+    let e : c.from_residual-in_err-open.result ≡ Err c.in_err-open.field-0.0 = search rules in rw e
+    (expect_answers NAME c.in_ok-name.ensures λ n.
+    expect_answers ROUND_OPEN c.in_err-open.ensures λ o.
+    refused)
+
+pub returns-in_err-kind : goal.returns-in_err-kind
+unfolding action_after
+returns-in_err-kind c start =
+    let e : c.from_residual-in_err-kind.result ≡ Err c.in_err-kind.field-0.0 = search rules in rw e
+    (expect_answers NAME c.in_ok-name.ensures λ n.
+    expect_answers ROUND_OPEN c.in_ok-open.ensures λ o.
+    and_then_answers c.in_err-kind.ensures Wholes λ k.
+    refused)
 
 pub returns : goal.returns
 unfolding action_after
 returns c start =
-    expect_answers NAME c.token-name.ensures λ n.
-    expect_answers ROUND_OPEN c.token-open.ensures λ o.
-    and_then_answers c.kind-kind.ensures Wholes λ k.
-    expect_answers ROUND_CLOSE c.token.ensures λ t.
+    expect_answers NAME c.in_ok-name.ensures λ n.
+    expect_answers ROUND_OPEN c.in_ok-open.ensures λ o.
+    and_then_answers c.in_ok-kind.ensures Wholes λ k.
+    expect_answers ROUND_CLOSE c.token-3.ensures λ t.
     give_answers _ _

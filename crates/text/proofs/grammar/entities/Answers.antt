@@ -1,15 +1,14 @@
 -- What is left of `entities`.
-use Rattle.text.proofs.laws.CodeReaderLaws.{added_answers, begins, goes_on, many_answers, some_token, stops, turn_less}
+use Rattle.std.proofs.Common.{of_calls, Ok}
+use Rattle.text.proofs.laws.CodeReaderLaws.{reads_onward, repeats_many, some_token}
+use Rattle.text.specs.definitions.Grammar.{entity_after}
+use Rattle.text.specs.inner_contracts.ParseAnswers.{ReadsFrom}
 use Rattle.text.proofs.grammar.entities.Goals as goal
 
-pub loop-p-init : goal.loop-p-init
-loop-p-init c = begins
-
-pub loop-p-smaller : goal.loop-p-smaller
-loop-p-smaller c = turn_less _ _ c.next_is.ensures c.loop-p-test.true c.any_token.ensures (c.entity-p.ensures some_token)
-
-pub loop-p-preserved : goal.loop-p-preserved
-loop-p-preserved c = goes_on c.loop-p.invariant c.next_is.ensures c.loop-p-test.true c.any_token.ensures (added_answers (c.entity-p.ensures))
+pub many-requires-clause-onward : goal.many-requires-clause-onward
+many-requires-clause-onward c at next i =
+    let f : ReadsFrom c.args.classes.now (entity_after some_token) at (Ok next) = search of_calls in
+    reads_onward f
 
 pub returns : goal.returns
-returns c = many_answers _ _ (stops c.loop-p.invariant c.next_is.ensures c.loop-p-test.false)
+returns c = repeats_many entity_after c.many.ensures (λ at next i t. search of_calls) (λ at u i t. search of_calls)

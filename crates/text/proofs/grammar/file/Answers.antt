@@ -1,16 +1,50 @@
 -- What is left of `file`.
-use Rattle.std.proofs.Common.{[]}
-use Rattle.text.proofs.laws.CodeReaderLaws.{and_then_answers, expect_answers, give_answers}
+use Rattle.std.proofs.Common.{rules, ◌≡◌, [], Err}
+use Rattle.text.proofs.laws.CodeReaderLaws.{and_then_answers, expect_answers, give_answers, refused}
 use Rattle.text.specs.definitions.Grammar.{file_reader}
 use Rattle.text.specs.definitions.Tokens.{END, RULES}
 use Rattle.text.proofs.grammar.file.Goals as goal
 
+pub returns-in_err-interfaces : goal.returns-in_err-interfaces
+unfolding file_reader
+returns-in_err-interfaces c =
+    let e : c.from_residual.result ≡ Err c.in_err-interfaces.field-0.0 = search rules in rw e
+    (and_then_answers c.in_err-interfaces.ensures [] λ is.
+    refused)
+
+pub returns-in_err-entities : goal.returns-in_err-entities
+unfolding file_reader
+returns-in_err-entities c =
+    let e : c.from_residual-in_err-entities.result ≡ Err c.in_err-entities.field-0.0 = search rules in rw e
+    (and_then_answers c.in_ok-interfaces.ensures [] λ is.
+    and_then_answers c.in_err-entities.ensures [] λ es.
+    refused)
+
+pub returns-in_err-start : goal.returns-in_err-start
+unfolding file_reader
+returns-in_err-start c =
+    let e : c.from_residual-in_err-start.result ≡ Err c.in_err-start.field-0.0 = search rules in rw e
+    (and_then_answers c.in_ok-interfaces.ensures [] λ is.
+    and_then_answers c.in_ok-entities.ensures [] λ es.
+    expect_answers RULES c.in_err-start.ensures λ t.
+    refused)
+
+pub returns-in_err-rules : goal.returns-in_err-rules
+unfolding file_reader
+returns-in_err-rules c =
+    let e : c.from_residual-in_err-rules.result ≡ Err c.in_err-rules.field-0.0 = search rules in rw e
+    (and_then_answers c.in_ok-interfaces.ensures [] λ is.
+    and_then_answers c.in_ok-entities.ensures [] λ es.
+    expect_answers RULES c.in_ok-start.ensures λ t.
+    and_then_answers c.in_err-rules.ensures [] λ rs.
+    refused)
+
 pub returns : goal.returns
 unfolding file_reader
 returns c =
-    and_then_answers c.interfaces-interfaces.ensures [] λ is.
-    and_then_answers c.entities-entities.ensures [] λ es.
-    expect_answers RULES c.token-start.ensures λ t.
-    and_then_answers c.rules-rules.ensures [] λ rs.
-    expect_answers END c.token.ensures λ u.
+    and_then_answers c.in_ok-interfaces.ensures [] λ is.
+    and_then_answers c.in_ok-entities.ensures [] λ es.
+    expect_answers RULES c.in_ok-start.ensures λ t.
+    and_then_answers c.in_ok-rules.ensures [] λ rs.
+    expect_answers END c.token-2.ensures λ u.
     give_answers _ _

@@ -1,18 +1,38 @@
 -- What is left of `filter`.
-use Rattle.std.proofs.Common.{refl}
-use Rattle.text.proofs.laws.CodeReaderLaws.{and_give_answers, chosen_answers, expect_answers, give_answers, if_not_answers}
+use Rattle.std.proofs.Common.{rules, arith, ◌≡◌, Err}
+use Rattle.text.proofs.laws.CodeReaderLaws.{and_give_answers, chosen_answers, expect_answers, give_answers, if_not_answers, passes_below, refused, seen, unseen}
 use Rattle.text.specs.definitions.Grammar.{filter_reader}
 use Rattle.text.specs.definitions.Tokens.{EQUALS, NAME}
 use Rattle.text.proofs.grammar.filter.Goals as goal
 
-pub returns-then-next_class-ne-WITH : goal.returns-then-next_class-ne-WITH
+pub returns-in_err-name : goal.returns-in_err-name
 unfolding filter_reader
-returns-then-next_class-ne-WITH c = if_not_answers c.next_class.ensures _ c.if-next_class-ne-WITH.true (give_answers _ _)
+returns-in_err-name c =
+    let e : c.from_residual.result ≡ Err c.in_err-name.field-0.0 = search rules in rw e
+    (chosen_answers (seen c.if-not-next_is.ensures) _ λ t.
+    expect_answers NAME c.in_err-name.ensures λ n.
+    refused)
+
+pub returns-in_err-equals : goal.returns-in_err-equals
+unfolding filter_reader
+returns-in_err-equals c =
+    let e : c.from_residual-in_err-equals.result ≡ Err c.in_err-equals.field-0.0 = search rules in rw e
+    (chosen_answers (seen c.if-not-next_is.ensures) _ λ t.
+    expect_answers NAME c.in_ok-name.ensures λ n.
+    expect_answers EQUALS c.in_err-equals.ensures λ q.
+    refused)
 
 pub returns : goal.returns
 unfolding filter_reader
 returns c =
-    chosen_answers c.next_class.ensures c.if-next_class-ne-WITH.false refl _ c.any_token.ensures λ t.
-    expect_answers NAME c.token-name.ensures λ n.
-    expect_answers EQUALS c.token-equals.ensures λ q.
+    chosen_answers (seen c.if-not-next_is.ensures) _ λ t.
+    expect_answers NAME c.in_ok-name.ensures λ n.
+    expect_answers EQUALS c.in_ok-equals.ensures λ q.
     and_give_answers c.expression.ensures _
+
+pub returns-then-not-next_is : goal.returns-then-not-next_is
+unfolding filter_reader
+returns-then-not-next_is c = if_not_answers (unseen c.if-not-next_is.ensures) _ (give_answers _ _)
+
+pub overflow_add-from : goal.overflow_add-from
+overflow_add-from c = let l = passes_below c.if-not-next_is.ensures in omega arith

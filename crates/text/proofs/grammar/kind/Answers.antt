@@ -1,23 +1,25 @@
 -- What is left of `kind`.
-use Rattle.std.proofs.Common.{refl}
-use Rattle.text.proofs.laws.CodeReaderLaws.{chosen_answers, expect_answers, give_answers, if_not_answers}
+use Rattle.std.proofs.Common.{refl, arith}
+use mathlib.Core.Logic.{inl, inr}
+use Rattle.text.proofs.laws.CodeReaderLaws.{seen_other, chosen_answers, either_seen, expect_answers, give_answers, if_not_answers, passes_below, unpassed}
 use Rattle.text.specs.definitions.Grammar.{kind_reader}
-use Rattle.text.specs.definitions.Tokens.{REAL}
+use Rattle.text.specs.definitions.Tokens.{BOOL, REAL, WHOLE}
+use Rattle.text.specs.inner_contracts.ParseAnswers.{is_either}
 use Rattle.text.proofs.grammar.kind.Goals as goal
 
-pub returns-then-class-eq-WHOLE : goal.returns-then-class-eq-WHOLE
-unfolding kind_reader
-returns-then-class-eq-WHOLE c = chosen_answers c.next_class-class.ensures c.if-class-eq-WHOLE.true refl _ c.any_token.ensures λ t. give_answers _ _
+pub overflow_add-result : goal.overflow_add-result
+overflow_add-result c = let l = passes_below c.if-next_is_either.ensures in omega arith
 
-pub returns-then-class-eq-BOOL : goal.returns-then-class-eq-BOOL
+pub returns-then-next_is_either : goal.returns-then-next_is_either
 unfolding kind_reader
-returns-then-class-eq-BOOL c =
-    let n = c.next_class-class.ensures in
-    if_not_answers n _ c.if-class-eq-WHOLE.false (chosen_answers n c.if-class-eq-BOOL.true refl _ c.any_token-then-class-eq-BOOL.ensures λ t. give_answers _ _)
+returns-then-next_is_either c = elim (either_seen c.if-next_is_either.ensures) [
+  | inl s ↦ chosen_answers s _ λ t. give_answers _ _
+  | inr s ↦ if_not_answers (seen_other s λ e. omega arith) _ (chosen_answers s _ λ t. give_answers _ _)
+]
 
 pub returns : goal.returns
-unfolding kind_reader
+unfolding kind_reader is_either
 returns c =
-    let n = c.next_class-class.ensures in
-    if_not_answers n _ c.if-class-eq-WHOLE.false
-    (if_not_answers n _ c.if-class-eq-BOOL.false (expect_answers REAL c.token.ensures λ t. give_answers _ _))
+    if_not_answers (unpassed c.if-next_is_either.ensures WHOLE refl) _
+    (if_not_answers (unpassed c.if-next_is_either.ensures BOOL refl) _
+    (expect_answers REAL c.token.ensures λ t. give_answers _ _))

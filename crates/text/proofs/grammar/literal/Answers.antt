@@ -1,32 +1,35 @@
 -- What is left of `literal`.
-use Rattle.std.proofs.Common.{false, refl, true}
-use Rattle.text.proofs.laws.CodeReaderLaws.{chosen_answers, give_answers, if_not_answers}
+use Rattle.std.proofs.Common.{refl, arith, true, false}
+use mathlib.Core.Logic.{inl, inr}
+use Rattle.text.proofs.laws.CodeReaderLaws.{seen_other, chosen_answers, either_seen, give_answers, if_not_answers, passes_below, seen, unpassed, unseen}
 use Rattle.text.specs.definitions.Grammar.{literal_reader}
+use Rattle.text.specs.definitions.Tokens.{FALSE, TRUE}
+use Rattle.text.specs.inner_contracts.ParseAnswers.{is_either}
 use Rattle.text.proofs.grammar.literal.Goals as goal
 
-pub returns-then-class-eq-TRUE : goal.returns-then-class-eq-TRUE
-unfolding literal_reader
-returns-then-class-eq-TRUE c = chosen_answers c.next_class-class.ensures c.if-class-eq-TRUE.true refl _ c.any_token.ensures λ t. give_answers _ _
+pub overflow_add-result : goal.overflow_add-result
+overflow_add-result c = let l = passes_below c.if-next_is_either.ensures in omega arith
 
-pub returns-then-class-eq-FALSE : goal.returns-then-class-eq-FALSE
-unfolding literal_reader
-returns-then-class-eq-FALSE c =
-    let n = c.next_class-class.ensures in
-    if_not_answers n _ c.if-class-eq-TRUE.false
-    (chosen_answers n c.if-class-eq-FALSE.true refl _ c.any_token-then-class-eq-FALSE.ensures λ t. give_answers _ _)
+pub overflow_add-from : goal.overflow_add-from
+overflow_add-from c = let l = passes_below c.if-next_is.ensures in omega arith
 
-pub returns-then-class-eq-MINUS : goal.returns-then-class-eq-MINUS
+pub returns-then-next_is_either : goal.returns-then-next_is_either
 unfolding literal_reader
-returns-then-class-eq-MINUS c =
-    let n = c.next_class-class.ensures in
-    if_not_answers n _ c.if-class-eq-TRUE.false
-    (if_not_answers n _ c.if-class-eq-FALSE.false
-    (chosen_answers n c.if-class-eq-MINUS.true refl _ c.any_token-then-class-eq-MINUS.ensures λ t. c.number.ensures true))
+returns-then-next_is_either c = elim (either_seen c.if-next_is_either.ensures) [
+  | inl s ↦ chosen_answers s _ λ t. give_answers _ _
+  | inr s ↦ if_not_answers (seen_other s λ e. omega arith) _ (chosen_answers s _ λ t. give_answers _ _)
+]
+
+pub returns-then-next_is : goal.returns-then-next_is
+unfolding literal_reader is_either
+returns-then-next_is c =
+    if_not_answers (unpassed c.if-next_is_either.ensures TRUE refl) _
+    (if_not_answers (unpassed c.if-next_is_either.ensures FALSE refl) _
+    (chosen_answers (seen c.if-next_is.ensures) _ λ t. c.number.ensures true))
 
 pub returns : goal.returns
-unfolding literal_reader
+unfolding literal_reader is_either
 returns c =
-    let n = c.next_class-class.ensures in
-    if_not_answers n _ c.if-class-eq-TRUE.false
-    (if_not_answers n _ c.if-class-eq-FALSE.false
-    (if_not_answers n _ c.if-class-eq-MINUS.false (c.number-2.ensures false)))
+    if_not_answers (unpassed c.if-next_is_either.ensures TRUE refl) _
+    (if_not_answers (unpassed c.if-next_is_either.ensures FALSE refl) _
+    (if_not_answers (unseen c.if-next_is.ensures) _ (c.number-2.ensures false)))

@@ -1,17 +1,11 @@
 -- What is left of `next_is_either`.
-use Rattle.std.proofs.Common.{ap, arith, eq-eqb, ne_eqb, sym}
-use Rattle.text.proofs.laws.CodeReaderLaws.{none_left, some_left}
-use Rattle.text.specs.inner_contracts.ParseAnswers.{first_passes, is_either}
+use Rattle.std.proofs.Common.{true}
+use Rattle.text.proofs.laws.CodeReaderLaws.{either_first, either_second, first_of_two, second_of_two}
+use Rattle.text.specs.inner_contracts.ParseAnswers.{is_either}
 use Rattle.text.proofs.grammar.next_is_either.Goals as goal
 
-pub returns-then-classes-from : goal.returns-then-classes-from
-unfolding first_passes
-returns-then-classes-from c = ap (first_passes _) (sym (none_left _ _ c.if-classes-from.true))
+pub returns-then-next_is : goal.returns-then-next_is
+returns-then-next_is c = rw c.if-next_is.true (first_of_two {k = is_either c.args.class c.args.other} (either_first c.args.class c.args.other) c.if-next_is.ensures)
 
-pub returns-then-found-class : goal.returns-then-found-class
-unfolding first_passes is_either
-returns-then-found-class c = rw (some_left c.args.classes.now c.args.from (omega arith) c.if-classes-from.false, eq-eqb _ _ c.if-found-class.true)
-
-pub returns : goal.returns
-unfolding first_passes is_either
-returns c = rw (some_left c.args.classes.now c.args.from (omega arith) c.if-classes-from.false, ne_eqb _ _ c.if-found-class.false)
+pub returns-else-next_is : goal.returns-else-next_is
+returns-else-next_is c = second_of_two {k = is_either c.args.class c.args.other} (either_second c.args.class c.args.other) c.if-next_is.ensures c.next_is-else-next_is.ensures

@@ -1,17 +1,13 @@
 -- What is left of `parse`.
+use Rattle.std.proofs.Common.{rules, ◌≡◌, true, false, Err}
 use Rattle.text.proofs.laws.CodeGrammarLaws.{file_left, file_refused, file_whole}
-use Rattle.text.proofs.laws.CodeReaderLaws.{parsed_next, parsed_refused}
-use Rattle.text.specs.inner_contracts.ParseAnswers.{parsed_of}
 use Rattle.text.proofs.grammar.parse.Goals as goal
 
-pub returns-then-whole-ge-REFUSED : goal.returns-then-whole-ge-REFUSED
-unfolding parsed_of
-returns-then-whole-ge-REFUSED c = file_refused c.file-whole.ensures (parsed_refused _ c.if-whole-ge-REFUSED.true)
+pub returns-in_err-end : goal.returns-in_err-end
+returns-in_err-end c = let e : c.from_residual.result ≡ Err c.in_err-end.field-0.0 = search rules in rw e (file_refused c.in_err-end.ensures)
 
-pub returns-then-whole-classes : goal.returns-then-whole-classes
-unfolding parsed_of
-returns-then-whole-classes c = file_left c.file-whole.ensures (parsed_next _ c.if-whole-ge-REFUSED.false) c.if-whole-classes.true
+pub returns-then-end-classes : goal.returns-then-end-classes
+returns-then-end-classes c = file_left c.in_ok-end.ensures c.if-end-classes.true
 
 pub returns : goal.returns
-unfolding parsed_of
-returns c = file_whole c.file-whole.ensures (parsed_next _ c.if-whole-ge-REFUSED.false) c.if-whole-classes.false
+returns c = file_whole c.in_ok-end.ensures c.if-end-classes.false

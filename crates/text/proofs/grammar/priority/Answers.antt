@@ -1,17 +1,20 @@
 -- What is left of `priority`.
-use Rattle.std.proofs.Common.{refl}
-use Rattle.text.proofs.laws.CodeReaderLaws.{chosen_answers, expect_answers, give_answers, if_not_answers}
+use Rattle.std.proofs.Common.{arith}
+use Rattle.text.proofs.laws.CodeReaderLaws.{chosen_answers, expect_answers, give_answers, if_not_answers, passes_below, seen, unseen}
 use Rattle.text.specs.definitions.Grammar.{priority_reader}
 use Rattle.text.specs.definitions.Tokens.{WHOLE_NUMBER}
 use Rattle.text.proofs.grammar.priority.Goals as goal
 
-pub returns-then-next_class-ne-RANK : goal.returns-then-next_class-ne-RANK
+pub returns-then-not-next_is : goal.returns-then-not-next_is
 unfolding priority_reader
-returns-then-next_class-ne-RANK c = if_not_answers c.next_class.ensures _ c.if-next_class-ne-RANK.true (give_answers _ _)
+returns-then-not-next_is c = if_not_answers (unseen c.if-not-next_is.ensures) _ (give_answers _ _)
+
+pub overflow_add-from : goal.overflow_add-from
+overflow_add-from c = let l = passes_below c.if-not-next_is.ensures in omega arith
 
 pub returns : goal.returns
 unfolding priority_reader
 returns c =
-    chosen_answers c.next_class.ensures c.if-next_class-ne-RANK.false refl _ c.any_token.ensures λ t.
+    chosen_answers (seen c.if-not-next_is.ensures) _ λ t.
     expect_answers WHOLE_NUMBER c.token.ensures λ n.
     give_answers _ _

@@ -1,20 +1,30 @@
 -- What is left of `target`.
-use Rattle.std.proofs.Common.{refl}
-use Rattle.text.proofs.laws.CodeReaderLaws.{chosen_answers, expect_answers, give_answers, if_not_answers}
+use Rattle.std.proofs.Common.{rules, arith, ◌≡◌, Err}
+use Rattle.text.proofs.laws.CodeReaderLaws.{chosen_answers, expect_answers, give_answers, if_not_answers, passes_below, refused, seen, unseen}
 use Rattle.text.specs.definitions.Grammar.{target_reader}
 use Rattle.text.specs.definitions.Tokens.{NAME}
 use Rattle.text.proofs.grammar.target.Goals as goal
 
-pub returns-then-next_class-ne-COLON : goal.returns-then-next_class-ne-COLON
+pub returns-in_err-name : goal.returns-in_err-name
 unfolding target_reader
-returns-then-next_class-ne-COLON c =
-    expect_answers NAME c.token-name.ensures λ n.
-    if_not_answers c.next_class.ensures _ c.if-next_class-ne-COLON.true (give_answers _ _)
+returns-in_err-name c =
+    let e : c.from_residual.result ≡ Err c.in_err-name.field-0.0 = search rules in rw e
+    (expect_answers NAME c.in_err-name.ensures λ n.
+    refused)
 
 pub returns : goal.returns
 unfolding target_reader
 returns c =
-    expect_answers NAME c.token-name.ensures λ n.
-    chosen_answers c.next_class.ensures c.if-next_class-ne-COLON.false refl _ c.any_token.ensures λ t.
-    expect_answers NAME c.token.ensures λ i.
+    expect_answers NAME c.in_ok-name.ensures λ n.
+    chosen_answers (seen c.if-not-next_is.ensures) _ λ t.
+    expect_answers NAME c.token-2.ensures λ i.
     give_answers _ _
+
+pub returns-then-not-next_is : goal.returns-then-not-next_is
+unfolding target_reader
+returns-then-not-next_is c =
+    expect_answers NAME c.in_ok-name.ensures λ n.
+    if_not_answers (unseen c.if-not-next_is.ensures) _ (give_answers _ _)
+
+pub overflow_add-name : goal.overflow_add-name
+overflow_add-name c = let l = passes_below c.if-not-next_is.ensures in omega arith

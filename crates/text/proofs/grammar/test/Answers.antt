@@ -1,16 +1,28 @@
 -- What is left of `test`.
-use Rattle.std.proofs.Common.{refl}
-use Rattle.text.proofs.laws.CodeReaderLaws.{and_give_answers, chosen_answers, expect_answers, give_answers, if_not_answers}
+use Rattle.std.proofs.Common.{rules, arith, ◌≡◌, Err}
+use Rattle.text.proofs.laws.CodeReaderLaws.{and_give_answers, chosen_answers, expect_answers, give_answers, if_not_answers, passes_below, refused, seen, unseen}
 use Rattle.text.specs.definitions.Grammar.{test_reader}
 use Rattle.text.specs.definitions.Tokens.{EQUALS}
 use Rattle.text.proofs.grammar.test.Goals as goal
 
-pub returns-then-next_class-eq-CHANGED : goal.returns-then-next_class-eq-CHANGED
+pub returns-in_err-equals : goal.returns-in_err-equals
 unfolding test_reader
-returns-then-next_class-eq-CHANGED c = chosen_answers c.next_class.ensures c.if-next_class-eq-CHANGED.true refl _ c.any_token.ensures λ t. give_answers _ _
+returns-in_err-equals c =
+    let e : c.from_residual.result ≡ Err c.in_err-equals.field-0.0 = search rules in rw e
+    (if_not_answers (unseen c.if-next_is.ensures) _ (
+    expect_answers EQUALS c.in_err-equals.ensures λ q.
+    refused))
 
 pub returns : goal.returns
 unfolding test_reader
 returns c =
-    if_not_answers c.next_class.ensures _ c.if-next_class-eq-CHANGED.false
-    (expect_answers EQUALS c.token-equals.ensures λ q. and_give_answers c.expression.ensures _)
+    if_not_answers (unseen c.if-next_is.ensures) _ (
+    expect_answers EQUALS c.in_ok-equals.ensures λ q.
+    and_give_answers c.expression.ensures _)
+
+pub returns-then-next_is : goal.returns-then-next_is
+unfolding test_reader
+returns-then-next_is c = chosen_answers (seen c.if-next_is.ensures) _ λ t. give_answers _ _
+
+pub overflow_add-result : goal.overflow_add-result
+overflow_add-result c = let l = passes_below c.if-next_is.ensures in omega arith

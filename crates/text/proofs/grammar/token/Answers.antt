@@ -1,15 +1,14 @@
 -- What is left of `token`.
-use Rattle.std.proofs.Common.{arith, refl}
-use Rattle.text.proofs.laws.CodeReaderLaws.{class_there, none_answers, token_answers, unfit_answers}
-use Rattle.text.specs.definitions.Readers.{expect, give}
+use Rattle.std.proofs.Common.{arith}
+use Rattle.text.proofs.laws.CodeReaderLaws.{passes_below, seen, seen_answers, unfit_answers, unseen}
+use Rattle.text.specs.definitions.Readers.{give}
 use Rattle.text.proofs.grammar.token.Goals as goal
 
-pub returns-then-classes-from : goal.returns-then-classes-from
-unfolding expect
-returns-then-classes-from c = none_answers _ _ (expect _ give) refl c.if-classes-from.true c.refused.ensures
+pub overflow_add-result : goal.overflow_add-result
+overflow_add-result c = let l = passes_below c.if-next_is.ensures in omega arith
 
-pub returns-then-classes-from-2 : goal.returns-then-classes-from-2
-returns-then-classes-from-2 c = unfit_answers (class_there _ _ (omega arith) c.if-classes-from.false) give c.if-classes-from-2.true c.refused-then-classes-from-2.ensures
+pub returns-then-next_is : goal.returns-then-next_is
+returns-then-next_is c = seen_answers (seen c.if-next_is.ensures)
 
 pub returns : goal.returns
-returns c = token_answers _ _ (omega arith) c.if-classes-from.false c.if-classes-from-2.false
+returns c = unfit_answers (unseen c.if-next_is.ensures) give

@@ -1,20 +1,13 @@
-use Rattle.text.proofs.laws.SyntaxLaws.{settles_long, settles_short, settles_bad, settles_file, settles_unfit, settles_ended}
+-- What is left of `settled`.
+use Rattle.std.proofs.Common.{refl}
+use Rattle.text.proofs.laws.SyntaxLaws.{settles_file, settles_unfit, settles_ended}
 use Rattle.text.proofs.reading.settled.Goals as goal
 
-pub returns-then-i-n : goal.returns-then-i-n
-returns-then-i-n c = settles_unfit c.in-Count.is c.requires c.parse-parsing.ensures c.in-UngrammaticalAt.is c.if-i-n.true c.offset.ensures
+pub returns-in-Ok : goal.returns-in-Ok
+returns-in-Ok c = settles_file c.requires.0 c.in-Ok.ensures refl
 
-pub returns-in-TooLong : goal.returns-in-TooLong
-returns-in-TooLong c = settles_long c.in-TooLong.is
+pub returns-in-Err : goal.returns-in-Err
+returns-in-Err c = settles_unfit c.requires.0 c.in-Err.ensures refl c.if-unfit-count.true c.from.ensures
 
-pub returns-in-NoRoom : goal.returns-in-NoRoom
-returns-in-NoRoom c = settles_short c.in-NoRoom.is
-
-pub returns-in-BadAt : goal.returns-in-BadAt
-returns-in-BadAt c = settles_bad c.in-BadAt.is
-
-pub returns-in-Grammatical : goal.returns-in-Grammatical
-returns-in-Grammatical c = settles_file c.in-Count.is c.requires c.parse-parsing.ensures c.in-Grammatical.is
-
-pub returns-else-i-n : goal.returns-else-i-n
-returns-else-i-n c = settles_ended c.in-Count.is c.requires c.parse-parsing.ensures c.in-UngrammaticalAt.is c.if-i-n.false
+pub returns-in-Err-2 : goal.returns-in-Err-2
+returns-in-Err-2 c = settles_ended c.requires.0 c.parse.ensures c.in-Err.is c.if-unfit-count.false

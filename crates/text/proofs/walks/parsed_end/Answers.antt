@@ -1,8 +1,6 @@
-use Rattle.std.proofs.Common.{refl, arith}
-use Rattle.text.specs.definitions.Grammar.{expression_reader}
+-- What is left of `parsed_end`.
 use Rattle.text.proofs.steps.EndLaws.{answer_ends}
 use Rattle.text.proofs.walks.parsed_end.Goals as goal
 
 pub returns : goal.returns
-unfolding expression_reader
-returns c = answer_ends (omega arith) refl c.expression.ensures c.end_of.ensures.onward c.end_of.ensures.ends
+returns c = answer_ends c.expression.result c.expression.ensures c.unwrap_or.ensures
