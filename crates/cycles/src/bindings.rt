@@ -16,6 +16,7 @@ use crate::layout::ALL_RANGE_ROWS;
 use crate::quiescence::tried_rules;
 use crate::rules::Rules;
 use crate::store::{Store, Stores};
+use crate::world::Worlds;
 use cell_sets::has_bit;
 use checking::layout::{
     ENTITY_COUNT_ROW, ENTITY_INTERFACE_ROWS, MOST_ENTITIES, MOST_ENTITIES_8, MOST_INTERFACES_8,
@@ -100,23 +101,17 @@ struct Trial<'a> {
     guards: &'a Guards,
 }
 
-// The rule, for every binding that has b's entities for the first `level` variables. Its guards save those that would write nothing.
-fn bind(
-    rules: &Rules<'_>,
-    stores: &Stores<'_>,
-    trial: &Trial<'_>,
-    level: u8,
-    b: Binding,
-    area: &mut [u8],
-)
+// The rule, for every binding that has the entities of its first `level` variables. Its guards save those that would write nothing.
+fn bind(worlds: &Worlds<'_, '_>, trial: &Trial<'_>, level: u8, area: &mut [u8])
     requires in_bounds { Evaluation.MOST_PENDING_BYTES ≤ length area.old }
-    requires ranges { Ranges rules.now.columns.d.now stores.now.current.flags (get_or rules.now.columns.d.now Directory.ENTITY_COUNT_ROW 0) trial.now.ranges.now }
-    requires guards_found { GuardsFound rules.now.columns.classes.now rules.now.references.now (get_or rules.now.columns.d.now (rule_row trial.now.k) 0 + 1) trial.now.guards.now.items }
-    ensures { BindingsWritten rules.now stores.now.current stores.now.previous trial.now.k level b area.old area.new }
+    requires ranges { Ranges worlds.now.rules.now.columns.d.now worlds.now.stores.now.current.flags (get_or worlds.now.rules.now.columns.d.now Directory.ENTITY_COUNT_ROW 0) trial.now.ranges.now }
+    requires guards_found { GuardsFound worlds.now.rules.now.columns.classes.now worlds.now.rules.now.references.now (get_or worlds.now.rules.now.columns.d.now (rule_row trial.now.k) 0 + 1) trial.now.guards.now.items }
+    ensures { BindingsWritten worlds.now.rules.now worlds.now.stores.now.current worlds.now.stores.now.previous trial.now.k level worlds.now.b area.old area.new }
 {
+    let Worlds { rules, b, stores } = *worlds;
     if is_complete(rules, trial.k, level) {
         let at = rules.row(RULE_ROWS + (trial.k as usize)) + 1;
-        rule_at(rules, b, stores, at, area);
+        rule_at(worlds, at, area);
         return;
     }
     let face = rules.scope(SCOPE_ROWS * (trial.k as usize) + 1 + (level as usize));
@@ -134,17 +129,16 @@ fn bind(
         Range { first, end },
         &mut marks,
     );
-    let candidates = Candidates {
-        b,
-        level,
-        first,
-        end,
-    };
-    narrow(rules, stores, trial.guards, candidates, &mut marks);
+    let candidates = Candidates { level, first, end };
+    narrow(worlds, trial.guards, candidates, &mut marks);
     for e in first..end {
-        let with = with_entity(b, level, e);
+        let with = Worlds {
+            rules: &*rules,
+            b: with_entity(b, level, e),
+            stores: &*stores,
+        };
         if marks[e as usize] {
-            bind(rules, stores, trial, level + 1, with, area);
+            bind(&with, trial, level + 1, area);
         }
     }
 }
@@ -170,7 +164,6 @@ fn try_rules(rules: &Rules<'_>, stores: &Stores<'_>, set: u64, area: &mut [u8])
     if MOST_RULES < n {
         return;
     }
-    let none = Binding { entities: 0 };
     let entities = rules.row(ENTITY_COUNT_ROW);
     if MOST_ENTITIES < entities {
         return;
@@ -188,7 +181,12 @@ fn try_rules(rules: &Rules<'_>, stores: &Stores<'_>, set: u64, area: &mut [u8])
             ranges: &ranges,
             guards: &guards,
         };
-        bind(rules, stores, &trial, 0, none, area);
+        let none = Worlds {
+            rules: &*rules,
+            b: Binding { entities: 0 },
+            stores: &*stores,
+        };
+        bind(&none, &trial, 0, area);
     }
 }
 

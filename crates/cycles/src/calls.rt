@@ -7,12 +7,11 @@ ghost use Rattle.cycles.specs.inner_contracts.Evaluation;
 ghost use Rattle.cycles.specs.inner_contracts.Evaluation.{PriorityRead, CallPuts, CallsPut, Writes};
 ghost use Rattle.checking.specs.definitions.PriorityFaults;
 
-use crate::conditions::{both, condition, filter, target_end};
-use crate::evaluate::{Binding, bound, put};
+use crate::conditions::{condition, filter, target_end};
+use crate::evaluate::{bound, put};
 use crate::expressions::expression;
 use crate::rules::Rules;
-use crate::store::Stores;
-use crate::world::World;
+use crate::world::{World, Worlds};
 use checking::layout::MOST_PRIORITY;
 use text::classes::{COMMA, RANK};
 use text::grammar::OPENERS;
@@ -27,17 +26,13 @@ fn call(world: &World<'_, '_>, priority: u8, at: usize, area: &mut [u8]) -> usiz
     let name = world.rules.skip(at);
     let opener = world.rules.skip(name);
     let x = expression(world, world.rules.skip(opener), OPENERS);
-    let v = x.value;
     let on = world.rules.skip(x.next);
     let target = world.rules.skip(on);
     let e = bound(world.b, world.rules.owner(target));
     let m = world.rules.member(name);
     let f = filter(world, e, target_end(world.rules, target), OPENERS);
-    let made = both(
-        world.store.is_present_at(e, m),
-        both(f.holds, values::is_set(v)),
-    );
-    put(area, made, priority, e, m, v);
+    let made = world.store.is_present_at(e, m) && f.value && values::is_set(x.value);
+    put(area, made, priority, e, m, x.value);
     f.next
 }
 
@@ -71,12 +66,13 @@ fn priority_at(rules: &Rules<'_>, at: usize) -> u8
 }
 
 // The rule whose tokens after `when` begin at number `at`.
-pub fn rule_at(rules: &Rules<'_>, b: Binding, stores: &Stores<'_>, at: usize, area: &mut [u8])
+pub fn rule_at(worlds: &Worlds<'_, '_>, at: usize, area: &mut [u8])
     requires { Evaluation.MOST_PENDING_BYTES ≤ length area.old }
-    ensures { Writes rules.now b stores.now.current stores.now.previous at area.old area.new }
+    ensures { Writes worlds.now.rules.now worlds.now.b worlds.now.stores.now.current worlds.now.stores.now.previous at area.old area.new }
 {
-    let c = condition(rules, b, stores, rules.priority_end(at), OPENERS);
-    if !c.holds {
+    let Worlds { rules, b, stores } = *worlds;
+    let c = condition(worlds, rules.priority_end(at), OPENERS);
+    if !c.value {
         return;
     }
     let world = World {

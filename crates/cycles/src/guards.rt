@@ -7,9 +7,7 @@ use crate::conditions::atom;
 use crate::evaluate::{Binding, bound, with_entity};
 use crate::expressions::expression;
 use crate::layout::MOST_GUARDS;
-use crate::rules::Rules;
-use crate::store::{Store, Stores};
-use crate::world::World;
+use crate::world::{World, Worlds};
 use arrayvec::ArrayVec;
 use text::grammar::OPENERS;
 
@@ -46,23 +44,22 @@ pub struct Guard {
 /// The guards of a rule. Of further ones a rule has no use.
 pub type Guards = ArrayVec<Guard, MOST_GUARDS>;
 
-/// The entities tried for variable number `level`, beside those of b: from number `first` on, below `end`.
+/// The entities tried for variable number `level`: from number `first` on, below `end`.
 #[derive(Clone, Copy)]
 pub struct Candidates {
-    pub b: Binding,
     pub level: u8,
     pub first: u8,
     pub end: u8,
 }
 
 // Takes the marks of those candidates with which the test fails.
-fn keep<F: Fn(Binding) -> bool>(marks: &mut [bool], candidates: Candidates, holds: F)
+fn keep<F: Fn(Binding) -> bool>(marks: &mut [bool], b: Binding, candidates: Candidates, holds: F)
     requires room { candidates.end ≤ length marks.old }
     requires callable { F.IsAlwaysCallable holds }
-    ensures { MarksTaken (FailsWith candidates.b candidates.level (λ with. F.post holds with false)) marks.old marks.new }
+    ensures { MarksTaken (FailsWith b candidates.level (λ with. F.post holds with false)) marks.old marks.new }
 {
     for e in candidates.first..candidates.end {
-        if marks[e as usize] && !holds(with_entity(candidates.b, candidates.level, e)) {
+        if marks[e as usize] && !holds(with_entity(b, candidates.level, e)) {
             marks[e as usize] = false;
         }
     }
@@ -70,8 +67,7 @@ fn keep<F: Fn(Binding) -> bool>(marks: &mut [bool], candidates: Candidates, hold
 
 // Takes the marks of those candidates with which the guard's cell and its expression are not equal in one store, or are, as `equal` says.
 fn keep_by_value(
-    rules: &Rules<'_>,
-    store: &Store<'_>,
+    world: &World<'_, '_>,
     candidates: Candidates,
     guard: &Guard,
     equal: bool,
@@ -79,57 +75,56 @@ fn keep_by_value(
 )
     requires { candidates.end ≤ length marks.old }
     ensures { MarksTaken
-        (ComparisonFails rules.now candidates.b candidates.level store.now guard.now equal)
+        (ComparisonFails world.now.rules.now world.now.b candidates.level world.now.store.now guard.now equal)
         marks.old marks.new }
 {
+    let World { rules, b, store } = *world;
     let owner = rules.owner(guard.name);
     let member = rules.member(guard.member);
     let at = guard.at;
     if candidates.level < guard.inner {
         // the expression has another value with each entity
-        keep(marks, candidates, |b| {
+        keep(marks, b, candidates, |b| {
             let x = expression(&World { rules, b, store }, at, OPENERS);
-            let v = x.value;
-            values::equal(store.read_cell(bound(b, owner), member), v) == equal
+            values::equal(store.read_cell(bound(b, owner), member), x.value) == equal
         });
         return;
     }
-    let world = World {
-        rules: &*rules,
-        b: candidates.b,
-        store: &*store,
-    };
-    let x = expression(&world, at, OPENERS);
-    let v = x.value;
-    keep(marks, candidates, |b| {
-        values::equal(store.read_cell(bound(b, owner), member), v) == equal
+    let x = expression(world, at, OPENERS);
+    keep(marks, b, candidates, |b| {
+        values::equal(store.read_cell(bound(b, owner), member), x.value) == equal
     });
 }
 
 // Takes the marks of those candidates with which a guard fails.
-fn narrow_by(
-    rules: &Rules<'_>,
-    stores: &Stores<'_>,
-    candidates: Candidates,
-    guard: &Guard,
-    marks: &mut [bool],
-)
+fn narrow_by(worlds: &Worlds<'_, '_>, candidates: Candidates, guard: &Guard, marks: &mut [bool])
     requires { candidates.end ≤ length marks.old }
     ensures { MarksTaken
-        (Fails rules.now candidates.b candidates.level stores.now.current stores.now.previous guard.now)
+        (Fails worlds.now.rules.now worlds.now.b candidates.level worlds.now.stores.now.current worlds.now.stores.now.previous guard.now)
         marks.old marks.new }
 {
+    let Worlds { rules, b, stores } = *worlds;
     match guard.kind {
         GuardKind::EqualNow => {
-            keep_by_value(rules, &stores.current, candidates, guard, true, marks);
+            let now = World {
+                rules,
+                b,
+                store: &stores.current,
+            };
+            keep_by_value(&now, candidates, guard, true, marks);
         }
         GuardKind::UnequalBefore => {
-            keep_by_value(rules, &stores.previous, candidates, guard, false, marks);
+            let before = World {
+                rules,
+                b,
+                store: &stores.previous,
+            };
+            keep_by_value(&before, candidates, guard, false, marks);
         }
         GuardKind::Changes => {
             let owner = rules.owner(guard.name);
             let member = rules.member(guard.member);
-            keep(marks, candidates, |b| {
+            keep(marks, b, candidates, |b| {
                 let e = bound(b, owner);
                 values::differ(
                     stores.current.read_cell(e, member),
@@ -139,28 +134,22 @@ fn narrow_by(
         }
         GuardKind::Holds => {
             let at = guard.at;
-            keep(marks, candidates, |b| {
-                atom(rules, b, stores, at, OPENERS).holds
+            keep(marks, b, candidates, |b| {
+                atom(&Worlds { rules, b, stores }, at, OPENERS).value
             });
         }
     }
 }
 
 /// Takes the marks of those candidates with which a guard of the next level fails.
-pub fn narrow(
-    rules: &Rules<'_>,
-    stores: &Stores<'_>,
-    guards: &Guards,
-    candidates: Candidates,
-    marks: &mut [bool],
-)
+pub fn narrow(worlds: &Worlds<'_, '_>, guards: &Guards, candidates: Candidates, marks: &mut [bool])
     requires { candidates.end ≤ length marks.old }
-    ensures { Narrows rules.now stores.now.current stores.now.previous candidates.b guards.now.items candidates.level candidates.first candidates.end marks.old
+    ensures { Narrows worlds.now.rules.now worlds.now.stores.now.current worlds.now.stores.now.previous worlds.now.b guards.now.items candidates.level candidates.first candidates.end marks.old
         marks.new }
 {
     for guard in guards.as_slice() {
         if guard.level as usize == candidates.level as usize + 1 {
-            narrow_by(rules, stores, candidates, guard, marks);
+            narrow_by(worlds, candidates, guard, marks);
         }
     }
 }

@@ -18,14 +18,14 @@ pub mod quiescence; // which rules are tried
 pub mod record; // sender, number and values of a record
 pub mod rows; // the fields of a row, and the header of rows
 pub mod rules; // the columns of a bench
-pub mod world; // what the parts of a rule are worked out in
 pub mod store; // a store in memory, and the one before it
+pub mod world; // what the parts of a rule are worked out in
 
 pub use bindings::all_rules;
 pub use calls::rule_at;
-pub use conditions::{Holding, condition};
+pub use conditions::condition;
 pub use evaluate::Binding;
-pub use expressions::{Valued, expression};
+pub use expressions::expression;
 pub use fresh::put_fresh_stores;
 pub use planes::{
     Plane, are_stores, cell_token, is_sort, number, plane_fits, put_number, put_plane,
@@ -33,3 +33,4 @@ pub use planes::{
 pub use rows::put_row_header;
 pub use rules::Rules;
 pub use store::{Inputs, Store, Stores};
+pub use world::{Walked, World, Worlds};

@@ -12,7 +12,6 @@ use lib.Seq.{append_snoc}
 use Rattle.values.specs.declared.Value.{Value}
 use Rattle.values.specs.declared.Kind.{Kind}
 use Rattle.values.specs.declared.Kind.TheVariants.{Wholes, Bools, Reals}
-use Rattle.values.specs.definitions.Bytes.{overwritten}
 use Rattle.values.specs.definitions.Cells.{cell_at}
 use Rattle.values.specs.definitions.Forms.{printed}
 use Rattle.values.proofs.laws.FormLaws.{printed_most}

@@ -56,7 +56,7 @@ use Rattle.cycles.specs.inner_contracts.Evaluation.{
   RulePuts,
 }
 use Rattle.cycles.proofs.steps.EvaluationLaws.{puts_append, present_located, called_at, filtered_at, target_named}
-use Rattle.cycles.proofs.steps.ConditionValues.{in_now}
+use Rattle.cycles.proofs.steps.ConditionValues.{and_assoc, in_now}
 use Rattle.cycles.proofs.steps.AvoidLaws.{expression_no_on}
 
 -- ---- one call
@@ -108,15 +108,15 @@ module _ {classes values refs : List ℕ} {b : Binding} {flags cells : List ℕ}
       ∙ ap (puts area) (ap₂ (λ d v. written_if d p priority v)
       (em ∙ ap₂ ◌&&◌ (ed ∙ present_located c.stored l) (eh ∙ ap₂ ◌&&◌ ef (eg ∙ ap is_set ev))) ev)
 
-  pub call_is : {at name opener i j on owner k next r e m : ℕ} {v : Value} {d f g h made : Bool}
+  pub call_is : {at name opener i j on owner k next r e m : ℕ} {v : Value} {d f g made : Bool}
       → Steps (length classes) at name → Steps (length classes) name opener → Steps (length classes) opener i
       → ExpressionWalk classes values refs b flags cells (expression_reader OPENERS) i v j → Steps (length classes) j on
       → Steps (length classes) on owner → r ≡ get_or refs owner 0 % 256 → e ≡ bound b r → TargetWalk classes owner k
       → FilterWalk classes values refs b flags cells e (filter_reader OPENERS) k f next
-      → d ≡ (ltb m 12 && eqb (get_or flags e 0) 1) → g ≡ is_set v → h ≡ (f && g) → made ≡ (d && h) → m ≡ get_or refs name 0 / 256 → Put area made priority e m v after
+      → d ≡ (ltb m 12 && eqb (get_or flags e 0) 1) → g ≡ (d && f) → made ≡ (g && is_set v) → m ≡ get_or refs name 0 / 256 → Put area made priority e m v after
       → CallWalk classes values refs b flags cells priority area call_reader at after next
   unfolding call_reader call_writes name_of
-  call_is {at} {name} {opener} {i} {j} {on} {owner} {k} {next} {r} {e} {m} {v} {made = made} s₁ s₂ s₃ x s₄ s₅ er ee t f ed eg eh em eref put = record {
+  call_is {at} {name} {opener} {i} {j} {on} {owner} {k} {next} {r} {e} {m} {v} {d = d} {f = held} {made = made} s₁ s₂ s₃ x s₄ s₅ er ee t f ed eg em eref put = record {
     onward = omega (arith, s₁.onward, s₂.onward, s₃.onward, x.onward, s₄.onward, s₅.onward, t.onward, f.onward);
     means = λ c l.
         expect_means c.rule.rows _ ACTION _ s₁ λ h₁ e₁.
@@ -150,7 +150,7 @@ module _ {classes values refs : List ℕ} {b : Binding} {flags cells : List ℕ}
         let tokens = c.rule.rows.tokens in
         made_is c (call_of (nth_token tokens at) (nth_token tokens name) (nth_token tokens opener) a u p) located inner.0 ((z w).filters u (record {
           owns = λ g o. filtered_at c.rule (inr word) (s₅.steps h₅) placed.shape placed.named ew g o;
-        })) ed eg eh em put) refl;
+        })) ed refl refl (em ∙ ap (λ g. g && is_set v) eg ∙ and_assoc d held (is_set v)) put) refl;
   }
 
 -- ---- further calls

@@ -78,6 +78,23 @@ pub or_joins : Joins is_or OR either_at ◌||◌
 unfolding is_or either_at holds
 or_joins = record { some_class = omega arith; yes = refl; no = λ c n. ne_eqb c OR n; holding = λ sp now previous t x y. refl }
 
+-- `d && f` and `d || f`, by whether f was asked
+pub and_asked : {d f g : Bool} → d ≡ true → g ≡ f → g ≡ (d && f)
+and_asked {f = f} e q = q ∙ ap (λ d. d && f) (sym e)
+
+pub and_not_asked : {d g : Bool} (f : Bool) → d ≡ false → g ≡ d → g ≡ (d && f)
+and_not_asked f e q = q ∙ e ∙ ap (λ d. d && f) (sym e)
+
+pub or_asked : {d f g : Bool} → d ≡ false → g ≡ f → g ≡ (d || f)
+or_asked {f = f} e q = q ∙ ap (λ d. d || f) (sym e)
+
+pub or_not_asked : {d g : Bool} (f : Bool) → d ≡ true → g ≡ d → g ≡ (d || f)
+or_not_asked f e q = q ∙ e ∙ ap (λ d. d || f) (sym e)
+
+pub and_assoc : (d f t : Bool) → ((d && f) && t) ≡ (d && (f && t))
+and_assoc true f t = refl
+and_assoc false f t = refl
+
 -- ---- targets
 
 module _ {classes : List ℕ} {at colon class : ℕ} (s : Steps (length classes) at colon) (is : class ≡ get_or classes colon 0) where
@@ -136,10 +153,10 @@ module _ {classes values refs : List ℕ} {b : Binding} {flags cells previous_fl
     module _ (n : class ≡ CHANGED → ⊥) {i next : ℕ} {z : Value} {d : Bool} (s : Steps (length classes) at i)
         (h : ExpressionWalk classes values refs b flags cells (expression_reader left) i z next) (ed : d ≡ equal x z) where
       -- whatever the values in the store before
-      pub test_is_unequal : d ≡ false → TestWalk classes values refs b flags cells previous_flags previous_cells e m (test_reader left) at false next
+      pub test_is_unequal : d ≡ false → TestWalk classes values refs b flags cells previous_flags previous_cells e m (test_reader left) at d next
       unfolding test_holds
       test_is_unequal q = test_equals left (λ q. n (is ∙ q)) s (walk_in in_now h) λ c a p u. record {
-        tests = λ o j. ap₂ ◌&&◌ (sym q ∙ ed ∙ ap₂ equal (k.reads c.rule.count c.now o c.now_stored j) u) refl;
+        tests = λ o j. q ∙ ap₂ ◌&&◌ (sym q ∙ ed ∙ ap₂ equal (k.reads c.rule.count c.now o c.now_stored j) u) refl;
       }
 
       pub test_is_equals : d ≡ true → {other : ℕ} {y w : Value} {f v : Bool} → CellRead previous_flags previous_cells e m y
@@ -160,18 +177,18 @@ module _ {classes values refs : List ℕ} {b : Binding} {flags cells previous_fl
         → Steps (length classes) from owner → TargetWalk classes owner i → r ≡ get_or refs owner 0 % 256 → e ≡ bound b r → m ≡ get_or refs name 0 / 256
         → FilterWalk classes values refs b flags cells e (filter_reader left) i f j → Steps (length classes) j o
         → TestWalk classes values refs b flags cells previous_flags previous_cells e m (test_reader left) o t next
-        → d ≡ (ltb m 12 && eqb (get_or flags e 0) 1) → g ≡ (f && t) → v ≡ (d && g)
+        → d ≡ (ltb m 12 && eqb (get_or flags e 0) 1) → g ≡ (d && f) → v ≡ (g && t)
         → ConditionWalk classes values refs b flags cells previous_flags previous_cells (clause_reader left) at v next
     unfolding holds name_of
-    clause_is {name} {from} {owner} {i} {e = e} {m = m} s₁ s₂ s₃ h er ee em k s₄ l ed eg ev =
+    clause_is {name} {from} {owner} {i} {e = e} {m = m} {f = f} {t = t} {d = d} s₁ s₂ s₃ h er ee em k s₄ l ed eg ev =
         clause_walk left s₁ s₂ s₃ (walk_in (in_stores_rows classes values refs b flags cells previous_flags previous_cells) h) (walk_in in_now k) s₄ l
-        λ c t f x p₁ p₂ p₃ q y z.
+        λ c target filter x p₁ p₂ p₃ q y z.
         let ew = ee ∙ ap (bound b) er in
-        let located : Locates c.rule.count (c.rule.spots t.name.bytes (nth_token c.rule.rows.tokens name).bytes) e m =
+        let located : Locates c.rule.count (c.rule.spots target.name.bytes (nth_token c.rule.rows.tokens name).bytes) e m =
         rw (q.named, ew, em) (sourced_at c.rule s₁ s₂ s₃ p₁ p₂ p₃ (target_named q.shape)) in
-        ev ∙ ap₂ (λ d g. d && g) (ed ∙ present_located c.now_stored located)
-        (eg ∙ ap₂ (λ f t. f && t)
-        (y.filters t (record { owns = λ u w. filtered_at c.rule (inl p₃) (s₃.steps p₃.inside) q.shape q.named ew u w }))
+        ev ∙ ap (λ g. g && t) eg ∙ and_assoc d f t ∙ ap₂ (λ d g. d && g) (ed ∙ present_located c.now_stored located)
+        (ap₂ (λ f t. f && t)
+        (y.filters target (record { owns = λ u w. filtered_at c.rule (inl p₃) (s₃.steps p₃.inside) q.shape q.named ew u w }))
         (z.tests _ located))
 
     -- ---- conditions

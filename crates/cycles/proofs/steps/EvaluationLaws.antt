@@ -1,6 +1,6 @@
 -- References, cells and writes in memory: what the evaluator's small functions give, and what a world's facts say of given tokens.
 use Prim.Native.Nat.{ℕ, ◌+◌, ◌-◌, ◌*◌, ◌/◌, ◌%◌, ◌<◌, ◌≤◌}
-use mathlib.Core.Path.{◌≡◌, refl, sym, ap, ◌∙◌}
+use mathlib.Core.Path.{◌≡◌, refl, sym, ◌∙◌}
 use mathlib.Core.List.{List, [], ◌∷◌, ◌++◌}
 use mathlib.Core.Bool.{Bool, true, false, ◌&&◌}
 use mathlib.Core.Option.{Option, none}
@@ -146,10 +146,6 @@ target_named (bare p) = p
 target_named (declares p q r) = p
 
 -- ---- loops: a turn goes on to a later token
-
-pub turn_falls : (test : ℕ → Bool) → test 0 ≡ false → (classes : List ℕ) {i j n c : ℕ} {r : Bool} → c ≡ get_or classes i 0 → r ≡ test c → r ≡ true
-    → Steps (length classes) i j → j ≤ n → length classes - n < length classes - i
-turn_falls test z classes ec er e s o = turn_less test classes z (ap test (sym ec) ∙ sym er ∙ e) s o refl
 
 pub class_turn_falls : (k : ℕ) → 0 < k → (classes : List ℕ) {i j n c : ℕ} → c ≡ get_or classes i 0 → c ≡ k
     → Steps (length classes) i j → j ≤ n → length classes - n < length classes - i

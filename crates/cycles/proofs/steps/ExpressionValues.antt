@@ -1,8 +1,9 @@
 -- The value of an expression by a walk over its tokens: one law for each place where the walk returns, and two for its loops.
-use Prim.Native.Nat.{ℕ, ◌-◌, ◌/◌, ◌%◌}
+use Prim.Native.Nat.{ℕ, ◌-◌, ◌/◌, ◌%◌, ◌<◌, ◌≤◌}
 use mathlib.Core.Path.{◌≡◌, refl, sym, ap, ◌∙◌}
 use mathlib.Core.List.{List}
-use mathlib.Core.Bool.{Bool, true, false}
+use mathlib.Core.Bool.{Bool, true, false, cond}
+use Rattle.std.specs.Prelude.{Option, Some, None}
 use lib.IntN.{pos}
 use lib.Ieee.{binary64, of_int}
 use lib.ListN.{length, get_or}
@@ -15,7 +16,8 @@ use Rattle.text.specs.definitions.Syntax.{Expression}
 use Rattle.text.specs.definitions.Readers.{Parser, halt, joined}
 use Rattle.text.specs.definitions.Grammar.{name_of, operator_of, apply_at, is_factor_operator, is_term_operator, simple_or, factor_reader, expression_reader}
 use Rattle.text.specs.inner_contracts.Walks.{nth_token, Steps}
-use Rattle.text.proofs.laws.WalkLaws.{row_class, walk_stops, chain_turns}
+use Rattle.std.proofs.lemmas.Option.{none-some, cond_some}
+use Rattle.text.proofs.laws.WalkLaws.{row_class, walk_stops, chain_turns, turn_less}
 use Rattle.text.proofs.laws.ExpressionWalks.{
   member_walk,
   leaf_member,
@@ -31,7 +33,7 @@ use Rattle.text.proofs.laws.ExpressionWalks.{
 }
 use Rattle.cycles.specs.declared.evaluate.Binding.{Binding}
 use Rattle.cycles.specs.inner_contracts.TotalMachine.{value}
-use Rattle.cycles.specs.inner_contracts.Evaluation.{bound, CellRead, in_store_rows, ExpressionYields, ExpressionWalk, ExpressionLoop}
+use Rattle.cycles.specs.inner_contracts.Evaluation.{bound, operator_if, CellRead, in_store_rows, ExpressionYields, ExpressionWalk, ExpressionLoop}
 use Rattle.cycles.proofs.steps.EvaluationLaws.{number_at, dotted_at}
 
 -- ---- what begins with no opener
@@ -108,20 +110,35 @@ pub term_operator_none : is_term_operator 0 ≡ false
 unfolding is_term_operator
 term_operator_none = refl
 
+no_operator : (test : ℕ → Bool) (class : ℕ) → operator_if test class ≡ None → test class ≡ false
+no_operator test class e = go (test class) e
+  where
+    go : (t : Bool) → cond t (Some (operator_of class)) None ≡ None → t ≡ false
+    go true e = absurd (none-some (operator_of class) (sym e))
+    go false e = refl
+
+-- a turn goes on to a later token
+pub operator_falls : (test : ℕ → Bool) → test 0 ≡ false → (classes : List ℕ) {i j n c : ℕ} {r : Option Operator} {o : Operator} → c ≡ get_or classes i 0
+    → r ≡ operator_if test c → r ≡ Some o → Steps (length classes) i j → j ≤ n → length classes - n < length classes - i
+operator_falls test z classes {c = c} {o = o} ec er e s later =
+    turn_less test classes z (ap test (sym ec) ∙ (cond_some (test c) (operator_of c) o (sym er ∙ e)).0) s later refl
+
 module _ {classes values refs : List ℕ} {b : Binding} {flags cells : List ℕ} (test : ℕ → Bool) (item : Parser Expression) where
-  module _ {whole : Parser Expression} {at : ℕ} {v : Value} {i c : ℕ} {r : Bool}
-      (g : ExpressionLoop classes values refs b flags cells whole test (joined item apply_at) at v i) (ec : c ≡ get_or classes i 0) (er : r ≡ test c) where
-    pub operators_stop : r ≡ false → ExpressionWalk classes values refs b flags cells whole at v i
+  module _ {whole : Parser Expression} {at : ℕ} {v : Value} {i c : ℕ} {r : Option Operator}
+      (g : ExpressionLoop classes values refs b flags cells whole test (joined item apply_at) at v i) (ec : c ≡ get_or classes i 0)
+      (er : r ≡ operator_if test c) where
+    pub operators_stop : r ≡ None → ExpressionWalk classes values refs b flags cells whole at v i
     operators_stop e =
         walk_stops (in_store_rows classes values refs b flags cells) (ExpressionYields classes values refs b flags cells) test (joined item apply_at) g
-        (ap test (sym ec) ∙ sym er ∙ e)
+        (ap test (sym ec) ∙ no_operator test c (sym er ∙ e))
 
-    pub operator_turns : test 0 ≡ false → r ≡ true → {d : ℕ} {o : Operator} {j n : ℕ} {x u : Value} → d ≡ get_or classes i 0 → o ≡ operator_of d
+    pub operator_turns : test 0 ≡ false → {o : Operator} → r ≡ Some o → {j n : ℕ} {x u : Value}
         → Steps (length classes) i j → ExpressionWalk classes values refs b flags cells item j x n → u ≡ operated o v x
         → ExpressionLoop classes values refs b flags cells whole test (joined item apply_at) at u n
     unfolding value apply_at
-    operator_turns z e {d} {o} {j} {n} {x} {u} ed eo s h eu =
-        let k : u ≡ operated (operator_of (get_or classes i 0)) v x = rw (← ed, ← eo) eu in
+    operator_turns z {o} e {j} {n} {x} {u} s h eu =
+        let is = cond_some (test c) (operator_of c) o (sym er ∙ e) in
+        let k : u ≡ operated (operator_of (get_or classes i 0)) v x = rw (← ec, is.1) eu in
         chain_turns (in_store_rows classes values refs b flags cells) (ExpressionYields classes values refs b flags cells) test apply_at item g z
-        (ap test (sym ec) ∙ sym er ∙ e) s h (λ c y w p ey ew.
+        (ap test (sym ec) ∙ is.0) s h (λ c y w p ey ew.
         rw (row_class c.rule.rows i p.inside, ← ey, ← ew) k)

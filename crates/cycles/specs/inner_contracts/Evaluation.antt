@@ -2,14 +2,16 @@
 -- for a store, and memory that takes writes. What it promises holds in every world for which the columns and the memory stand.
 use Rattle.std.specs.Prelude.{ℕ, ◌+◌, ◌*◌, ◌/◌, ◌%◌, ◌<◌, ◌≤◌, ◌≡◌, Bool, cond, ◌⊎◌, ltb, eqb, length, get_or, drop}
 use mathlib.Core.List.{List, [], ◌∷◌, flat_map}
+use Rattle.std.specs.Prelude as Optional
 use Rattle.std.proofs.Math.Option.{Option, none, some}
 use Rattle.std.proofs.Math.ListN.{get_elem?}
 use Rattle.values.specs.declared.Value.{Value}
+use Rattle.values.specs.declared.Operator.{Operator}
 use Rattle.values.specs.definitions.Cells.{cell_at}
 use Rattle.text.specs.definitions.Tokens.{Token, NAME, EVENT, ACTION, FROM, WITH, ON, COLON, DOT}
 use Rattle.text.specs.definitions.Syntax.{Member, Expression, Target, Filter, Test, Condition, Call, Priority, Rule, priority_given, priority_of}
 use Rattle.text.specs.definitions.Readers.{Parser, read}
-use Rattle.text.specs.definitions.Grammar.{target_reader, priority_reader, rule_after}
+use Rattle.text.specs.definitions.Grammar.{operator_of, target_reader, priority_reader, rule_after}
 use Rattle.text.specs.inner_contracts.Walks.{nth_token, Rows, Stands, Walks, Looping}
 use Rattle.writes.specs.definitions.Writes.{Write}
 use Rattle.writes.specs.inner_contracts.Pending.{pended}
@@ -119,6 +121,10 @@ pub record PriorityRead (classes values : List ℕ) (at priority : ℕ) : Type 0
   pub within : priority ≤ MOST_PRIORITY
   pub is : (w : Rows classes) → ValuesOf values w.tokens → w.low ≤ at → (k : Option Priority) (used : ℕ) → priority_reader (drop at w.tokens) ≡ read k used
       → at + used ≤ w.high → priority_given k ≤ MOST_PRIORITY → priority ≡ priority_given k
+
+-- the operator of a token's class, if that is one of those that the test says
+abbrev pub operator_if : (ℕ → Bool) → ℕ → Optional.Option Operator
+operator_if test class = cond (test class) (Optional.Some (operator_of class)) Optional.None
 
 -- ---- what the walks give
 

@@ -15,17 +15,17 @@ loop-e-init t c = search (rules, turns_begin)
 
 pub loop-e-preserved : goal.loop-e-preserved
 loop-e-preserved t c =
-    let few = incomplete_few c.args.rules.now.scopes.now c.args.trial.now.k c.args.level c.is_complete.ensures c.if-is_complete.false in
-    let marked = c.narrow.ensures.narrows c.args.rules.now.columns.d.now c.args.rules.now.scopes.now c.args.trial.now.k c.scope-face.result c.requires.guards_found (marks_mean c.mark_candidates.ensures) in
+    let few = incomplete_few c.args.worlds.now.rules.now.scopes.now c.args.trial.now.k c.args.level c.is_complete.ensures c.if-is_complete.false in
+    let marked = c.narrow.ensures.narrows c.args.worlds.now.rules.now.columns.d.now c.args.worlds.now.rules.now.scopes.now c.args.trial.now.k c.scope-face.result c.requires.guards_found (marks_mean c.mark_candidates.ensures) in
     elim c.if-marks-e.branch [
       | then-marks-e w ↦
           rw w.area-is
           (turn_takes c.args.trial.now.ranges.now c.requires.ranges c.scope-face.ensures c.class_at-end.ensures c.loop-e.invariant c.loop-e-test.true refl
-          (marked.marked _ c.loop-e.auto.e c.loop-e-test.true w.if-marks-e.true) few c.with_entity-with.ensures w.bind.ensures)
+          (marked.marked _ c.loop-e.auto.e c.loop-e-test.true w.if-marks-e.true) few c.with_entity.ensures w.bind.ensures)
       | else-marks-e w ↦
           rw w.area-is
           (turn_saved c.args.trial.now.ranges.now c.requires.ranges c.scope-face.ensures c.class_at-end.ensures c.loop-e.invariant c.loop-e-test.true
-          few c.with_entity-with.ensures (marked.unmarked _ c.loop-e.auto.e c.loop-e-test.true w.if-marks-e.false))
+          few c.with_entity.ensures (marked.unmarked _ c.loop-e.auto.e c.loop-e-test.true w.if-marks-e.false))
     ]
 
 pub returns : goal.returns

@@ -8,4 +8,4 @@ decreases-bind l = 3 - l.level
 
 abbrev pub invariant-loop-e : goal.invariant-loop-e
 invariant-loop-e l =
-    TurnsLeft l.rules.columns.classes.now l.rules.literals.now l.rules.columns.d.now l.rules.references.now l.rules.scopes.now l.stores.current.flags l.stores.current.cells l.stores.previous.flags l.stores.previous.cells l.trial.k l.level l.b l.fn.area l.e l.area
+    TurnsLeft l.worlds.rules.now.columns.classes.now l.worlds.rules.now.literals.now l.worlds.rules.now.columns.d.now l.worlds.rules.now.references.now l.worlds.rules.now.scopes.now l.worlds.stores.now.current.flags l.worlds.stores.now.current.cells l.worlds.stores.now.previous.flags l.worlds.stores.now.previous.cells l.trial.k l.level l.worlds.b l.fn.area l.e l.area

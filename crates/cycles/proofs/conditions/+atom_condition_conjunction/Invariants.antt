@@ -14,18 +14,18 @@ decreases-condition l = l.depth * 3 + 2
 abbrev pub decreases-conjunction : goal.decreases-conjunction
 decreases-conjunction l = l.depth * 3 + 1
 
-abbrev pub invariant-condition-loop-b : goal.invariant-condition-loop-b
-invariant-condition-loop-b l =
-    ConditionLoop l.rules.columns.classes.now l.rules.literals.now l.rules.references.now l.b l.stores.current.flags l.stores.current.cells l.stores.previous.flags l.stores.previous.cells (condition_reader l.depth) is_or
-    (joined (conjunction_reader l.depth) either_at) l.at l.left l.i
+abbrev pub invariant-condition-loop-right : goal.invariant-condition-loop-right
+invariant-condition-loop-right l =
+    ConditionLoop l.worlds.rules.now.columns.classes.now l.worlds.rules.now.literals.now l.worlds.rules.now.references.now l.worlds.b l.worlds.stores.now.current.flags l.worlds.stores.now.current.cells l.worlds.stores.now.previous.flags l.worlds.stores.now.previous.cells (condition_reader l.depth) is_or
+    (joined (conjunction_reader l.depth) either_at) l.at l.left.value l.left.next
 
-abbrev pub decreases-condition-loop-b : goal.decreases-condition-loop-b
-decreases-condition-loop-b l = length l.rules.columns.classes.now - l.i
+abbrev pub decreases-condition-loop-right : goal.decreases-condition-loop-right
+decreases-condition-loop-right l = length l.worlds.rules.now.columns.classes.now - l.left.next
 
-abbrev pub invariant-conjunction-loop-b : goal.invariant-conjunction-loop-b
-invariant-conjunction-loop-b l =
-    ConditionLoop l.rules.columns.classes.now l.rules.literals.now l.rules.references.now l.b l.stores.current.flags l.stores.current.cells l.stores.previous.flags l.stores.previous.cells (conjunction_reader l.depth) is_and
-    (joined (atom_reader l.depth) both_at) l.at l.left l.i
+abbrev pub invariant-conjunction-loop-right : goal.invariant-conjunction-loop-right
+invariant-conjunction-loop-right l =
+    ConditionLoop l.worlds.rules.now.columns.classes.now l.worlds.rules.now.literals.now l.worlds.rules.now.references.now l.worlds.b l.worlds.stores.now.current.flags l.worlds.stores.now.current.cells l.worlds.stores.now.previous.flags l.worlds.stores.now.previous.cells (conjunction_reader l.depth) is_and
+    (joined (atom_reader l.depth) both_at) l.at l.left.value l.left.next
 
-abbrev pub decreases-conjunction-loop-b : goal.decreases-conjunction-loop-b
-decreases-conjunction-loop-b l = length l.rules.columns.classes.now - l.i
+abbrev pub decreases-conjunction-loop-right : goal.decreases-conjunction-loop-right
+decreases-conjunction-loop-right l = length l.worlds.rules.now.columns.classes.now - l.left.next

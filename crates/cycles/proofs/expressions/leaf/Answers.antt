@@ -4,27 +4,23 @@ use Rattle.text.proofs.laws.ExpressionWalks.{leaf_end}
 use Rattle.std.proofs.Common.{arith}
 use Rattle.cycles.proofs.expressions.leaf.Goals as goal
 
-pub returns-then-size-at : goal.returns-then-size-at
-returns-then-size-at c = leaf_end (omega arith)
+pub returns-then-len-at : goal.returns-then-len-at
+returns-then-len-at c = leaf_end (omega (arith, c.len.ensures))
 
-pub returns-then-class-eq-NAME : goal.returns-then-class-eq-NAME
-returns-then-class-eq-NAME c = leaf_cell c.class_at-class.ensures c.if-class-eq-NAME.true c.skip-next.ensures c.skip-name.ensures c.skip.ensures c.member_value.ensures
+pub returns-in-0 : goal.returns-in-0
+returns-in-0 c = leaf_cell c.class_at.ensures c.in-0.is c.skip-next.ensures c.skip-name.ensures c.skip.ensures c.member_value.ensures
 
-pub returns-then-class-eq-TRUE : goal.returns-then-class-eq-TRUE
-returns-then-class-eq-TRUE c = leaf_is_true c.class_at-class.ensures c.if-class-eq-TRUE.true c.skip-next.ensures
+pub returns-in-19 : goal.returns-in-19
+returns-in-19 c = leaf_is_true c.class_at.ensures c.in-19.is c.skip-next.ensures
 
-pub returns-then-class-eq-FALSE : goal.returns-then-class-eq-FALSE
-returns-then-class-eq-FALSE c = leaf_is_false c.class_at-class.ensures c.if-class-eq-FALSE.true c.skip-next.ensures
+pub returns-in-20 : goal.returns-in-20
+returns-in-20 c = leaf_is_false c.class_at.ensures c.in-20.is c.skip-next.ensures
 
-pub returns-then-class-eq-WHOLE_NUMBER : goal.returns-then-class-eq-WHOLE_NUMBER
-returns-then-class-eq-WHOLE_NUMBER c = leaf_is_whole c.class_at-class.ensures c.if-class-eq-WHOLE_NUMBER.true c.skip-next.ensures c.value_at.ensures c.whole_literal.ensures
+pub returns-in-1 : goal.returns-in-1
+returns-in-1 c = leaf_is_whole c.class_at.ensures c.in-1.is c.skip-next.ensures c.value_at.ensures c.whole_literal.ensures
 
-pub returns-then-class-eq-REAL_NUMBER : goal.returns-then-class-eq-REAL_NUMBER
-returns-then-class-eq-REAL_NUMBER c =
-    leaf_is_real c.class_at-class.ensures c.if-class-eq-REAL_NUMBER.true c.skip-next.ensures c.value_at-then-class-eq-REAL_NUMBER.ensures
-    c.real_literal.ensures
+pub returns-in-2 : goal.returns-in-2
+returns-in-2 c = leaf_is_real c.class_at.ensures c.in-2.is c.skip-next.ensures c.value_at-in-2.ensures c.real_literal.ensures
 
-pub returns : goal.returns
-returns c =
-    leaf_is_other c.class_at-class.ensures c.if-class-eq-NAME.false c.if-class-eq-TRUE.false c.if-class-eq-FALSE.false c.if-class-eq-WHOLE_NUMBER.false
-    c.if-class-eq-REAL_NUMBER.false
+pub returns-in_default : goal.returns-in_default
+returns-in_default c = leaf_is_other c.class_at.ensures (omega arith) (omega arith) (omega arith) (omega arith) (omega arith)
