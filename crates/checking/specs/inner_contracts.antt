@@ -13,7 +13,6 @@ pub mod Sequences
 pub mod DeclarationWalk
 pub mod RuleWalk
 pub mod RuleParts
-pub mod Called
 pub mod CheckedBench
 pub mod PriorityScan
 pub mod FileWalk

@@ -12,7 +12,7 @@ use crate::directory::build;
 use crate::entities::{entity_faults, link_entities};
 use crate::faults::{Fault, Faults, earlier};
 use crate::interfaces::interface_faults;
-use crate::layout::{DIRECTORY, MOST_BYTES, MOST_RULES, RULE_COUNT_ROW, RULE_ROWS};
+use crate::layout::{DIRECTORY, MOST_BYTES, RULE_ROWS};
 use crate::priorities::priority_fault;
 use crate::rules::rule_faults;
 use text::{SyntaxError, read};
@@ -33,15 +33,9 @@ pub enum Checked {
 fn rules_faults(columns: &Columns<'_>) -> Faults
     ensures { of_file RulesFound columns.now result }
 {
-    let count = columns.row(RULE_COUNT_ROW);
     let mut found = Faults::NONE;
-    let mut k = 0;
-    while k < MOST_RULES {
-        if count <= k {
-            return found;
-        }
+    for k in 0..columns.rules() {
         found = found.join(rule_faults(columns, columns.row(RULE_ROWS + k)));
-        k += 1;
     }
     found
 }

@@ -1,18 +1,17 @@
 // The columns of a token table with the text they stand for, and the directory of its file, lent together; and what they say.
-ghost use Rattle.std.specs.Prelude.{◌≡◌, ◌<◌, ◌≤◌, length, get_or};
+ghost use Rattle.std.specs.Prelude.{◌≡◌, ◌<◌, ◌≤◌, min, length, get_or};
 ghost use Rattle.std.proofs.Math.ListN.{get_elem?};
 ghost use Rattle.values.specs.definitions.Bytes.{same_bytes};
 ghost use Rattle.checking.specs.definitions.CountFaults;
 ghost use Rattle.checking.specs.inner_contracts.Directory;
 ghost use Rattle.checking.specs.inner_contracts.Directory.{sort_class, interface_number};
-ghost use Rattle.checking.specs.inner_contracts.Directory.{entity_number, member_number};
-ghost use Rattle.checking.specs.inner_contracts.DirectoryReads.{FirstNamed, NumberOf, MemberRow, MemberPart, FewMembers};
-ghost use Rattle.checking.specs.inner_contracts.Called.{FirstCalled};
+ghost use Rattle.checking.specs.inner_contracts.Directory.{entity_number, member_number, member_count_row};
+ghost use Rattle.checking.specs.inner_contracts.DirectoryReads.{FirstNamed, Numbered, MemberRow, MemberPart, FewMembers};
 ghost use Rattle.checking.specs.inner_contracts.OfColumns.{name_of, of_names};
 
 use crate::layout::{
-    ENTITY_COUNT_ROW, ENTITY_ROWS_32, INTERFACE_COUNT_ROW, INTERFACE_ROWS_32, MEMBER_COUNT_ROWS,
-    MEMBER_ROWS_32, MOST_ENTITIES_8, MOST_INTERFACES_8, MOST_MEMBERS_8, MOST_MEMBERS_32, NO_MEMBER,
+    ENTITY_COUNT_ROW, ENTITY_ROWS, INTERFACE_COUNT_ROW, INTERFACE_ROWS, MEMBER_COUNT_ROWS,
+    MEMBER_ROWS, MOST_ENTITIES, MOST_INTERFACES, MOST_MEMBERS, MOST_RULES, RULE_COUNT_ROW,
 };
 use crate::table;
 use text::walks;
@@ -96,128 +95,75 @@ impl<'a> Columns<'a> {
         same_bytes(self.name(i), self.name(j))
     }
 
-    /// The first of the directory's items, so many rows from `base` on, whose name is that of token number i; `most` if there is none.
-    #[tactic(auto, using(crate::proofs::laws::DirectoryLaws::items_passed))]
-    pub fn first_named(&self, base: u32, count: usize, most: u8, i: usize) -> usize
-        ensures { of_names FirstNamed self.now base count most i result }
+    /// How many interfaces the directory has: 16 at most, even if its row says more.
+    pub fn interfaces(&self) -> usize
+        ensures { result ≡ min (get_or self.now.d.now Directory.INTERFACE_COUNT_ROW 0) CountFaults.MOST_INTERFACES }
     {
-        let from = base as usize;
-        let top = most as usize;
-        let mut k = 0;
-        while k < top {
-            if count <= k {
-                return top;
-            }
-            if self.same_name(i, self.row(from + k) + 1) {
-                return k;
-            }
-            k += 1;
-        }
-        top
+        self.row(INTERFACE_COUNT_ROW).min(MOST_INTERFACES)
     }
 
-    /// The interface that token number i names; NO_INTERFACE if there is none.
-    pub fn interface_number(&self, i: usize) -> usize
-        ensures { of_names NumberOf self.now Directory.NO_INTERFACE
-            (λ f. length f.interfaces ≤ CountFaults.MOST_INTERFACES)
-            (λ f. interface_number f (name_of self.now i)) result }
+    /// How many members interface number `face` has in the directory, in the same way 12 at most.
+    pub fn members(&self, face: usize) -> usize
+        requires { face < 65536 }
+        ensures { result ≡ min (get_or self.now.d.now (member_count_row face) 0) CountFaults.MOST_MEMBERS }
     {
-        self.first_named(
-            INTERFACE_ROWS_32,
-            self.row(INTERFACE_COUNT_ROW),
-            MOST_INTERFACES_8,
-            i,
-        )
+        self.row(MEMBER_COUNT_ROWS + face).min(MOST_MEMBERS)
     }
 
-    /// The entity that token number i names; NO_ENTITY if there is none.
-    pub fn entity_number(&self, i: usize) -> usize
-        ensures { of_names NumberOf self.now Directory.NO_ENTITY
-            (λ f. length f.entities ≤ CountFaults.MOST_ENTITIES)
-            (λ f. entity_number f (name_of self.now i)) result }
+    /// How many entities the directory has, 32 at most.
+    pub fn entities(&self) -> usize
+        ensures { result ≡ min (get_or self.now.d.now Directory.ENTITY_COUNT_ROW 0) CountFaults.MOST_ENTITIES }
     {
-        self.first_named(
-            ENTITY_ROWS_32,
-            self.row(ENTITY_COUNT_ROW),
-            MOST_ENTITIES_8,
-            i,
-        )
+        self.row(ENTITY_COUNT_ROW).min(MOST_ENTITIES)
     }
 
-    /// The member of interface number `face` that token number i names; NO_MEMBER if there is none.
-    pub fn member_number(&self, face: usize, i: usize) -> usize
-        ensures { of_names NumberOf self.now Directory.NO_MEMBER (FewMembers face)
-            (λ f. member_number (get_elem? f.interfaces face) (name_of self.now i)) result }
+    /// How many rules the directory has, 64 at most.
+    pub fn rules(&self) -> usize
+        ensures { result ≡ min (get_or self.now.d.now Directory.RULE_COUNT_ROW 0) CountFaults.MOST_RULES }
     {
-        if self.row(INTERFACE_COUNT_ROW) <= face {
-            return NO_MEMBER;
-        }
-        let base = MEMBER_ROWS_32 + (face as u32) * MOST_MEMBERS_32;
-        self.first_named(base, self.row(MEMBER_COUNT_ROWS + face), MOST_MEMBERS_8, i)
+        self.row(RULE_COUNT_ROW).min(MOST_RULES)
     }
 
-    /// The first of the directory's items, so many rows from `base` on, that is called so; `most` if there is none.
+    /// The first of `count` items of the directory, in the rows from `base` on, that has this name.
     #[tactic(auto, using(crate::proofs::laws::CalledLaws::items_passed))]
-    fn first_called(&self, base: u32, count: usize, most: u8, called: &[u8]) -> usize
-        ensures { of_names FirstCalled self.now base count most called.now result }
+    pub(crate) fn first_named(&self, base: usize, count: usize, name: &[u8]) -> Option<usize>
+        requires { (base < 4294967296) × (count < 65536) }
+        ensures { of_names FirstNamed self.now base count name.now result }
     {
-        let from = base as usize;
-        let top = most as usize;
-        let mut k = 0;
-        while k < top {
-            if count <= k {
-                return top;
+        for k in 0..count {
+            if same_bytes(name, self.name(self.row(base + k) + 1)) {
+                return Some(k);
             }
-            if same_bytes(called, self.name(self.row(from + k) + 1)) {
-                return k;
-            }
-            k += 1;
         }
-        top
+        None
     }
 
-    /// The interface that is called so; NO_INTERFACE if there is none.
-    pub fn interface_called(&self, called: &[u8]) -> usize
-        ensures { of_names NumberOf self.now Directory.NO_INTERFACE
+    /// The number of the interface of this name.
+    pub fn interface(&self, name: &[u8]) -> Option<usize>
+        ensures { of_names Numbered self.now Directory.NO_INTERFACE
             (λ f. length f.interfaces ≤ CountFaults.MOST_INTERFACES)
-            (λ f. interface_number f called.now) result }
+            (λ f. interface_number f name.now) result }
     {
-        self.first_called(
-            INTERFACE_ROWS_32,
-            self.row(INTERFACE_COUNT_ROW),
-            MOST_INTERFACES_8,
-            called,
-        )
+        self.first_named(INTERFACE_ROWS, self.interfaces(), name)
     }
 
-    /// The entity that is called so; NO_ENTITY if there is none.
-    pub fn entity_called(&self, called: &[u8]) -> usize
-        ensures { of_names NumberOf self.now Directory.NO_ENTITY
+    /// The number of the entity of this name.
+    pub fn entity(&self, name: &[u8]) -> Option<usize>
+        ensures { of_names Numbered self.now Directory.NO_ENTITY
             (λ f. length f.entities ≤ CountFaults.MOST_ENTITIES)
-            (λ f. entity_number f called.now) result }
+            (λ f. entity_number f name.now) result }
     {
-        self.first_called(
-            ENTITY_ROWS_32,
-            self.row(ENTITY_COUNT_ROW),
-            MOST_ENTITIES_8,
-            called,
-        )
+        self.first_named(ENTITY_ROWS, self.entities(), name)
     }
 
-    /// The member of interface number `face` that is called so; NO_MEMBER if there is none.
-    pub fn member_called(&self, face: usize, called: &[u8]) -> usize
-        ensures { of_names NumberOf self.now Directory.NO_MEMBER (FewMembers face)
-            (λ f. member_number (get_elem? f.interfaces face) called.now) result }
+    /// The number of the member of this name in interface number `face`, if there is that interface.
+    pub fn member(&self, face: usize, name: &[u8]) -> Option<usize>
+        ensures { of_names Numbered self.now Directory.NO_MEMBER (FewMembers face)
+            (λ f. member_number (get_elem? f.interfaces face) name.now) result }
     {
         if self.row(INTERFACE_COUNT_ROW) <= face {
-            return NO_MEMBER;
+            return None;
         }
-        let base = MEMBER_ROWS_32 + (face as u32) * MOST_MEMBERS_32;
-        self.first_called(
-            base,
-            self.row(MEMBER_COUNT_ROWS + face),
-            MOST_MEMBERS_8,
-            called,
-        )
+        self.first_named(MEMBER_ROWS + face * MOST_MEMBERS, self.members(face), name)
     }
 }

@@ -11,6 +11,7 @@ use crate::columns::Columns;
 use crate::expressions::{Kinded, expression};
 use crate::faults::{Fault, FaultKind, Faults, earlier, unless};
 use crate::kinds::kinds_fit;
+use crate::layout::NO_INTERFACE;
 use crate::meanings::{cell_of, declared, meaning_of};
 use text::classes::{ACTION, AND, ATTRIBUTE, CHANGED, COLON, COMMA, EVENT, OR, ROUND_OPEN, WITH};
 use text::grammar::OPENERS;
@@ -86,18 +87,19 @@ fn target_place(columns: &Columns<'_>, start: usize, at: usize) -> Place
 {
     let size = columns.classes.len();
     let owner = meaning_of(columns, start, at);
+    let face = owner.unwrap_or(NO_INTERFACE);
     let colon = skip(at, size);
     if columns.class_at(colon) != COLON {
         return Place {
             next: colon,
-            face: owner.face,
-            fault: unless(owner.known, FaultKind::Unknown, columns.offset(at)),
+            face,
+            fault: unless(owner.is_some(), FaultKind::Unknown, columns.offset(at)),
         };
     }
     let name = skip(colon, size);
     Place {
         next: skip(name, size),
-        face: owner.face,
+        face,
         fault: declared(columns, at, name),
     }
 }

@@ -1,8 +1,12 @@
 // The entities of a file: each one's interface by its number, and the faults of their names and kinds.
-ghost use Rattle.std.specs.Prelude.{◌≡◌};
-ghost use Rattle.checking.specs.inner_contracts.DeclarationWalk.{EntitiesLinked, AssignmentEnd, Sets, AttributeMember};
+ghost use Rattle.checking.specs.inner_contracts.DeclarationWalk.{EntitiesLinked, AssignmentEnd, Sets};
 ghost use Rattle.checking.specs.inner_contracts.DeclarationWalk.{AttributeFound, KindFound, AssignmentsFound, UnsetFound, EntityFound};
 ghost use Rattle.checking.specs.inner_contracts.DeclarationWalk.{EntitiesFound};
+ghost use Rattle.std.specs.Prelude.{◌<◌, IfSome, unwrap_or};
+ghost use Rattle.checking.specs.definitions.CountFaults;
+ghost use Rattle.checking.specs.definitions.Scope.{is_attribute};
+ghost use Rattle.checking.specs.inner_contracts.Directory;
+ghost use Rattle.checking.specs.inner_contracts.DirectoryReads.{MemberPart};
 ghost use Rattle.checking.specs.inner_contracts.OfColumns.{of_file, of_tokens};
 
 use crate::columns::Columns;
@@ -10,9 +14,8 @@ use crate::faults::{Fault, FaultKind, Faults, earlier, unless};
 use crate::interfaces::repeated;
 use crate::kinds::{kinds_fit, literal_kind};
 use crate::layout::{
-    DIRECTORY, ENTITY_COUNT_ROW, ENTITY_INTERFACE_ROWS, ENTITY_ROWS, ENTITY_ROWS_32,
-    INTERFACE_COUNT_ROW, INTERFACE_ROWS_32, MEMBER_COUNT_ROWS, MOST_ENTITIES, MOST_ENTITIES_8,
-    MOST_INTERFACES_8, MOST_MEMBERS, NO_INTERFACE, NO_MEMBER,
+    DIRECTORY, ENTITY_COUNT_ROW, ENTITY_INTERFACE_ROWS, ENTITY_ROWS, INTERFACE_COUNT_ROW,
+    INTERFACE_ROWS, MOST_ENTITIES, NO_INTERFACE,
 };
 use crate::table::row;
 use text::classes;
@@ -26,14 +29,8 @@ pub fn link_entities(text: &[u8], classes: &[u8], offsets: &[u16], lengths: &[u8
     if d.len() < DIRECTORY {
         return;
     }
-    let count = row(d, ENTITY_COUNT_ROW);
-    let interfaces = row(d, INTERFACE_COUNT_ROW);
-    let mut e = 0;
-    while e < MOST_ENTITIES {
-        if count <= e {
-            return;
-        }
-        let i = row(d, ENTITY_ROWS + e) + 3;
+    let count = row(d, ENTITY_COUNT_ROW).min(MOST_ENTITIES);
+    for e in 0..count {
         let columns = Columns {
             text,
             classes,
@@ -41,9 +38,9 @@ pub fn link_entities(text: &[u8], classes: &[u8], offsets: &[u16], lengths: &[u8
             lengths,
             d,
         };
-        let face = columns.first_named(INTERFACE_ROWS_32, interfaces, MOST_INTERFACES_8, i);
-        d[ENTITY_INTERFACE_ROWS + e] = face as u16;
-        e += 1;
+        let name = columns.name(columns.row(ENTITY_ROWS + e) + 3);
+        let interface = columns.first_named(INTERFACE_ROWS, columns.interfaces(), name);
+        d[ENTITY_INTERFACE_ROWS + e] = interface.unwrap_or(NO_INTERFACE) as u16;
     }
 }
 
@@ -96,46 +93,46 @@ fn sets(columns: &Columns<'_>, from: usize, to: usize, i: usize) -> bool
 }
 
 // Is member number m of interface number `face` an attribute?
-#[tactic(auto, using(crate::proofs::laws::AssignmentLaws::no_attribute, crate::proofs::laws::AssignmentLaws::attribute_told))]
+#[tactic(auto, using(crate::proofs::laws::AssignmentLaws::attribute_told))]
 fn is_attribute(columns: &Columns<'_>, face: usize, m: usize) -> bool
-    ensures { AttributeMember columns.now.classes.now columns.now.d.now face m result }
+    ensures { MemberPart columns.now.classes.now columns.now.d.now face m (λ x. is_attribute x.sort) result }
 {
-    if NO_MEMBER <= m {
-        return false;
-    }
     columns.member_sort(face, m) == classes::ATTRIBUTE
 }
 
-// The fault of the name at token number q, member number m, if it is no attribute of interface number `face`.
-#[tactic(auto, using(crate::proofs::laws::AssignmentLaws::attribute_unasked, crate::proofs::laws::AssignmentLaws::attribute_asked), unfolding(crate::specs::inner_contracts::FoundFaults::found_as))]
-fn attribute_fault(columns: &Columns<'_>, face: usize, m: usize, q: usize) -> Option<Fault>
-    ensures { AttributeFound columns.now.classes.now columns.now.offsets.now columns.now.d.now face m q result }
+// The fault of the name at token number q, of member number m if it is one, if it is no attribute of interface number `face`.
+fn attribute_fault(columns: &Columns<'_>, face: usize, m: Option<usize>, q: usize) -> Option<Fault>
+    requires { IfSome m (λ k. k < Directory.NO_MEMBER) }
+    ensures { AttributeFound columns.now.classes.now columns.now.offsets.now columns.now.d.now face (unwrap_or m Directory.NO_MEMBER) q result }
 {
     if columns.row(INTERFACE_COUNT_ROW) <= face {
         return None;
     }
     let at = columns.offset(q);
-    unless(is_attribute(columns, face, m), FaultKind::Unknown, at)
+    match m {
+        Some(m) => unless(is_attribute(columns, face, m), FaultKind::Unknown, at),
+        None => unless(false, FaultKind::Unknown, at),
+    }
 }
 
 // The fault at the `=` of an assignment to member number m, if its literal, which ends at token number `last`, has another kind.
-#[tactic(auto, using(crate::proofs::laws::AssignmentLaws::kind_unasked, crate::proofs::laws::AssignmentLaws::kind_asked), unfolding(crate::specs::inner_contracts::FoundFaults::found_as))]
 fn kind_fault(
     columns: &Columns<'_>,
     face: usize,
-    m: usize,
+    m: Option<usize>,
     equals: usize,
     last: usize,
 ) -> Option<Fault>
-    ensures { KindFound columns.now.classes.now columns.now.offsets.now columns.now.d.now face m equals last result }
+    requires { IfSome m (λ k. k < Directory.NO_MEMBER) }
+    ensures { KindFound columns.now.classes.now columns.now.offsets.now columns.now.d.now face (unwrap_or m Directory.NO_MEMBER) equals last result }
 {
-    if NO_MEMBER <= m {
-        return None;
-    }
-    let kind = Some(columns.member_kind(face, m));
+    let kind = Some(columns.member_kind(face, m?));
     let given = Some(literal_kind(columns.class_at(last)));
-    let at = columns.offset(equals);
-    unless(kinds_fit(kind, given), FaultKind::UnfitKinds, at)
+    unless(
+        kinds_fit(kind, given),
+        FaultKind::UnfitKinds,
+        columns.offset(equals),
+    )
 }
 
 // The assignments from token number `from` on, of an entity with interface number `face`.
@@ -159,7 +156,7 @@ fn assignment_faults(columns: &Columns<'_>, face: usize, from: usize) -> Assigne
         let at = columns.offset(q);
         let before = sets(columns, from, q, q);
         again = earlier(again, unless(!before, FaultKind::DeclaredAgain, at));
-        let m = columns.member_number(face, q);
+        let m = columns.member(face, columns.name(q));
         members = earlier(members, attribute_fault(columns, face, m, q));
         let last = assignment_end(columns.classes, q);
         kinds = earlier(kinds, kind_fault(columns, face, m, q + 1, last));
@@ -181,14 +178,7 @@ fn unset_fault(columns: &Columns<'_>, face: usize, from: usize, to: usize) -> Op
     if columns.row(INTERFACE_COUNT_ROW) <= face {
         return None;
     }
-    let count = columns.row(MEMBER_COUNT_ROWS + face);
-    let mut j = 0;
-    while j < MOST_MEMBERS {
-        if count <= j {
-            return None;
-        }
-        let m = j;
-        j += 1;
+    for m in 0..columns.members(face) {
         if !is_attribute(columns, face, m) {
             continue;
         }
@@ -206,13 +196,11 @@ fn unset_fault(columns: &Columns<'_>, face: usize, from: usize, to: usize) -> Op
 // ---- whole entities
 
 // The faults of entity number e.
-#[tactic(auto, using(crate::proofs::steps::EntityLaws::entity_beyond, crate::proofs::steps::EntityLaws::entity_told))]
+#[tactic(auto, using(crate::proofs::steps::EntityLaws::entity_told))]
 fn faults_of(columns: &Columns<'_>, e: usize) -> Faults
+    requires { e < CountFaults.MOST_ENTITIES }
     ensures { of_file EntityFound columns.now e result }
 {
-    if MOST_ENTITIES <= e {
-        return Faults::NONE;
-    }
     let p = columns.row(ENTITY_ROWS + e);
     let face = columns.row(ENTITY_INTERFACE_ROWS + e);
     let from = p + 5;
@@ -231,18 +219,13 @@ fn faults_of(columns: &Columns<'_>, e: usize) -> Faults
 pub fn entity_faults(columns: &Columns<'_>) -> Faults
     ensures { of_file EntitiesFound columns.now result }
 {
-    let count = columns.row(ENTITY_COUNT_ROW);
+    let count = columns.entities();
     let mut found = Faults {
-        names: repeated(columns, ENTITY_ROWS_32, count, MOST_ENTITIES_8),
+        names: repeated(columns, ENTITY_ROWS, count),
         kinds: None,
     };
-    let mut e = 0;
-    while e < MOST_ENTITIES {
-        if count <= e {
-            return found;
-        }
+    for e in 0..count {
         found = found.join(faults_of(columns, e));
-        e += 1;
     }
     found
 }

@@ -10,6 +10,7 @@ ghost use Rattle.checking.specs.inner_contracts.OfColumns.{of_file};
 use crate::columns::Columns;
 use crate::faults::{FaultKind, Faults, earlier, unless};
 use crate::kinds::{fits_operator, kinds_fit, number_kind, operands_fit, operated_kind, real_kind};
+use crate::layout::NO_INTERFACE;
 use crate::meanings::{cell_of, meaning_of};
 use text::classes::{
     DIVIDE, FALSE, MINUS, NAME, PLUS, REAL, REAL_NUMBER, ROUND_OPEN, TIMES, TRUE, WHOLE_NUMBER,
@@ -101,8 +102,9 @@ fn member(columns: &Columns<'_>, start: usize, at: usize) -> Kinded
     let dot = skip(at, size);
     let name = skip(dot, size);
     let owner = meaning_of(columns, start, at);
-    let member = cell_of(columns, owner.face, NAME, name);
-    let unknown = unless(owner.known, FaultKind::Unknown, columns.offset(at));
+    let face = owner.unwrap_or(NO_INTERFACE);
+    let member = cell_of(columns, face, NAME, name);
+    let unknown = unless(owner.is_some(), FaultKind::Unknown, columns.offset(at));
     Kinded {
         next: skip(name, size),
         kind: member.kind,

@@ -7,19 +7,10 @@ ghost use Rattle.checking.specs.inner_contracts.OfColumns.{name_of, of_file, of_
 
 use crate::columns::Columns;
 use crate::faults::{Fault, FaultKind, earlier, unless};
-use crate::layout::{
-    ENTITY_INTERFACE_ROWS, INTERFACE_COUNT_ROW, NO_ENTITY, NO_INTERFACE, NO_MEMBER,
-};
+use crate::layout::{ENTITY_INTERFACE_ROWS, INTERFACE_COUNT_ROW, NO_INTERFACE};
 use text::classes::{ACTION, COLON, END, EVENT, NAME};
 use text::walks::skip;
 use values::Kind;
-
-// Is it an entity or a variable of the rule, and the number of its interface; NO_INTERFACE if there is none.
-#[derive(Clone, Copy)]
-pub struct Meaning {
-    pub known: bool,
-    pub face: usize,
-}
 
 /// A member by its name: its kind, if it is there, and what is at fault in the name.
 #[derive(Clone, Copy)]
@@ -89,31 +80,22 @@ pub fn repeated(columns: &Columns<'_>, start: usize) -> Option<Fault>
     found
 }
 
-// What token number i means in the rule that begins at `start`: an entity comes before a variable of its name.
-#[tactic(auto, using(crate::proofs::steps::MeaningLaws::entity_meant))]
-pub fn meaning_of(columns: &Columns<'_>, start: usize, i: usize) -> Meaning
+/// The interface, by its number, of what token number i means in the rule that begins at `start`, where it means anything: of an entity
+/// or else of a variable of its name. NO_INTERFACE if that interface is not known.
+pub fn meaning_of(columns: &Columns<'_>, start: usize, i: usize) -> Option<usize>
     ensures { of_file Meant columns.now start i result }
 {
-    let e = columns.entity_number(i);
-    if e < NO_ENTITY {
-        return Meaning {
-            known: true,
-            face: columns.row(ENTITY_INTERFACE_ROWS + e),
-        };
+    if let Some(e) = columns.entity(columns.name(i)) {
+        return Some(columns.row(ENTITY_INTERFACE_ROWS + e));
     }
     let size = columns.classes.len();
     let n = declaration(columns, start, i);
     if size <= n {
-        return Meaning {
-            known: false,
-            face: NO_INTERFACE,
-        };
+        return None;
     }
     let colon = skip(n, size);
-    Meaning {
-        known: true,
-        face: columns.interface_number(skip(colon, size)),
-    }
+    let face = columns.interface(columns.name(skip(colon, size)));
+    Some(face.unwrap_or(NO_INTERFACE))
 }
 
 // Is a member of this sort one that is wanted: an attribute, an event, an action or, by the class of names, any?
@@ -139,8 +121,7 @@ pub fn cell_of(columns: &Columns<'_>, face: usize, want: u8, i: usize) -> Cell
     ensures { of_file CellOf columns.now face want i result }
 {
     let at = columns.offset(i);
-    let m = columns.member_number(face, i);
-    if NO_MEMBER <= m {
+    let Some(m) = columns.member(face, columns.name(i)) else {
         return Cell {
             kind: None,
             fault: unless(
@@ -149,7 +130,7 @@ pub fn cell_of(columns: &Columns<'_>, face: usize, want: u8, i: usize) -> Cell
                 at,
             ),
         };
-    }
+    };
     let fits = sort_fits(want, columns.member_sort(face, m));
     Cell {
         kind: Some(columns.member_kind(face, m)),
@@ -161,11 +142,15 @@ pub fn cell_of(columns: &Columns<'_>, face: usize, want: u8, i: usize) -> Cell
 pub fn declared(columns: &Columns<'_>, n: usize, i: usize) -> Option<Fault>
     ensures { of_names Declared columns.now n i result }
 {
-    let e = columns.entity_number(n);
-    let k = columns.interface_number(i);
-    let taken = unless(NO_ENTITY <= e, FaultKind::DeclaredAgain, columns.offset(n));
+    let entity = columns.entity(columns.name(n));
+    let interface = columns.interface(columns.name(i));
+    let taken = unless(
+        entity.is_none(),
+        FaultKind::DeclaredAgain,
+        columns.offset(n),
+    );
     earlier(
         taken,
-        unless(k < NO_INTERFACE, FaultKind::Unknown, columns.offset(i)),
+        unless(interface.is_some(), FaultKind::Unknown, columns.offset(i)),
     )
 }

@@ -8,8 +8,8 @@ ghost use Rattle.checking.specs.inner_contracts.OfColumns.{of_file, of_tokens};
 
 use crate::columns::Columns;
 use crate::layout::{
-    FIRST_VARIABLE_16, MOST_MEMBERS_16, MOST_RULES_8, NO_ENTITY, RULE_COUNT_ROW, RULE_ROWS,
-    SCOPE_ROWS,
+    FIRST_VARIABLE_16, MOST_MEMBERS_16, MOST_RULES_8, NO_INTERFACE, NO_MEMBER, RULE_COUNT_ROW,
+    RULE_ROWS, SCOPE_ROWS,
 };
 use crate::meanings::{declares, meaning_of};
 use crate::table::first_of;
@@ -66,11 +66,10 @@ fn variable_reference(columns: &Columns<'_>, start: usize, i: usize) -> u16
 fn reference(columns: &Columns<'_>, start: usize, i: usize) -> u16
     ensures { of_file Referred columns.now start i result }
 {
-    let e = columns.entity_number(i);
-    if e < NO_ENTITY {
-        return e as u16;
+    match columns.entity(columns.name(i)) {
+        Some(e) => e as u16,
+        None => variable_reference(columns, start, i),
     }
-    variable_reference(columns, start, i)
 }
 
 // The token that names what token number i is a member of, if the tokens around it say that it is one; else the count of tokens.
@@ -108,9 +107,9 @@ pub fn owner_of(classes: &[u8], i: usize) -> usize
 fn member_of(columns: &Columns<'_>, start: usize, owner: usize, i: usize) -> u16
     ensures { of_file MemberOf columns.now start owner i result }
 {
-    let m = meaning_of(columns, start, owner);
-    let face = m.face;
-    columns.member_number(face, i) as u16
+    let face = meaning_of(columns, start, owner).unwrap_or(NO_INTERFACE);
+    let member = columns.member(face, columns.name(i));
+    member.unwrap_or(NO_MEMBER) as u16
 }
 
 // Row i of the column of references, in the rule that begins at `start`.
@@ -182,7 +181,8 @@ fn interface_at(columns: &Columns<'_>, n: usize) -> u8
 {
     let size = columns.classes.len();
     let colon = skip(n, size);
-    columns.interface_number(skip(colon, size)) as u8
+    let interface = columns.interface(columns.name(skip(colon, size)));
+    interface.unwrap_or(NO_INTERFACE) as u8
 }
 
 // How many of three declarations there are, of tokens that many.

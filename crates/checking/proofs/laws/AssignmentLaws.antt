@@ -27,7 +27,6 @@ use Rattle.checking.specs.inner_contracts.DeclarationWalk.{
   literal_end,
   AssignmentEnd,
   Sets,
-  AttributeMember,
   AttributeFound,
   KindFound,
 }
@@ -149,28 +148,34 @@ attribute_class attribute = refl
 attribute_class event = refl
 attribute_class action = refl
 
-module _ {classes d : List ℕ} {face m : ℕ} where
-  pub no_attribute : 12 ≤ m → AttributeMember classes d face m false
-  no_attribute h = record { beyond = λ l. refl; is = λ l. absurd (omega arith) }
-
-  pub attribute_told : {c : ℕ} → m < 12 → MemberPart classes d face m (λ x. sort_class x.sort) c → AttributeMember classes d face m (eqb c ATTRIBUTE)
-  attribute_told {c} h k = record {
-    beyond = λ l. absurd (omega arith);
-    is = λ l text offsets lengths w i x s t. ap (λ n. eqb n ATTRIBUTE) (k.is text offsets lengths w i x s t) ∙ attribute_class x.sort;
-  }
+pub attribute_told : {classes d : List ℕ} {face m c : ℕ} → MemberPart classes d face m (λ x. sort_class x.sort) c
+    → MemberPart classes d face m (λ x. is_attribute x.sort) (eqb c ATTRIBUTE)
+attribute_told {c = c} k = record {
+  is = λ text offsets lengths w i x s t. ap (λ n. eqb n ATTRIBUTE) (k.is text offsets lengths w i x s t) ∙ attribute_class x.sort;
+}
 
 -- a member by its number: what the directory says of it
 module _ {text classes offsets lengths d : List ℕ} (w : Bench text classes offsets lengths d) (few : Few w.file) {face m : ℕ}
     (i : Interface) (s : get_elem? w.file.interfaces face ≡ some i) where
-  is_attribute_here : {b : Bool} → AttributeMember classes d face m b → (o : Option (Numbered Member))
+  is_attribute_here : {b : Bool} → m < 12 → MemberPart classes d face m (λ x. is_attribute x.sort) b → (o : Option (Numbered Member))
       → ((r : Numbered Member) → o ≡ some r → get_elem? i.members r.number ≡ some r.item) → m ≡ number_or 12 o → b ≡ is_of_sort is_attribute o
   unfolding number_or is_of_sort
-  is_attribute_here h none at e = h.beyond (omega arith)
-  is_attribute_here h (some r) at e =
+  is_attribute_here l h none at e = absurd (omega arith)
+  is_attribute_here l h (some r) at e =
       let t : get_elem? i.members m ≡ some r.item = rw e (at r refl) in
-      let l = number_below i.members m t in
+      h.is text offsets lengths w i r.item s t
+
+-- no member
+module _ {text classes offsets lengths d : List ℕ} (w : Bench text classes offsets lengths d) (few : Few w.file) (face : ℕ)
+    (i : Interface) (s : get_elem? w.file.interfaces face ≡ some i) where
+  no_attribute_here : {j : ℕ} → 12 ≤ j → (o : Option (Numbered Member))
+      → ((r : Numbered Member) → o ≡ some r → get_elem? i.members r.number ≡ some r.item) → j ≡ number_or 12 o → false ≡ is_of_sort is_attribute o
+  unfolding number_or is_of_sort
+  no_attribute_here l none at e = refl
+  no_attribute_here l (some r) at e =
+      let b = number_below i.members r.number (at r refl) in
       let n = few.members face i s in
-      h.is (omega arith) text offsets lengths w i r.item s t
+      absurd (omega arith)
 
 module _ {classes offsets d : List ℕ} {face m q interfaces : ℕ} (n : interfaces ≡ get_or d 0 0) where
   pub attribute_unasked : interfaces ≤ face → {r : Found} → found_as r ≡ none → AttributeFound classes offsets d face m q r
@@ -182,10 +187,14 @@ module _ {classes offsets d : List ℕ} {face m q interfaces : ℕ} (n : interfa
         rw z e;
   }
 
-  pub attribute_asked : face < interfaces → {b : Bool} {offset : ℕ} → AttributeMember classes d face m b → offset ≡ get_or offsets q 0 → {r : Found}
+  told_attribute : face < interfaces → {b : Bool} {offset : ℕ}
+      → ((text lengths : List ℕ) (w : Bench text classes offsets lengths d) → Few w.file → (i : Interface) → get_elem? w.file.interfaces face ≡ some i
+      → (n : Option (Numbered Member)) → ((r : Numbered Member) → n ≡ some r → get_elem? i.members r.number ≡ some r.item) → m ≡ number_or 12 n
+      → b ≡ is_of_sort is_attribute n)
+      → offset ≡ get_or offsets q 0 → {r : Found}
       → found_as r ≡ earliest (fault_unless b 16 offset) → AttributeFound classes offsets d face m q r
   unfolding member_faults member_named member_number
-  attribute_asked h {b} {offset} a o {r} e = record { is = λ text lengths w few x named k. go w few x named k (inside w) }
+  told_attribute h {b} {offset} a o {r} e = record { is = λ text lengths w few x named k. go w few x named k (inside w) }
     where
       inside : {text lengths : List ℕ} (w : Bench text classes offsets lengths d) → (i : Interface) × (get_elem? w.file.interfaces face ≡ some i)
       inside w = let c = w.directory.interfaces in number_inside w.file.interfaces face (omega arith)
@@ -197,9 +206,17 @@ module _ {classes offsets d : List ℕ} {face m q interfaces : ℕ} (n : interfa
       go w few x named k (i, s) =
           rw s
           (e ∙ unless_same 16
-          (is_attribute_here w few i s a (look_up (λ y. y.name) x.bytes i.members) (λ r t. found_at (λ y. y.name) x.bytes i.members t)
+          (a _ _ w few i s (look_up (λ y. y.name) x.bytes i.members) (λ r t. found_at (λ y. y.name) x.bytes i.members t)
           (rw s at k))
           (o ∙ column_offset w.columns named))
+
+  pub attribute_asked : face < interfaces → m < 12 → {b : Bool} {offset : ℕ} → MemberPart classes d face m (λ x. is_attribute x.sort) b
+      → offset ≡ get_or offsets q 0 → {r : Found} → found_as r ≡ earliest (fault_unless b 16 offset) → AttributeFound classes offsets d face m q r
+  attribute_asked h l a o e = told_attribute h (λ text lengths w few i s. is_attribute_here w few i s l a) o e
+
+  pub attribute_missing : face < interfaces → 12 ≤ m → {offset : ℕ} → offset ≡ get_or offsets q 0 → {r : Found}
+      → found_as r ≡ earliest (fault_unless false 16 offset) → AttributeFound classes offsets d face m q r
+  attribute_missing h l o e = told_attribute h (λ text lengths w few i s. no_attribute_here w few face i s l) o e
 
 -- ---- the kind of an assignment
 
@@ -241,13 +258,14 @@ module _ {classes offsets d : List ℕ} {face m equals last : ℕ} where
   }
 
   pub kind_asked : m < 12 → {j given : Kind} {class offset : ℕ} → MemberPart classes d face m (λ x. x.kind) j → class ≡ get_or classes last 0
-      → given ≡ literal_class class → offset ≡ get_or offsets equals 0 → {r : Found} → found_as r ≡ earliest (fault_unless (kinds_fit (some j) (some given)) 18 offset)
+      → given ≡ literal_class class → offset ≡ get_or offsets equals 0 → {fit : Bool} {r : Found} → fit ≡ kinds_fit (some j) (some given)
+      → found_as r ≡ earliest (fault_unless fit 18 offset)
       → KindFound classes offsets d face m equals last r
   unfolding assignment_kind_faults
-  kind_asked h j l g o e = record {
+  kind_asked h j l g o f e = record {
     is = λ text lengths w few a k at c.
         e ∙ unless_same 18
-        (kind_tests w few face a.name (literal_kind a.literal) h j (g ∙ ap literal_class l ∙ c) (get_elem? w.file.interfaces face) refl k) (o ∙ at);
+        (f ∙ kind_tests w few face a.name (literal_kind a.literal) h j (g ∙ ap literal_class l ∙ c) (get_elem? w.file.interfaces face) refl k) (o ∙ at);
   }
 
 -- where an assignment ends

@@ -120,46 +120,6 @@ module _ {A : Type 0} (name_of : A → Name) (n : List ℕ) (test : ℕ → Bool
       same none = refl
       same (some f) = zero_plus f.number
 
--- ---- the search among the directory's items
-
--- the first k items do not have the name
-pub record Passed (text offsets lengths d : List ℕ) (base count most i k : ℕ) : Type 0 where
-  pub within : k ≤ most
-  pub same : count ≤ most
-      → first_number (is_named text offsets lengths d base i) most k (count - k) ≡ first_number (is_named text offsets lengths d base i) most 0 count
-
-module _ {text offsets lengths d : List ℕ} {base count most i : ℕ} where
-  pub passed_none : Passed text offsets lengths d base count most i 0
-  passed_none = record {
-    within = omega arith;
-    same = λ few. let all : count - 0 ≡ count = omega arith in ap (first_number (is_named text offsets lengths d base i) most 0) all;
-  }
-
-  module _ {k : ℕ} (p : Passed text offsets lengths d base count most i k) where
-    pub passed_all : (count ≤ most → count ≤ k) → FirstNamed text offsets lengths d base count most i most
-    passed_all h = record {
-      within = omega arith;
-      first = λ few. sym (first_end (is_named text offsets lengths d base i) most k count (h few)) ∙ p.same few;
-    }
-
-    module _ (l : k < most) (m : k < count) {at : ℕ} (e : at ≡ get_or d (base + k) 0)
-        {b : Bool} (f : b ≡ same_bytes (name_in text offsets lengths i) (name_in text offsets lengths (at + 1))) where
-      tested : is_named text offsets lengths d base i k ≡ b
-      unfolding is_named
-      tested = sym (f ∙ ap (λ (q : ℕ). same_bytes (name_in text offsets lengths i) (name_in text offsets lengths (q + 1))) e)
-
-      pub passed_here : b ≡ true → FirstNamed text offsets lengths d base count most i k
-      passed_here t = record {
-        within = omega arith;
-        first = λ few. sym (first_here (is_named text offsets lengths d base i) most k count m (tested ∙ t)) ∙ p.same few;
-      }
-
-      pub passed_on : b ≡ false → Passed text offsets lengths d base count most i (k + 1)
-      passed_on t = record {
-        within = omega arith;
-        same = λ few. sym (first_later (is_named text offsets lengths d base i) most k count m (tested ∙ t)) ∙ p.same few;
-      }
-
 -- ---- tokens that stand in columns
 
 module _ {text classes offsets lengths : List ℕ} {ts : List Token} (columns : ColumnsOf text classes offsets lengths ts) where
@@ -171,18 +131,6 @@ module _ {text classes offsets lengths : List ℕ} {ts : List Token} (columns : 
   unfolding name_of
   column_offset {p} m = sym (columns.offset p m.token m.stands) ∙ ap (λ (n : Name). n.at) m.is
 
-  -- the first of the directory's items is the first item of the list
-  module _ {A : Type 0} (name : A → Name) (xs : List A) (d : List ℕ) (base most i : ℕ)
-      (rows : (k : ℕ) (x : A) → get_elem? xs k ≡ some x → Named ts (get_or d (base + k) 0 + 1) (name x)) where
-    pub first_among : {count r : ℕ} → FirstNamed text offsets lengths d base count most i r → count ≡ length xs → length xs ≤ most
-        → r ≡ number_or most (look_up name (name_in text offsets lengths i) xs)
-    unfolding is_named
-    first_among {count} f e few =
-        f.first (omega arith)
-        ∙ ap (first_number (is_named text offsets lengths d base i) most 0) e
-        ∙ number_found name (name_in text offsets lengths i) (is_named text offsets lengths d base i) most xs
-        (λ j x s. ap (same_bytes (name_in text offsets lengths i)) (column_bytes (rows j x s)))
-
 -- ---- a file that stands in the columns and the directory
 
 module _ {text classes offsets lengths d : List ℕ} (w : Bench text classes offsets lengths d) where
@@ -191,60 +139,6 @@ module _ {text classes offsets lengths d : List ℕ} (w : Bench text classes off
 
   pub class_stands : (p : ℕ) {c : ℕ} → (t : Token) × (get_elem? w.tokens p ≡ some t) × (t.class ≡ c) → get_or classes p 0 ≡ c
   class_stands p (t, s, e) = sym (w.columns.class p t s) ∙ e
-
-  -- the first of the directory's items is the first item of the file
-  module _ {A : Type 0} (name : A → Name) (xs : List A) (base most i : ℕ)
-      (rows : (k : ℕ) (x : A) → get_elem? xs k ≡ some x → Named w.tokens (get_or d (base + k) 0 + 1) (name x)) where
-    pub first_named : {count r : ℕ} → FirstNamed text offsets lengths d base count most i r → count ≡ length xs → length xs ≤ most
-        → r ≡ number_or most (look_up name (name_in text offsets lengths i) xs)
-    first_named f e few = first_among w.columns name xs d base most i rows f e few
-
-module _ {text offsets lengths d : List ℕ} where
-  pub interface_numbered : {i count r : ℕ} → count ≡ get_or d 0 0 → FirstNamed text offsets lengths d 3 count 16 i r
-      → NumberOf text offsets lengths d 16 (λ f. length f.interfaces ≤ 16) (λ f. interface_number f (name_in text offsets lengths i)) r
-  unfolding interface_number
-  interface_numbered {i} e f = record {
-    within = f.within;
-    is = λ classes w few.
-        first_named w (λ (x : Interface). x.name) w.file.interfaces 3 16 i w.directory.interface_name f (e ∙ w.directory.interfaces) few;
-  }
-
-  pub entity_numbered : {i count r : ℕ} → count ≡ get_or d 1 0 → FirstNamed text offsets lengths d 227 count 32 i r
-      → NumberOf text offsets lengths d 32 (λ f. length f.entities ≤ 32) (λ f. entity_number f (name_in text offsets lengths i)) r
-  unfolding entity_number
-  entity_numbered {i} e f = record {
-    within = f.within;
-    is = λ classes w few.
-        first_named w (λ (x : Entity). x.name) w.file.entities 227 32 i w.directory.entity_name f (e ∙ w.directory.entities) few;
-  }
-
-  module _ (i face : ℕ) {interfaces : ℕ} (n : interfaces ≡ get_or d 0 0) where
-    pub no_interface_numbered : interfaces ≤ face
-        → NumberOf text offsets lengths d 12 (FewMembers face) (λ f. member_number (get_elem? f.interfaces face) (name_in text offsets lengths i)) 12
-    unfolding member_number
-    no_interface_numbered h = record {
-      within = omega arith;
-      is = λ classes w few.
-          let c = w.directory.interfaces in
-          let z : get_elem? w.file.interfaces face ≡ none = number_beyond w.file.interfaces face (omega arith) in
-          rw z;
-    }
-
-    pub member_numbered : {count r : ℕ} → face < interfaces → count ≡ get_or d (19 + face) 0 → FirstNamed text offsets lengths d (35 + face * 12) count 12 i r
-        → NumberOf text offsets lengths d 12 (FewMembers face) (λ f. member_number (get_elem? f.interfaces face) (name_in text offsets lengths i)) r
-    unfolding member_number
-    member_numbered {count} {r} h e f = record { within = f.within; is = λ classes w few. go w few (inside w) }
-      where
-        inside : {classes : List ℕ} (w : Bench text classes offsets lengths d) → (x : Interface) × (get_elem? w.file.interfaces face ≡ some x)
-        inside w = let c = w.directory.interfaces in number_inside w.file.interfaces face (omega arith)
-
-        go : {classes : List ℕ} (w : Bench text classes offsets lengths d) → FewMembers face w.file
-            → (x : Interface) × (get_elem? w.file.interfaces face ≡ some x)
-            → r ≡ member_number (get_elem? w.file.interfaces face) (name_in text offsets lengths i)
-        go w few (x, s) =
-            rw s
-            (first_named w (λ (m : Member). m.name) x.members (35 + face * 12) 12 i (λ j m t. w.directory.member_name face j x m s t) f
-            (e ∙ w.directory.member_count face x s) (few x s))
 
 -- ---- what stands at a member
 
@@ -271,6 +165,3 @@ module _ {classes d : List ℕ} {k m at : ℕ} (h : MemberRow d k m at) where
         f x.kind
         (e ∙ ap (λ (p : ℕ). get_or classes (p + 3) 0) (row_stands w i x s t) ∙ class_stands w (get_or d (member_row k m) 0 + 3) (w.directory.member_kind k m i x s t));
   }
-
--- what the loop over the items needs
-pub ruleset items_passed = (passed_none, passed_all, passed_here, passed_on)

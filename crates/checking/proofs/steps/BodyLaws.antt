@@ -5,6 +5,8 @@ use mathlib.Core.Path.{◌≡◌, refl, sym, ap, ◌∙◌}
 use mathlib.Core.Bool.{Bool, true, false, not}
 use mathlib.Core.List.{List, [], ◌∷◌, ◌++◌, map, flat_map, map-append}
 use mathlib.Core.Option.{Option, none, some}
+use Rattle.std.specs.Prelude as code
+use Rattle.std.specs.Prelude.{unwrap_or}
 use lib.Dec.{ltb}
 use lib.ListN.{length, get_or, get_elem?}
 use borrow.Author.Tests.{ltb-true, ltb-false}
@@ -18,7 +20,7 @@ use Rattle.checking.specs.definitions.Scope.{Indexed as Numbered, here_or_later,
 use Rattle.checking.specs.definitions.NameFaults.{repeated_faults, again_faults, member_faults}
 use Rattle.checking.specs.definitions.KindFaults.{assignment_kind_faults}
 use Rattle.checking.specs.inner_contracts.Directory.{name_in, member_number}
-use Rattle.checking.specs.inner_contracts.DirectoryReads.{NumberOf, FewMembers}
+use Rattle.checking.specs.inner_contracts.DirectoryReads.{Numbered as NumberedOf, FewMembers}
 use Rattle.checking.specs.inner_contracts.Sequences.{Sequence, over}
 use Rattle.checking.specs.inner_contracts.DeclarationWalk.{AssignmentEnd, Sets, AttributeFound, KindFound, Body, AssignmentsFound}
 use Rattle.checking.proofs.laws.DirectoryLaws.{number_below, column_bytes, column_offset}
@@ -126,20 +128,21 @@ module _ {text classes offsets lengths d : List ℕ} {face from : ℕ} where
         ∙ ap (λ n. is_found (look_up (λ c. c.name) n x.before)) (column_bytes b.bench.columns a.named)
         ∙ sym (mapped_found (λ c. c.name) y.head.name.bytes x.before))
 
-    numbered : {m : ℕ}
-        → NumberOf text offsets lengths d 12 (FewMembers face) (λ f. member_number (get_elem? f.interfaces face) (name_in text offsets lengths q)) m
-        → m ≡ member_number (get_elem? b.bench.file.interfaces face) y.head.name.bytes
-    numbered i =
+    numbered : {m : code.Option ℕ} {called : List ℕ} → called ≡ name_in text offsets lengths q
+        → NumberedOf text offsets lengths d 12 (FewMembers face) (λ f. member_number (get_elem? f.interfaces face) called) m
+        → unwrap_or m 12 ≡ member_number (get_elem? b.bench.file.interfaces face) y.head.name.bytes
+    numbered e i =
         i.is classes b.bench (b.few.members face)
-        ∙ ap (member_number (get_elem? b.bench.file.interfaces face)) (column_bytes b.bench.columns a.named)
+        ∙ ap (member_number (get_elem? b.bench.file.interfaces face)) (e ∙ column_bytes b.bench.columns a.named)
 
-  module _ {again members kinds again' members' kinds' : Found} {q offset m last : ℕ} {t : Bool} {one : Option Fault} {name kind : Found}
+  module _ {again members kinds again' members' kinds' : Found} {q offset last : ℕ} {m : code.Option ℕ} {called : List ℕ} {t : Bool} {one : Option Fault} {name kind : Found}
       (l : q < length classes) (o : offset ≡ get_or offsets q 0) (s : Sets text classes offsets lengths from q q t)
       (u : one ≡ earliest (fault_unless (not t) 15 offset)) (f : found_as again' ≡ merged (found_as again) one)
-      (i : NumberOf text offsets lengths d 12 (FewMembers face) (λ f. member_number (get_elem? f.interfaces face) (name_in text offsets lengths q)) m)
-      (v : AttributeFound classes offsets d face m q name) (g : found_as members' ≡ merged (found_as members) (found_as name))
+      (e' : called ≡ name_in text offsets lengths q)
+      (i : NumberedOf text offsets lengths d 12 (FewMembers face) (λ f. member_number (get_elem? f.interfaces face) called) m)
+      (v : AttributeFound classes offsets d face (unwrap_or m 12) q name) (g : found_as members' ≡ merged (found_as members) (found_as name))
       (z : AssignmentEnd classes q last)
-      (k : KindFound classes offsets d face m (q + 1) last kind) (h : found_as kinds' ≡ merged (found_as kinds) (found_as kind)) where
+      (k : KindFound classes offsets d face (unwrap_or m 12) (q + 1) last kind) (h : found_as kinds' ≡ merged (found_as kinds) (found_as kind)) where
     module _ (b : Body text classes offsets lengths d from) (x : AssigningIn b face again members kinds q)
         (y : First b.bench.tokens NAME assignment_after q b.body.close x.rest)
         (a : AssignmentAt classes offsets b.bench.tokens q y.head y.begins.used) where
@@ -160,10 +163,10 @@ module _ {text classes offsets lengths d : List ℕ} {face from : ℕ} where
                 f);
             members_left =
                 left_next (name_fault b face y.head) (rw (← y.joins) at x.members_left)
-                (v.is text lengths b.bench b.few y.head.name a.named (numbered b x y a i)) g;
+                (v.is text lengths b.bench b.few y.head.name a.named (numbered b x y a e' i)) g;
             kinds_left =
                 left_next (kind_fault b face y.head) (rw (← y.joins) at x.kinds_left)
-                (k.is text lengths b.bench b.few y.head (numbered b x y a i) a.equals (rw e a.kind)) h;
+                (k.is text lengths b.bench b.few y.head (numbered b x y a e' i) a.equals (rw e a.kind)) h;
           }
 
     pub assigning_on : Assigning text classes offsets lengths d face from again members kinds q → {c : ℕ} → c ≡ get_or classes q 0 → c ≡ NAME

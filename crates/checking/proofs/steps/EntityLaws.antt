@@ -4,6 +4,7 @@ use native.Mathlib.Omega.{arith}
 use mathlib.Core.Path.{◌≡◌, refl, sym, ap, ap₂, ◌∙◌}
 use mathlib.Core.List.{List, ◌++◌, map, flat_map}
 use mathlib.Core.Option.{Option, none, some}
+use Rattle.std.specs.Prelude.{min}
 use lib.Dec.{ltb}
 use lib.ListN.{length, get_or, get_elem?}
 use borrow.Author.Tests.{lt-ltb}
@@ -115,13 +116,6 @@ module _ {text classes offsets lengths d : List ℕ} (e : ℕ) {p face : ℕ} (a
       → EntityFound text classes offsets lengths d e (record { names = names; kinds = set.kinds })
   entity_told o k u f g h = record { names = λ w few x s. names_told w few x s o k u f g h; kinds = kinds_told }
 
-pub entity_beyond : {text classes offsets lengths d : List ℕ} {e : ℕ} {r : Faults} → 32 ≤ e → EntityFound text classes offsets lengths d e r
-entity_beyond {e = e} {r = r} h = record { names = λ w few x s. none_there w few x s; kinds = λ w few x s. none_there w few x s }
-  where
-    none_there : {text classes offsets lengths d : List ℕ} (w : Bench text classes offsets lengths d) → Few w.file → (x : Entity)
-        → get_elem? w.file.entities e ≡ some x → {A : Type 0} → A
-    none_there w few x s = let l = number_below w.file.entities e s in let m = few.entities in absurd (omega arith)
-
 -- ---- entity after entity
 
 abbrev pub NamesLeft : List ℕ → List ℕ → List ℕ → List ℕ → List ℕ → Option Fault → ℕ → Type 0
@@ -139,15 +133,15 @@ pub record Walked (text classes offsets lengths d : List ℕ) (names kinds : Fou
   pub names_left : NamesLeft text classes offsets lengths d (found_as names) k
   pub kinds_left : KindsLeft text classes offsets lengths d (found_as kinds) k
 
-module _ {text classes offsets lengths d : List ℕ} {count : ℕ} (c : count ≡ get_or d 1 0) where
-  pub walked_none : {names kinds : Found} → RepeatedRows text offsets lengths d 227 count 32 names → found_as kinds ≡ none
+module _ {text classes offsets lengths d : List ℕ} {count : ℕ} (c : count ≡ min (get_or d 1 0) 32) where
+  pub walked_none : {names kinds : Found} → RepeatedRows text offsets lengths d 227 count names → found_as kinds ≡ none
       → Walked text classes offsets lengths d names kinds 0
   walked_none h e = record {
     names_left = record {
       left = λ w.
           left_second (again_faults (map (λ e. e.name) w.bench.file.entities)) (flat_map (entity_name_faults w.bench.file) w.bench.file.entities)
           (repeated_items w.bench (λ (x : Entity). x.name) w.bench.file.entities 227 h w.bench.directory.entity_name
-          (c ∙ w.bench.directory.entities) w.few.entities);
+          (let z = w.bench.directory.entities in let y = w.few.entities in omega arith));
     };
     kinds_left = record { left = λ w. left_all (flat_map (entity_kind_faults w.bench.file) w.bench.file.entities) e };
   }
@@ -165,7 +159,7 @@ module _ {text classes offsets lengths d : List ℕ} {count : ℕ} (c : count �
           (λ w. let z = w.bench.directory.entities in omega arith) (λ w. h.kinds w.bench w.few) g;
     }
 
-    pub walked_all : (count ≤ 32 → count ≤ k) → EntitiesFound text classes offsets lengths d (record { names = names; kinds = kinds })
+    pub walked_all : count ≤ k → EntitiesFound text classes offsets lengths d (record { names = names; kinds = kinds })
     walked_all h = record {
       names = λ w few.
           items_end (λ w. w.bench.file.entities) (λ w. entity_name_faults w.bench.file) _ p.names_left all_passed (record { bench = w; few = few });
@@ -174,4 +168,4 @@ module _ {text classes offsets lengths d : List ℕ} {count : ℕ} (c : count �
     }
       where
         all_passed : (w : Within text classes offsets lengths d) → length w.bench.file.entities ≤ k
-        all_passed w = let z = w.bench.directory.entities in let y = w.few.entities in omega (arith, h (omega arith))
+        all_passed w = let z = w.bench.directory.entities in let y = w.few.entities in omega arith

@@ -1,21 +1,25 @@
 -- Each entity's interface, written into the directory: the other rows stay, and the directory is whole then.
 use Prim.Native.Nat.{ℕ, ◌+◌, ◌*◌, ◌≤◌, ◌<◌}
 use native.Mathlib.Omega.{arith}
-use mathlib.Core.Path.{◌≡◌, refl, ◌∙◌}
+use mathlib.Core.Path.{◌≡◌, refl, ap, ◌∙◌}
 use mathlib.Core.Bool.{Bool, true, false}
 use mathlib.Core.List.{List}
 use mathlib.Core.Option.{some}
+use Rattle.std.specs.Prelude as code
+use Rattle.std.specs.Prelude.{min, unwrap_or}
 use lib.Dec.{eqb}
 use lib.ListN.{length, get_or, get_elem?, set, length-set}
 use lib.Seq.{get_or-set_same, get_or-set_other}
 use borrow.Author.Tests.{eqb-true, eqb-false}
 use Rattle.text.specs.definitions.Tokens.{Token}
 use Rattle.text.specs.definitions.Syntax.{Member, Interface, Entity, File}
-use Rattle.checking.specs.inner_contracts.Directory.{ColumnsOf, Named, entity_interface_row, DirectoryOf, interface_number}
+use Rattle.checking.specs.definitions.Scope.{look_up}
+use Rattle.checking.specs.inner_contracts.Directory.{name_in, ColumnsOf, Named, entity_interface_row, DirectoryOf, number_or, interface_number}
 use Rattle.checking.specs.inner_contracts.DirectoryReads.{Few, FirstNamed}
 use Rattle.checking.specs.inner_contracts.DeclarationWalk.{EntitiesLinked}
 use Rattle.checking.specs.inner_contracts.DirectoryItems.{ItemsOf}
-use Rattle.checking.proofs.laws.DirectoryLaws.{number_below, column_bytes, first_among}
+use Rattle.checking.proofs.laws.DirectoryLaws.{number_below, column_bytes}
+use Rattle.checking.proofs.laws.CalledLaws.{first_named}
 use Rattle.checking.proofs.laws.EntityTokens.{entity_stands}
 
 module _ {f : File} {ts : List Token} {d : List ℕ} where
@@ -118,7 +122,7 @@ module _ {text offsets lengths d : List ℕ} where
     linked = λ classes ts f columns listed few rules j x l. absurd (omega arith);
   }
 
-  pub linking_all : {e : List ℕ} {n count : ℕ} → Linking text offsets lengths d e n → count ≡ get_or d 1 0 → (count ≤ 32 → count ≤ n)
+  pub linking_all : {e : List ℕ} {n count : ℕ} → Linking text offsets lengths d e n → count ≡ min (get_or d 1 0) 32 → count ≤ n
       → EntitiesLinked text offsets lengths d e
   linking_all {e} {n} {count} p c h = record {
     size = p.size;
@@ -134,18 +138,22 @@ module _ {text offsets lengths d : List ℕ} where
           let a = number_below f.entities j s in
           let b = few.entities in
           let k = listed.entities in
-          omega (arith, h (omega arith))
+          omega arith
 
-  module _ {e : List ℕ} {n count interfaces at face : ℕ} (p : Linking text offsets lengths d e n) (room : 355 ≤ length d) (l : n < 32) (c : count ≡ get_or d 1 0)
-      (m : n < count) (i : interfaces ≡ get_or d 0 0) (a : at ≡ get_or e (227 + n) 0) (h : FirstNamed text offsets lengths e 3 interfaces 16 (at + 3) face) where
+  module _ {e : List ℕ} {n count interfaces at : ℕ} (p : Linking text offsets lengths d e n) (room : 355 ≤ length d) (c : count ≡ min (get_or d 1 0) 32)
+      (m : n < count) (a : at ≡ get_or e (227 + n) 0) {called : List ℕ} (q : called ≡ name_in text offsets lengths (at + 3))
+      (i : interfaces ≡ min (get_or e 0 0) 16) {found : code.Option ℕ} (h : FirstNamed text offsets lengths e 3 interfaces called found)
+      {face : ℕ} (u : face ≡ unwrap_or found 16) where
     here : (classes : List ℕ) (ts : List Token) (f : File) → ColumnsOf text classes offsets lengths ts → ItemsOf f ts d → Few f
         → length f.rules ≤ 64 → (x : Entity) → get_elem? f.entities n ≡ some x → face ≡ interface_number f x.interface.bytes
     unfolding interface_number
     here classes ts f columns listed few rules x s =
         let now : ItemsOf f ts e = listed_same few rules p.below listed in
         let named : Named ts (at + 3) x.interface = rw a (entity_stands (now.entity n x s)).interface in
-        rw (← column_bytes columns named)
-        (first_among columns (λ (y : Interface). y.name) f.interfaces e 3 16 (at + 3) now.interface_name h (i ∙ listed.interfaces) few.interfaces)
+        let size : interfaces ≡ length f.interfaces = (let z = now.interfaces in let y = few.interfaces in omega arith) in
+        u
+        ∙ first_named columns (λ (y : Interface). y.name) f.interfaces e 3 called now.interface_name 16 h size
+        ∙ ap (λ b. number_or 16 (look_up (λ (y : Interface). y.name) b f.interfaces)) (q ∙ column_bytes columns named)
 
     pub linking_on : Linking text offsets lengths d (set e (323 + n) face) (n + 1)
     linking_on = record {

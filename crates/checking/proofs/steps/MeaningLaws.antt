@@ -9,7 +9,8 @@ use lib.Dec.{eqb, leb, ltb}
 use lib.ListN.{length, get_or, get_elem?}
 use borrow.Author.Tests.{eq-eqb, ne_eqb, le-leb, lt-leb, lt-ltb, le-ltb}
 use Rattle.values.specs.declared.Kind.{Kind}
-use Rattle.std.specs.Prelude.{Some, None}
+use Rattle.std.specs.Prelude as code
+use Rattle.std.specs.Prelude.{Some, None, IfSome, unwrap_or, is_some, is_none}
 use Rattle.values.specs.definitions.Bytes.{same_bytes}
 use Rattle.text.specs.definitions.Tokens.{NAME, EVENT, ACTION}
 use Rattle.text.specs.definitions.Syntax.{Name, Member, Interface, Entity, File}
@@ -49,7 +50,7 @@ use Rattle.checking.specs.inner_contracts.Directory.{
   member_number,
   Bench,
 }
-use Rattle.checking.specs.inner_contracts.DirectoryReads.{Few, NumberOf, FewMembers, MemberPart}
+use Rattle.checking.specs.inner_contracts.DirectoryReads.{Few, NumberOf, Numbered, FewMembers, MemberPart}
 use Rattle.checking.specs.inner_contracts.RuleParts.{
   name_row,
   first_alike,
@@ -217,7 +218,7 @@ module _ {text classes offsets lengths d : List ℕ} {start : ℕ} (i : ℕ) {e 
     entity_missing h =
         number_none (λ (x : Entity). x.name) (name_in text offsets lengths i) c.bench.file.entities 32 c.few.entities (rw entity_number_is at h)
 
-  pub entity_meant : e < 32 → {face : ℕ} → face ≡ get_or d (323 + e) 0 → Meant text classes offsets lengths d start i (record { known = true; face = face })
+  pub entity_meant : e < 32 → {face : ℕ} → face ≡ get_or d (323 + e) 0 → Meant text classes offsets lengths d start i (Some face)
   unfolding scope_of entity_or_variable interface_meant
   entity_meant h {face} q = record { known = λ c. known c (entity_here c h); face = λ c. meant c (entity_here c h) }
     where
@@ -242,7 +243,7 @@ module _ {text classes offsets lengths d : List ℕ} {start : ℕ} (i : ℕ) {e 
     variable_looked c =
         rw (world_variables c, r.first) (alike text offsets lengths (length classes) (length classes - 2) i (world_inside c))
 
-    pub unknown_meant : length classes ≤ n → Meant text classes offsets lengths d start i (record { known = false; face = 16 })
+    pub unknown_meant : length classes ≤ n → Meant text classes offsets lengths d start i None
     unfolding scope_of entity_or_variable interface_meant
     unknown_meant l = record { known = λ c. known c (variable_looked c); face = λ c. meant c (variable_looked c) }
       where
@@ -262,7 +263,7 @@ module _ {text classes offsets lengths d : List ℕ} {start : ℕ} (i : ℕ) {e 
 
     pub variable_meant : n < length classes → {colon j face : ℕ} → Steps (length classes) n colon → Steps (length classes) colon j
         → NumberOf text offsets lengths d 16 (λ f. length f.interfaces ≤ 16) (λ f. interface_number f (name_in text offsets lengths j)) face
-        → Meant text classes offsets lengths d start i (record { known = true; face = face })
+        → Meant text classes offsets lengths d start i (Some face)
     unfolding scope_of entity_or_variable interface_meant
     variable_meant l {colon} {j} {face} s t m = record { known = λ c. known c (variable_looked c); face = λ c. meant c (variable_looked c) }
       where
@@ -399,20 +400,30 @@ unfolding interface_number interface_named
 interface_known f n few =
     number_is_found (λ (i : Interface). i.name) n f.interfaces 16 few ∙ item_found (look_up (λ (i : Interface). i.name) n f.interfaces)
 
-pub declared_found : {text offsets lengths d : List ℕ} (n i : ℕ) {e k : ℕ}
-    → NumberOf text offsets lengths d 32 (λ f. length f.entities ≤ 32) (λ f. entity_number f (name_in text offsets lengths n)) e
-    → NumberOf text offsets lengths d 16 (λ f. length f.interfaces ≤ 16) (λ f. interface_number f (name_in text offsets lengths i)) k
-    → {p q : ℕ} {a b : Option Fault} {r : Found} → p ≡ get_or offsets n 0 → a ≡ earliest (fault_unless (leb 32 e) 15 p) → q ≡ get_or offsets i 0
-    → b ≡ earliest (fault_unless (ltb k 16) 16 q) → found_as r ≡ merged a b → Declared text offsets lengths d n i r
+-- a number for none, where there is none
+none_told : (most : ℕ) (o : code.Option ℕ) → IfSome o (λ k. k < most) → is_none o ≡ leb most (unwrap_or o most)
+none_told most None b = sym (le-leb most most (omega arith))
+none_told most (Some k) b = sym (lt-leb most k b)
+
+some_told : (most : ℕ) (o : code.Option ℕ) → IfSome o (λ k. k < most) → is_some o ≡ ltb (unwrap_or o most) most
+some_told most None b = sym (le-ltb most most (omega arith))
+some_told most (Some k) b = sym (lt-ltb k most b)
+
+pub declared_found : {text offsets lengths d : List ℕ} (n i : ℕ) {name face : List ℕ} {e k : code.Option ℕ} → name ≡ name_in text offsets lengths n
+    → face ≡ name_in text offsets lengths i
+    → Numbered text offsets lengths d 32 (λ f. length f.entities ≤ 32) (λ f. entity_number f name) e
+    → Numbered text offsets lengths d 16 (λ f. length f.interfaces ≤ 16) (λ f. interface_number f face) k
+    → {p q : ℕ} {a b : Option Fault} {r : Found} → p ≡ get_or offsets n 0 → {s : Bool} → s ≡ is_none e → a ≡ earliest (fault_unless s 15 p) → q ≡ get_or offsets i 0
+    → {t : Bool} → t ≡ is_some k → b ≡ earliest (fault_unless t 16 q) → found_as r ≡ merged a b → Declared text offsets lengths d n i r
 unfolding interface_faults
-declared_found {text} {offsets} {lengths} {d} n i g h {r = r} x u y v m = record { faults = λ classes w few. go classes w few }
+declared_found {text} {offsets} {lengths} {d} n i {e = e} {k = k} j l g h {r = r} x z u y o v m = record { faults = λ classes w few. go classes w few }
   where
     go : (classes : List ℕ) (w : Bench text classes offsets lengths d) → Few w.file
         → found_as r ≡ earliest (fault_unless (not (is_found (entity_named w.file (name_in text offsets lengths n)))) 15 (get_or offsets n 0)
         ++ fault_unless (is_found (interface_named w.file (name_in text offsets lengths i))) 16 (get_or offsets i 0))
     go classes w few =
-        let s = ap (leb 32) (g.is classes w few.entities) ∙ entity_free w.file (name_in text offsets lengths n) few.entities in
-        let t = ap (λ z. ltb z 16) (h.is classes w few.interfaces) ∙ interface_known w.file (name_in text offsets lengths i) few.interfaces in
+        let s = z ∙ none_told 32 e g.below ∙ ap (leb 32) (g.is classes w few.entities ∙ ap (entity_number w.file) j) ∙ entity_free w.file (name_in text offsets lengths n) few.entities in
+        let t = o ∙ some_told 16 k h.below ∙ ap (λ z. ltb z 16) (h.is classes w few.interfaces ∙ ap (interface_number w.file) l) ∙ interface_known w.file (name_in text offsets lengths i) few.interfaces in
         found_both (fault_unless (not (is_found (entity_named w.file (name_in text offsets lengths n)))) 15 (get_or offsets n 0))
         (fault_unless (is_found (interface_named w.file (name_in text offsets lengths i))) 16 (get_or offsets i 0)) m (u ∙ rw (s, x)) (v ∙ rw (t, y))
 

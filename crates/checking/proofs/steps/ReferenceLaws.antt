@@ -5,6 +5,8 @@ use mathlib.Core.Path.{◌≡◌, refl, sym, ap, ap₂, ◌∙◌}
 use mathlib.Core.Bool.{Bool, true, false, ◌&&◌}
 use mathlib.Core.List.{List, [], ◌∷◌, map}
 use mathlib.Core.Option.{Option, none, some}
+use Rattle.std.specs.Prelude as code
+use Rattle.std.specs.Prelude.{unwrap_or}
 use mathlib.Core.Logic.{◌⊎◌, inl, inr}
 use lib.Dec.{eqb, ltb}
 use lib.ListN.{length, get_or, get_elem?}
@@ -13,7 +15,6 @@ use Rattle.values.specs.definitions.Bytes.{same_bytes}
 use Rattle.text.specs.definitions.Tokens.{EVENT, ACTION, FROM, WITH, ON, COLON, DOT, END}
 use Rattle.text.specs.definitions.Syntax.{Entity}
 use Rattle.text.specs.inner_contracts.Walks.{Steps}
-use Rattle.checking.specs.declared.meanings.Meaning.{Meaning}
 use Rattle.checking.specs.inner_contracts.ClassSearch.{FirstOf}
 use Rattle.checking.specs.definitions.Scope.{Indexed, here_or_later, look_up, entity_named, Variable, variables, variable_named, Scope, scope_of}
 use Rattle.checking.specs.inner_contracts.Directory.{name_in, entity_number, member_number}
@@ -313,14 +314,16 @@ module _ {classes : List ℕ} {i : ℕ} where
 -- ---- a member, and a row
 
 module _ {text classes offsets lengths d : List ℕ} {start : ℕ} where
-  pub member_is : (owner i : ℕ) {m : Meaning} {r : ℕ} → Meant text classes offsets lengths d start owner m
-      → NumberOf text offsets lengths d 12 (FewMembers m.face)
-      (λ f. member_number (get_elem? f.interfaces m.face) (name_in text offsets lengths i)) r
+  pub member_is : (owner i : ℕ) {m : code.Option ℕ} {r : ℕ} → Meant text classes offsets lengths d start owner m
+      → {face : ℕ} → face ≡ unwrap_or m 16
+      → NumberOf text offsets lengths d 12 (FewMembers face) (λ f. member_number (get_elem? f.interfaces face) (name_in text offsets lengths i)) r
       → MemberOf text classes offsets lengths d start owner i r
   unfolding member_meant
-  member_is owner i {m} h g = record {
+  member_is owner i {m} h {face} u g = record {
     within = g.within;
-    is = λ c. g.is classes c.bench (c.few.members m.face) ∙ ap (λ o. member_number o (name_in text offsets lengths i)) (h.face c);
+    is = λ c.
+        g.is classes c.bench (c.few.members face)
+        ∙ ap (λ o. member_number o (name_in text offsets lengths i)) (ap (get_elem? c.bench.file.interfaces) u ∙ h.face c);
   }
 
   module _ {i low owner : ℕ} (a : Referred text classes offsets lengths d start i low) (o : OwnerOf classes i owner) where

@@ -5,8 +5,9 @@ use mathlib.Core.Path.{◌≡◌, refl, sym, ap, ◌∙◌, fun_ext}
 use mathlib.Core.List.{List, [], ◌∷◌, ◌++◌, map, flat_map, append_assoc, append-nil}
 use mathlib.Core.Option.{Option, none, some}
 use Rattle.std.specs.Prelude as code
+use Rattle.std.specs.Prelude.{Bool, is_some, unwrap_or}
 use Rattle.values.specs.declared.Kind.{Kind}
-use lib.ListN.{length, get_or, drop}
+use lib.ListN.{length, get_or, get_elem?, drop}
 use Rattle.text.specs.definitions.Tokens.{Token, NAME, ATTRIBUTE, EVENT, ACTION, WHEN, COMMA}
 use Rattle.text.specs.definitions.Syntax.{
   Sort,
@@ -36,7 +37,6 @@ use Rattle.text.proofs.laws.WalkLaws.{next_steps, getElem?_inside, walk_yields, 
 use Rattle.text.proofs.laws.ConditionWalks.{rule_walk}
 use Rattle.checking.specs.inner_contracts.DirectoryReads.{Few}
 use Rattle.std.specs.Prelude.{Some, None}
-use Rattle.checking.specs.declared.meanings.Meaning.{Meaning}
 use Rattle.checking.specs.declared.meanings.Cell.{Cell}
 use Rattle.checking.specs.declared.expressions.Kinded.{Kinded}
 use Rattle.checking.specs.declared.conditions.Part.{Part}
@@ -151,24 +151,31 @@ module _ {text classes offsets lengths d : List ℕ} where
 
   module _ {start : ℕ} where
     -- a name's fault
-    unknown_name : {i : ℕ} {owner : Meaning} → Meant text classes offsets lengths d start i owner → {at : ℕ} {a : Option Fault} → at ≡ get_or offsets i 0
-        → a ≡ earliest (fault_unless owner.known 16 at) → (c : RuleWorld text classes offsets lengths d start)
+    unknown_name : {i : ℕ} {owner : code.Option ℕ} → Meant text classes offsets lengths d start i owner → {at : ℕ} {a : Option Fault} {known : Bool} → at ≡ get_or offsets i 0
+        → known ≡ is_some owner
+        → a ≡ earliest (fault_unless known 16 at) → (c : RuleWorld text classes offsets lengths d start)
         → a ≡ earliest (unknown_name_faults (world_scope c) (name_row text offsets lengths i))
     unfolding unknown_name_faults
-    unknown_name m e u c = u ∙ rw (e, m.known c)
+    unknown_name m e k u c = u ∙ rw (e, k, m.known c)
 
-    pub member_checked : (at i : ℕ) {owner : Meaning} {found : Cell} {next offset : ℕ} {a : Option Fault} {names : Found}
-        → Meant text classes offsets lengths d start at owner → CellOf text classes offsets lengths d owner.face NAME i found
-        → offset ≡ get_or offsets at 0 → a ≡ earliest (fault_unless owner.known 16 offset) → found_as names ≡ merged a (found_as found.fault)
+    face_meant : {i : ℕ} {owner : code.Option ℕ} {face : ℕ} → face ≡ unwrap_or owner 16 → Meant text classes offsets lengths d start i owner
+        → (c : RuleWorld text classes offsets lengths d start)
+        → get_elem? c.bench.file.interfaces face ≡ interface_in (world_scope c) (name_in text offsets lengths i)
+    face_meant f m c = ap (get_elem? c.bench.file.interfaces) f ∙ m.face c
+
+    pub member_checked : (at i : ℕ) {owner : code.Option ℕ} {found : Cell} {next offset : ℕ} {a : Option Fault} {known : Bool} {names : Found}
+        → Meant text classes offsets lengths d start at owner → {face : ℕ} → face ≡ unwrap_or owner 16
+        → CellOf text classes offsets lengths d face NAME i found
+        → offset ≡ get_or offsets at 0 → known ≡ is_some owner → a ≡ earliest (fault_unless known 16 offset) → found_as names ≡ merged a (found_as found.fault)
         → (c : RuleWorld text classes offsets lengths d start) → at < length classes → i < length classes
         → ExpressionChecked (world_scope c) (member (name_of (nth_token c.bench.tokens at)) (name_of (nth_token c.bench.tokens i)))
         (record { next = next; kind = found.kind; faults = record { names = names; kinds = None } })
     unfolding kind_of kind_in expression_name_faults expression_kind_faults
-    member_checked at i {owner} {found} m g e u n c h k = rw (name_stands c.bench at h, name_stands c.bench i k) (record {
-      kind = g.kind c.bench c.few ∙ rw (m.face c);
+    member_checked at i {owner} {found} m f g e q u n c h k = rw (name_stands c.bench at h, name_stands c.bench i k) (record {
+      kind = g.kind c.bench c.few ∙ rw (face_meant f m c);
       names = found_both (unknown_name_faults (world_scope c) (name_row text offsets lengths at))
-          (member_faults is_member (interface_in (world_scope c) (name_in text offsets lengths at)) (name_row text offsets lengths i)) n (unknown_name m e u c)
-          (g.names c.bench c.few ∙ rw (m.face c, wanted_member));
+          (member_faults is_member (interface_in (world_scope c) (name_in text offsets lengths at)) (name_row text offsets lengths i)) n (unknown_name m e q u c)
+          (g.names c.bench c.few ∙ rw (face_meant f m c, wanted_member));
       kinds = found_nothing;
     })
 
@@ -190,22 +197,23 @@ module _ {text classes offsets lengths d : List ℕ} where
 
     -- ---- targets
 
-    module _ (at : ℕ) {owner : Meaning} (m : Meant text classes offsets lengths d start at owner) where
-      pub bare_checked : {next offset : ℕ} {names : Found} → offset ≡ get_or offsets at 0 → found_as names ≡ earliest (fault_unless owner.known 16 offset)
+    module _ (at : ℕ) {owner : code.Option ℕ} (m : Meant text classes offsets lengths d start at owner) {face : ℕ} (f : face ≡ unwrap_or owner 16) where
+      pub bare_checked : {next offset : ℕ} {names : Found} {known : Bool} → offset ≡ get_or offsets at 0 → known ≡ is_some owner
+          → found_as names ≡ earliest (fault_unless known 16 offset)
           → (c : RuleWorld text classes offsets lengths d start) → at < length classes
           → PlaceChecked text classes offsets lengths d start c (record { name = name_of (nth_token c.bench.tokens at); declares = none })
-          (record { next = next; face = owner.face; fault = names })
+          (record { next = next; face = face; fault = names })
       unfolding target_name_faults declaration_faults
-      bare_checked e u c h = rw (name_stands c.bench at h) (record { face_is = m.face c; names_found = unknown_name m e u c })
+      bare_checked e k u c h = rw (name_stands c.bench at h) (record { face_is = face_meant f m c; names_found = unknown_name m e k u c })
 
       pub declaring_checked : (i : ℕ) {next : ℕ} {names : Found} → Declared text offsets lengths d at i names
           → (c : RuleWorld text classes offsets lengths d start) → at < length classes → i < length classes
           → PlaceChecked text classes offsets lengths d start c
           (record { name = name_of (nth_token c.bench.tokens at); declares = some (name_of (nth_token c.bench.tokens i)) })
-          (record { next = next; face = owner.face; fault = names })
+          (record { next = next; face = face; fault = names })
       unfolding target_name_faults declaration_faults variable_faults scope_of
       declaring_checked i g c h k =
-          rw (name_stands c.bench at h, name_stands c.bench i k) (record { face_is = m.face c; names_found = g.faults classes c.bench c.few })
+          rw (name_stands c.bench at h, name_stands c.bench i k) (record { face_is = face_meant f m c; names_found = g.faults classes c.bench c.few })
 
     -- ---- filters and tests
 

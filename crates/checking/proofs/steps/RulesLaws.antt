@@ -4,6 +4,7 @@ use native.Mathlib.Omega.{arith}
 use mathlib.Core.Path.{◌≡◌, sym, ap, ap₂, ◌∙◌}
 use mathlib.Core.List.{List, ◌++◌, append_assoc, map, flat_map}
 use mathlib.Core.Option.{Option, none}
+use Rattle.std.specs.Prelude.{min}
 use lib.ListN.{length, get_or}
 use Rattle.text.specs.definitions.Syntax.{Rule, File}
 use Rattle.checking.specs.inner_contracts.DirectoryReads.{Few}
@@ -44,7 +45,7 @@ module _ {text classes offsets lengths d : List ℕ} {names kinds : Found} where
     kinds_left = record { left = λ w. left_all (flat_map (rule_kind_faults w.bench.file) w.bench.file.rules) f };
   }
 
-  module _ {count k : ℕ} (c : count ≡ get_or d 2 0) (p : Ruled text classes offsets lengths d names kinds k) where
+  module _ {count k : ℕ} (c : count ≡ min (get_or d 2 0) 64) (p : Ruled text classes offsets lengths d names kinds k) where
     pub ruled_next : {at : ℕ} {one : Faults} {names' kinds' : Found} → k < count → at ≡ get_or d (259 + k) 0
         → RuleFaults text classes offsets lengths d at one → found_as names' ≡ merged (found_as names) (found_as one.names)
         → found_as kinds' ≡ merged (found_as kinds) (found_as one.kinds) → Ruled text classes offsets lengths d names' kinds' (k + 1)
@@ -57,7 +58,7 @@ module _ {text classes offsets lengths d : List ℕ} {names kinds : Found} where
           (λ w. let z = w.bench.directory.rules in omega arith) (λ w x s. h.kinds w.bench w.few x (rw a (w.bench.directory.rule k x s))) g;
     }
 
-    pub ruled_all : (count ≤ 64 → count ≤ k) → RulesFound text classes offsets lengths d (record { names = names; kinds = kinds })
+    pub ruled_all : count ≤ k → RulesFound text classes offsets lengths d (record { names = names; kinds = kinds })
     ruled_all h = record {
       names = λ w few m.
           items_end (λ w. w.bench.file.rules) (λ w. rule_name_faults w.bench.file) _ p.names_left all_passed
@@ -68,7 +69,7 @@ module _ {text classes offsets lengths d : List ℕ} {names kinds : Found} where
     }
       where
         all_passed : (w : WithinRules text classes offsets lengths d) → length w.bench.file.rules ≤ k
-        all_passed w = let z = w.bench.directory.rules in let y = w.few_rules in omega (arith, h (omega arith))
+        all_passed w = let z = w.bench.directory.rules in let y = w.few_rules in omega arith
 
 -- ---- the parts of a file
 

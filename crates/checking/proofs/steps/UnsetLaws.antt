@@ -5,6 +5,7 @@ use mathlib.Core.Path.{◌≡◌, refl, sym, ap, ◌∙◌}
 use mathlib.Core.Bool.{Bool, true, false, not, ◌||◌}
 use mathlib.Core.List.{List, [], ◌∷◌, ◌++◌, flat_map}
 use mathlib.Core.Option.{none, some}
+use Rattle.std.specs.Prelude.{min}
 use lib.ListN.{length, get_or, get_elem?, drop}
 use Rattle.text.specs.definitions.Syntax.{Member, Interface, Entity}
 use Rattle.text.proofs.laws.SpotLaws.{stands_drop}
@@ -13,8 +14,8 @@ use Rattle.checking.specs.inner_contracts.FoundFaults.{Found, found_as, merged}
 use Rattle.checking.specs.definitions.Scope.{look_up, is_found, is_attribute}
 use Rattle.checking.specs.definitions.NameFaults.{attribute_faults, unset_faults}
 use Rattle.checking.specs.inner_contracts.Directory.{Named}
-use Rattle.checking.specs.inner_contracts.DirectoryReads.{MemberRow}
-use Rattle.checking.specs.inner_contracts.DeclarationWalk.{Sets, AttributeMember, Body, UnsetFound}
+use Rattle.checking.specs.inner_contracts.DirectoryReads.{MemberRow, MemberPart}
+use Rattle.checking.specs.inner_contracts.DeclarationWalk.{Sets, Body, UnsetFound}
 use Rattle.checking.proofs.laws.FaultLaws.{merged_none_left, earlier_left, earliest_cons, earliest_passed, earliest_failed}
 use Rattle.checking.proofs.laws.DirectoryLaws.{number_beyond, number_inside, column_bytes}
 use Rattle.checking.proofs.laws.WalkedFaults.{Left, left_all, left_item, left_end}
@@ -81,7 +82,7 @@ unfolding unset_faults
 settled_none = record { left = λ b k i s. left_all (unset_faults b.entity (some i)) refl }
 
 module _ {text classes offsets lengths d : List ℕ} {face from to j count : ℕ} (p : Settled text classes offsets lengths d face from to j)
-    (c : count ≡ get_or d (19 + face) 0) (m : j < count) where
+    (c : count ≡ min (get_or d (19 + face) 0) 12) (m : j < count) where
   member_inside : (b : Body text classes offsets lengths d from) (i : Interface) → get_elem? b.bench.file.interfaces face ≡ some i → j < length i.members
   member_inside b i s = let e = b.bench.directory.member_count face i s in omega arith
 
@@ -94,9 +95,10 @@ module _ {text classes offsets lengths d : List ℕ} {face from to j count : ℕ
   }
 
   -- no attribute
-  pub settled_other : {a : Bool} → j < 12 → AttributeMember classes d face j a → a ≡ false → Settled text classes offsets lengths d face from to (j + 1)
-  settled_other l t e =
-      settled_next (λ b k i s x u. passes_other b.entity x (sym (t.is l text offsets lengths b.bench i x s u) ∙ e))
+  pub settled_other : {a : Bool} → MemberPart classes d face j (λ x. is_attribute x.sort) a → a ≡ false
+      → Settled text classes offsets lengths d face from to (j + 1)
+  settled_other t e =
+      settled_next (λ b k i s x u. passes_other b.entity x (sym (t.is text offsets lengths b.bench i x s u) ∙ e))
 
   module _ {interfaces : ℕ} (n : interfaces ≡ get_or d 0 0) (f : face < interfaces) {at : ℕ} (r : MemberRow d face j at) {set : Bool}
       (t : Sets text classes offsets lengths from to (at + 1) set) where
@@ -111,9 +113,9 @@ module _ {text classes offsets lengths d : List ℕ} {face from to j count : ℕ
     pub settled_set : set ≡ true → Settled text classes offsets lengths d face from to (j + 1)
     settled_set e = settled_next (λ b k i s x u. passes_set b.entity x (sets_member b k i s x u ∙ e))
 
-    pub settled_fails : {a : Bool} → j < 12 → AttributeMember classes d face j a → a ≡ true → set ≡ false → {offset : ℕ} → offset ≡ get_or offsets to 0
+    pub settled_fails : {a : Bool} → MemberPart classes d face j (λ x. is_attribute x.sort) a → a ≡ true → set ≡ false → {offset : ℕ} → offset ≡ get_or offsets to 0
         → {r : Found} → found_as r ≡ some (fault 17 offset) → UnsetFound text classes offsets lengths d face from to r
-    settled_fails {a} l h q e {offset} o {r} g = record {
+    settled_fails {a} h q e {offset} o {r} g = record {
       is = λ b k. let (i, s) = face_inside b face (omega arith) in go b k i s (number_inside i.members j (member_inside b i s));
     }
       where
@@ -126,7 +128,7 @@ module _ {text classes offsets lengths d : List ℕ} {face from to j count : ℕ
             rw s
             (g
             ∙ ap (λ y. some (fault 17 y)) place
-            ∙ sym (fails_unset b.entity x (sym (h.is l text offsets lengths b.bench i x s u) ∙ q) (sets_member b k i s x u ∙ e)
+            ∙ sym (fails_unset b.entity x (sym (h.is text offsets lengths b.bench i x s u) ∙ q) (sets_member b k i s x u ∙ e)
             (drop (suc j) i.members))
             ∙ ap (λ ys. earliest (flat_map (attribute_faults b.entity) ys)) (sym (stands_drop i.members j u))
             ∙ sym (merged_none_left _)
@@ -143,7 +145,7 @@ module _ {text classes offsets lengths d : List ℕ} {face from to interfaces : 
   }
 
   module _ (h : face < interfaces) where
-    pub settled_all : {count j : ℕ} → Settled text classes offsets lengths d face from to j → count ≡ get_or d (19 + face) 0 → (count ≤ 12 → count ≤ j)
+    pub settled_all : {count j : ℕ} → Settled text classes offsets lengths d face from to j → count ≡ min (get_or d (19 + face) 0) 12 → count ≤ j
         → {r : Found} → found_as r ≡ none → UnsetFound text classes offsets lengths d face from to r
     settled_all {count} {j} p c l {r} e = record { is = λ b k. go b k (face_inside b face (omega arith)) }
       where
@@ -153,7 +155,7 @@ module _ {text classes offsets lengths d : List ℕ} {face from to interfaces : 
         go b k (i, s) =
             let m = b.bench.directory.member_count face i s in
             let few = b.few.members face i s in
-            let z : length i.members ≤ j = omega (arith, l (omega arith)) in
+            let z : length i.members ≤ j = omega arith in
             rw s (e ∙ left_end (attribute_faults b.entity) i.members (p.left b k i s) z)
 
 -- the turns over the members

@@ -22,10 +22,10 @@ use Rattle.checking.specs.inner_contracts.Sequences.{Sequence}
 
 -- ---- interfaces
 
--- of the directory's items, so many rows from `base` on, the first in the text that bears the name of one before it
-pub record RepeatedRows (text offsets lengths d : List ℕ) (base count most : ℕ) (r : Found) : Type 0 where
+-- of `count` items of the directory, in the rows from `base` on, the first in the text that bears the name of one before it
+pub record RepeatedRows (text offsets lengths d : List ℕ) (base count : ℕ) (r : Found) : Type 0 where
   pub is : (classes : List ℕ) (w : Bench text classes offsets lengths d) (ns : List Name)
-      → ((k : ℕ) (n : Name) → get_elem? ns k ≡ some n → Named w.tokens (get_or d (base + k) 0 + 1) n) → count ≡ length ns → length ns ≤ most
+      → ((k : ℕ) (n : Name) → get_elem? ns k ≡ some n → Named w.tokens (get_or d (base + k) 0 + 1) n) → count ≡ length ns
       → found_as r ≡ earliest (again_faults ns)
 
 pub record InterfacesFound (text offsets lengths d : List ℕ) (r : Found) : Type 0 where
@@ -58,12 +58,6 @@ pub record AssignmentEnd (classes : List ℕ) (q r : ℕ) : Type 0 where
 pub record Sets (text classes offsets lengths : List ℕ) (from to i : ℕ) (r : Bool) : Type 0 where
   pub is : (ts : List Token) → ColumnsOf text classes offsets lengths ts → (xs : List Assignment) → Sequence ts NAME assignment_after from to xs
       → to < length classes → r ≡ is_found (look_up (λ a. a.name) (name_in text offsets lengths i) xs)
-
--- is member number m of interface number `face` an attribute?
-pub record AttributeMember (classes d : List ℕ) (face m : ℕ) (r : Bool) : Type 0 where
-  pub beyond : NO_MEMBER ≤ m → r ≡ false
-  pub is : m < NO_MEMBER → (text offsets lengths : List ℕ) (w : Bench text classes offsets lengths d) (i : Interface) (x : Member)
-      → get_elem? w.file.interfaces face ≡ some i → get_elem? i.members m ≡ some x → r ≡ is_attribute x.sort
 
 -- the fault of a name that is to be an attribute of interface number `face`, where it stands at token number q and is member number m
 pub record AttributeFound (classes offsets d : List ℕ) (face m q : ℕ) (r : Found) : Type 0 where

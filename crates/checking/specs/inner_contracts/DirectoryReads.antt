@@ -1,5 +1,7 @@
 -- What is read from a token table and a directory: numbers by names, and what stands at a member.
 use Rattle.std.specs.Prelude.{ℕ, zero, suc, ◌+◌, ◌≤◌, ◌<◌, ◌≡◌, List, Bool, true, false, length, get_or}
+use Rattle.std.specs.Prelude as code
+use Rattle.std.specs.Prelude.{IfSome, unwrap_or}
 use Rattle.std.proofs.Math.Option.{some}
 use Rattle.std.proofs.Math.ListN.{get_elem?}
 use Rattle.values.specs.definitions.Bytes.{same_bytes}
@@ -12,21 +14,25 @@ unfoldable pub first_number : (ℕ → Bool) → ℕ → ℕ → ℕ → ℕ
 first_number test other k zero = other
 first_number test other k (suc n) = elim (test k) [ true ↦ k | false ↦ first_number test other (k + 1) n ]
 
--- does the item in the k-th row from `base` on have the name of token number i? Its name is the token after its first
-unfoldable pub is_named : List ℕ → List ℕ → List ℕ → List ℕ → ℕ → ℕ → ℕ → Bool
+-- has the item in the k-th row from `base` on this name? Its name is the token after its first
+unfoldable pub is_named : List ℕ → List ℕ → List ℕ → List ℕ → ℕ → List ℕ → ℕ → Bool
 unfolding same_bytes
-is_named text offsets lengths d base i k =
-    same_bytes (name_in text offsets lengths i) (name_in text offsets lengths (get_or d (base + k) 0 + 1))
+is_named text offsets lengths d base name k = same_bytes name (name_in text offsets lengths (get_or d (base + k) 0 + 1))
 
--- the first item of that name among `count` of them, or `most` for none; said where there are at most so many
-pub record FirstNamed (text offsets lengths d : List ℕ) (base count most i r : ℕ) : Type 0 where
-  pub within : r ≤ most
-  pub first : count ≤ most → r ≡ first_number (is_named text offsets lengths d base i) most 0 count
+-- the first of `count` items of that name
+pub record FirstNamed (text offsets lengths d : List ℕ) (base count : ℕ) (name : List ℕ) (r : code.Option ℕ) : Type 0 where
+  pub below : IfSome r (λ k. k < count)
+  pub first : (other : ℕ) → unwrap_or r other ≡ first_number (is_named text offsets lengths d base name) other 0 count
 
 -- a number of the file, for every file that stands in the columns and the directory and is within the counts
 pub record NumberOf (text offsets lengths d : List ℕ) (most : ℕ) (within_counts : File → Type 0) (number : File → ℕ) (r : ℕ) : Type 0 where
   pub within : r ≤ most
   pub is : (classes : List ℕ) (w : Bench text classes offsets lengths d) → within_counts w.file → r ≡ number w.file
+
+-- the same where the code has no number for none
+pub record Numbered (text offsets lengths d : List ℕ) (most : ℕ) (within_counts : File → Type 0) (number : File → ℕ) (r : code.Option ℕ) : Type 0 where
+  pub below : IfSome r (λ k. k < most)
+  pub is : (classes : List ℕ) (w : Bench text classes offsets lengths d) → within_counts w.file → unwrap_or r most ≡ number w.file
 
 -- interface number k has no more members than it may have
 abbrev pub FewMembers : ℕ → File → Type 0

@@ -2,6 +2,7 @@
 use Rattle.std.specs.Prelude.{ℕ, ◌+◌, ◌≡◌, Bool, true, false, not, ◌&&◌, ◌||◌, eqb, length, get_or, drop}
 use mathlib.Core.List.{List, [], ◌∷◌, ◌++◌, map, flat_map}
 use Rattle.std.specs.Prelude as code
+use Rattle.std.specs.Prelude.{is_some, unwrap_or}
 use Rattle.std.proofs.Math.Option.{Option, none, some}
 use Rattle.std.proofs.Math.ListN.{get_elem?}
 use Rattle.values.specs.definitions.Bytes.{same_bytes}
@@ -29,7 +30,6 @@ use Rattle.text.specs.definitions.Readers.{Parser}
 use Rattle.text.specs.definitions.Grammar.{rule_after}
 use Rattle.text.specs.inner_contracts.Walks.{Rows, Walks}
 use Rattle.checking.specs.inner_contracts.DirectoryReads.{Few}
-use Rattle.checking.specs.declared.meanings.Meaning.{Meaning}
 use Rattle.checking.specs.declared.meanings.Cell.{Cell}
 use Rattle.checking.specs.declared.expressions.Kinded.{Kinded}
 use Rattle.checking.specs.declared.conditions.Part.{Part}
@@ -59,7 +59,7 @@ use Rattle.checking.specs.definitions.KindFaults.{
   clause_kind_faults,
   call_kind_faults,
 }
-use Rattle.checking.specs.inner_contracts.Directory.{name_in, Begins, sort_class, Bench}
+use Rattle.checking.specs.inner_contracts.Directory.{name_in, NO_INTERFACE, Begins, sort_class, Bench}
 
 -- ---- names
 
@@ -124,10 +124,10 @@ module _ {text classes offsets lengths d : List ℕ} {start : ℕ} where
   }
 
 -- what the name of token number i means in a rule: is it known, and the number of its interface
-pub record Meant (text classes offsets lengths d : List ℕ) (start i : ℕ) (r : Meaning) : Type 0 where
-  pub known : (c : RuleWorld text classes offsets lengths d start) → r.known ≡ is_known (world_scope c) (name_in text offsets lengths i)
+pub record Meant (text classes offsets lengths d : List ℕ) (start i : ℕ) (r : code.Option ℕ) : Type 0 where
+  pub known : (c : RuleWorld text classes offsets lengths d start) → is_some r ≡ is_known (world_scope c) (name_in text offsets lengths i)
   pub face : (c : RuleWorld text classes offsets lengths d start)
-      → get_elem? c.bench.file.interfaces r.face ≡ interface_in (world_scope c) (name_in text offsets lengths i)
+      → get_elem? c.bench.file.interfaces (unwrap_or r NO_INTERFACE) ≡ interface_in (world_scope c) (name_in text offsets lengths i)
 
 -- members that may stand where an attribute, an event, an action or, by the class of names, any member is wanted
 unfoldable pub sort_wanted : ℕ → Sort → Bool

@@ -1,11 +1,7 @@
 -- What the loop of `entity_faults` keeps.
 use Rattle.checking.specs.inner_contracts.OfColumns.{of_file}
-use Rattle.std.proofs.Common.{◌-◌, ◌≤◌}
 use Rattle.checking.proofs.steps.EntityLaws.{Walked}
 use Rattle.checking.proofs.entities.entity_faults.Given as goal
 
 abbrev pub invariant-loop-e : goal.invariant-loop-e
-invariant-loop-e l = (l.e ≤ 32) × of_file Walked l.columns l.found.names l.found.kinds l.e
-
-abbrev pub decreases-loop-e : goal.decreases-loop-e
-decreases-loop-e l = 32 - l.e
+invariant-loop-e l = of_file Walked l.columns l.found.names l.found.kinds l.e
