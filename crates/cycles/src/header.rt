@@ -12,7 +12,7 @@ use crate::layout::{
     BY_BYTES, ENTITY_COLUMNS, MOST_HEADER_BYTES, NO_COLUMN, NO_HEADER, PRESENCE_COLUMN,
 };
 use checking::Columns;
-use checking::layout::{ENTITY_INTERFACE_ROWS, NO_ENTITY, NO_MEMBER};
+use checking::layout::ENTITY_INTERFACE_ROWS;
 use text::classes::EVENT;
 use values::same_bytes;
 
@@ -42,15 +42,13 @@ fn event_column(columns: &Columns<'_>, owner: &[u8], member: &[u8]) -> usize
     ensures { of_file ColumnRead columns.now
         (λ f. column_of_entity f (entity_named f owner.now) member.now) result }
 {
-    let e = columns.entity_called(owner);
-    if e == NO_ENTITY {
+    let Some(e) = columns.entity(owner) else {
         return NO_COLUMN;
-    }
+    };
     let face = columns.row(ENTITY_INTERFACE_ROWS + e);
-    let m = columns.member_called(face, member);
-    if m == NO_MEMBER {
+    let Some(m) = columns.member(face, member) else {
         return NO_COLUMN;
-    }
+    };
     if columns.member_sort(face, m) != EVENT {
         return NO_COLUMN;
     }
@@ -65,10 +63,9 @@ fn column_called(columns: &Columns<'_>, field: &[u8]) -> usize
     let size = field.len();
     let last = field_start(field, size, 46);
     if last == 0 {
-        let e = columns.entity_called(field);
-        if e == NO_ENTITY {
+        let Some(e) = columns.entity(field) else {
             return NO_COLUMN;
-        }
+        };
         return e * ENTITY_COLUMNS + PRESENCE_COLUMN;
     }
     let end = last - 1;

@@ -10,9 +10,7 @@ ghost use Rattle.days.specs.inner_contracts.Choosing;
 ghost use Rattle.days.specs.inner_contracts.Choosing.{SpotRead, ChosenRead, RealRead, SpotValue, RealsRead, CellsRead};
 ghost use Rattle.checking.specs.inner_contracts.OfColumns.{of_names};
 
-use checking::layout::{
-    ENTITY_COUNT_ROW, ENTITY_INTERFACE_ROWS, MOST_ENTITIES, NO_ENTITY, NO_MEMBER,
-};
+use checking::layout::{ENTITY_COUNT_ROW, ENTITY_INTERFACE_ROWS, MOST_ENTITIES};
 use checking::{Columns, row};
 use cycles::fields::field_start;
 use cycles::layout::{ENTITY_CELLS, MOST_CELLS};
@@ -33,15 +31,13 @@ fn member_spot(columns: &Columns<'_>, owner: &[u8], member: &[u8]) -> usize
     ensures { of_names SpotRead columns.now
         (λ f. spot_of_entity f (entity_named f owner.now) member.now) result }
 {
-    let e = columns.entity_called(owner);
-    if e == NO_ENTITY {
+    let Some(e) = columns.entity(owner) else {
         return NO_SPOT;
-    }
+    };
     let face = columns.row(ENTITY_INTERFACE_ROWS + e);
-    let m = columns.member_called(face, member);
-    if m == NO_MEMBER {
+    let Some(m) = columns.member(face, member) else {
         return NO_SPOT;
-    }
+    };
     e * ENTITY_CELLS + m
 }
 
