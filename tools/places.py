@@ -166,7 +166,7 @@ ENUMS, STRUCTS = {}, []
 for path, raw in SOURCES.items():
     for m in re.finditer(r'^(?:pub(?:\(\w+\))? )?(enum|struct) (\w+)[^{;(]*\{', bare(raw), re.M):
         text = bare(raw)
-        fields = split(text[m.end():close(text, m.end() - 1, '{}')])
+        fields = split(re.sub(r'#\[[^\]]*\]', '', text[m.end():close(text, m.end() - 1, '{}')]))
         line = text.count('\n', 0, m.start()) + 1
         if m.group(1) == 'enum':
             ENUMS[m.group(2) if m.group(2) not in ENUMS else m.group(2) + ' of ' + path] = (path, line, fields)
