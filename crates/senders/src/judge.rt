@@ -36,13 +36,10 @@ pub fn takes_cells(n: usize, present: &[u8], inputs: &Inputs<'_>) -> bool
     requires { (n ≤ length present.now) × (n ≤ length inputs.now.flags.now) × (Planes.ENTITY_CELL_BYTES * n ≤ length inputs.now.cells.now) }
     ensures { result ≡ each (takes_cell present.now inputs.now.flags.now inputs.now.cells.now) 0 (Planes.ENTITY_CELLS * n) }
 {
-    let count = ENTITY_CELLS * n;
-    let mut i = 0;
-    while i < count {
+    for i in 0..ENTITY_CELLS * n {
         if !takes_cell(present, inputs, i) {
             return false;
         }
-        i += 1;
     }
     true
 }
@@ -51,17 +48,8 @@ pub fn takes_cells(n: usize, present: &[u8], inputs: &Inputs<'_>) -> bool
 pub fn in_turn(last: u32, number: u64) -> bool
     ensures { result ≡ in_turn last number }
 {
-    let before = last as u64;
-    if number == 0 {
-        return false;
-    }
-    if GREATEST_NUMBER < number {
-        return false;
-    }
-    if number == before {
-        return true;
-    }
-    number == before + 1
+    let last = u64::from(last);
+    number != 0 && number <= GREATEST_NUMBER && (number == last || number == last + 1)
 }
 
 // Is the reading of cell number i the one that is kept? An action has none.
@@ -90,13 +78,10 @@ pub fn same_readings(columns: &Columns<'_>, plane: &[u8], inputs: &Inputs<'_>) -
         return false;
     }
     let kept = &plane[n..];
-    let end = ENTITY_CELLS * n;
-    let mut i = 0;
-    while i < end {
+    for i in 0..ENTITY_CELLS * n {
         if !same_reading(columns, kept, inputs.cells, i) {
             return false;
         }
-        i += 1;
     }
     true
 }

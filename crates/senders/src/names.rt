@@ -1,4 +1,5 @@
 // The form of a sender's name.
+ghost use Rattle.std.specs.List.{list_all};
 ghost use Rattle.std.specs.Prelude.{◌≡◌};
 ghost use Rattle.text.specs.definitions.Bytes.{is_letter, is_name_byte};
 ghost use Rattle.senders.specs.definitions.Sender.{is_sender};
@@ -9,51 +10,32 @@ use crate::layout::MOST_NAME_BYTES;
 fn is_letter(b: u8) -> bool
     ensures { result ≡ is_letter b }
 {
-    if 97 <= b {
-        return b <= 122;
-    }
-    if 65 <= b {
-        return b <= 90;
-    }
-    false
+    b.is_ascii_lowercase() || b.is_ascii_uppercase()
 }
 
 #[tactic(auto, unfolding(text::specs::definitions::Bytes::is_name_byte))]
 fn is_name_byte(b: u8) -> bool
     ensures { result ≡ is_name_byte b }
 {
-    if is_letter(b) {
-        return true;
-    }
-    if b == 95 {
-        return true;
-    }
-    if b < 48 {
-        return false;
-    }
-    b <= 57
+    is_letter(b) || b.is_ascii_digit() || b == b'_'
 }
 
-// A letter, then letters, digits or `_`, 24 bytes at most.
+fn are_name_bytes(name: &[u8]) -> bool
+    ensures { result ≡ list_all is_name_byte name.now }
+{
+    name.iter().all(|&b| is_name_byte(b))
+}
+
+/// Has a name the form of a sender's? A letter, then letters, digits or `_`, 24 bytes at most.
 #[tactic(auto, using(crate::proofs::steps::NameSteps::name_read))]
 pub fn is_sender(name: &[u8]) -> bool
     ensures { result ≡ is_sender name.now }
 {
-    if MOST_NAME_BYTES < name.len() {
+    let Some(&first) = name.first() else {
+        return false;
+    };
+    if !is_letter(first) {
         return false;
     }
-    if name.len() == 0 {
-        return false;
-    }
-    if !is_letter(name[0]) {
-        return false;
-    }
-    let mut i = 0;
-    while i < name.len() {
-        if !is_name_byte(name[i]) {
-            return false;
-        }
-        i += 1;
-    }
-    true
+    name.len() <= MOST_NAME_BYTES && are_name_bytes(name)
 }

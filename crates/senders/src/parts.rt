@@ -1,5 +1,6 @@
 // The senders' parts of a state image: found by a name, tested, and put.
-ghost use Rattle.std.specs.Prelude.{◌≡◌, ◌+◌, ◌-◌, ◌*◌, ◌≤◌, length, get_or, drop, replicate, ◌++◌};
+ghost use Rattle.std.specs.List.{list_all};
+ghost use Rattle.std.specs.Prelude.{◌≡◌, ◌<◌, eqb, unwrap_or, IfSome, ◌+◌, ◌-◌, ◌*◌, ◌≤◌, length, get_or, drop, replicate, ◌++◌};
 ghost use Rattle.values.specs.inner_contracts.Puts.{Put};
 ghost use Rattle.values.specs.definitions.Bytes.{same_bytes};
 ghost use Rattle.checking.specs.definitions.CountFaults;
@@ -57,40 +58,38 @@ fn has_name(part: &[u8], name: &[u8]) -> bool
     same_bytes(name, &part[1..end])
 }
 
-// The place of the sender of that name among `count` parts of so many bytes; `count` if there is none.
+// The place of the sender of that name among `count` parts of so many bytes.
 #[tactic(auto, using(crate::proofs::steps::PartSteps::places_begin, crate::proofs::steps::PartSteps::place_found))]
-pub fn place_of(parts: &[u8], size: usize, count: usize, name: &[u8]) -> usize
+pub fn place_of(parts: &[u8], size: usize, count: usize, name: &[u8]) -> Option<usize>
     requires { (StateImage.SENDER_HEAD_BYTES ≤ size) × (count * size ≤ length parts.now) × (length name.now ≤ Sender.MOST_NAME_BYTES) }
-    ensures { PlaceRead parts.now size count name.now result }
+    ensures place { PlaceRead parts.now size count name.now (unwrap_or result count) }
+    ensures below { IfSome result (λ i. i < count) }
 {
     let mut at = 0;
-    let mut i = 0;
-    while i < count {
+    for i in 0..count {
         if has_name(&parts[at..], name) {
-            return i;
+            return Some(i);
         }
         at += size;
-        i += 1;
     }
-    count
+    None
 }
 
 // ---- tests
 
-#[tactic(auto, using(cycles::proofs::laws::TableLaws::each_fails, cycles::proofs::laws::TableLaws::each_goes_on, cycles::proofs::laws::TableLaws::each_ends), unfolding(crate::specs::definitions::StateImage::is_padded))]
+fn are_zeros(bytes: &[u8]) -> bool
+    ensures { result ≡ list_all (λ b. eqb b 0) bytes.now }
+{
+    bytes.iter().all(|&b| b == 0)
+}
+
+#[tactic(auto, using(crate::proofs::steps::PartSteps::zeros_padded))]
 fn is_padded(part: &[u8]) -> bool
-    requires { StateImage.NAME_PLACE ≤ length part.now }
+    requires { (StateImage.NAME_PLACE ≤ length part.now) × (get_or part.now 0 0 ≤ Sender.MOST_NAME_BYTES) }
     ensures { result ≡ is_padded part.now }
 {
-    let mut i = part[0] as usize;
-    while i < MOST_NAME_BYTES {
-        let next = i + 1;
-        if part[next] != 0 {
-            return false;
-        }
-        i = next;
-    }
-    true
+    let end = part[0] as usize + 1;
+    are_zeros(&part[end..NAME_PLACE])
 }
 
 // Has a part a name and a number of at least 1?
@@ -136,15 +135,13 @@ pub fn are_senders(columns: &Columns<'_>, parts: &[u8], count: usize) -> bool
 {
     let size = SENDER_HEAD_BYTES + ENTITY_BYTES * columns.row(ENTITY_COUNT_ROW);
     let mut at = 0;
-    let mut left = count;
-    while 0 < left {
+    for i in 0..count {
         let part = &parts[at..];
         if !is_sender_part(columns, part) {
             return false;
         }
         at += size;
-        left -= 1;
-        if place_of(&parts[at..], size, left, name_of(part)) != left {
+        if place_of(&parts[at..], size, count - i - 1, name_of(part)).is_some() {
             return false;
         }
     }

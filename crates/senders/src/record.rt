@@ -148,12 +148,14 @@ fn take_sent(
         return Err(LineError::IllFormedSender);
     }
     let from = part_at(n, 0);
+    // a new sender's place is the one after the last
     let place = place_of(
         &state[from..],
         SENDER_HEAD_BYTES + ENTITY_BYTES * n,
         known,
         name,
-    );
+    )
+    .unwrap_or(known);
     let is_full = MOST_SENDERS <= place;
     if is_full {
         return Err(LineError::NinthSender);

@@ -71,15 +71,9 @@ pub fn show(columns: &Columns<'_>, state: &[u8], name: &[u8], row: &mut [u8]) ->
         return 0;
     }
     let from = part_at(n, 0);
-    let place = place_of(
-        &state[from..],
-        SENDER_HEAD_BYTES + ENTITY_BYTES * n,
-        known,
-        name,
-    );
-    if place < known {
-        return show_place(columns, state, place, row);
+    let size = SENDER_HEAD_BYTES + ENTITY_BYTES * n;
+    match place_of(&state[from..], size, known, name) {
+        Some(place) => show_place(columns, state, place, row),
+        None => put_row(columns, name, 0, &[0; MOST_CELL_BYTES], row),
     }
-    let nothing = [0u8; MOST_CELL_BYTES];
-    put_row(columns, name, 0, &nothing, row)
 }

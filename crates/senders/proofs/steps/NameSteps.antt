@@ -1,5 +1,6 @@
 -- The form of a sender's name, byte by byte, as the code tests it.
-use mathlib.Core.Path.{◌≡◌, refl}
+use mathlib.Core.Path.{◌≡◌, refl, ap, ◌∙◌}
+use Rattle.std.specs.List.{list_all}
 use mathlib.Core.Bool.{Bool, true, false, ◌&&◌}
 use mathlib.Core.List.{List, [], ◌∷◌}
 use Prim.Native.Nat.{ℕ, ◌+◌, ◌≤◌, ◌<◌}
@@ -37,29 +38,20 @@ pub no_first_letter : (x : List ℕ) → 0 < length x → is_letter (get_or x 0 
 unfolding is_sender
 no_first_letter x h e = rw (first_byte x h, e)
 
--- a name that is not too long and begins with a letter, from byte i on
+every_all : (x : List ℕ) → list_all is_name_byte x ≡ every is_name_byte x
+unfolding every
+every_all [] = refl
+every_all (b ∷ x) = ap (λ (t : Bool). is_name_byte b && t) (every_all x)
+
+-- a name that is not too long and begins with a letter
 module _ (x : List ℕ) (short : length x ≤ 24) (some : 0 < length x) (letter : is_letter (get_or x 0 0) ≡ true) where
-  pub by_bytes : every is_name_byte x ≡ is_sender x
+  pub by_bytes : list_all is_name_byte x ≡ is_sender x
   unfolding is_sender
-  by_bytes = rw (first_byte x some, letter, le-leb (length x) 24 short) (go (every is_name_byte x))
+  by_bytes = every_all x ∙ rw (first_byte x some, letter, le-leb (length x) 24 short) (go (every is_name_byte x))
     where
       go : (b : Bool) → b ≡ (b && true)
       go true = refl
       go false = refl
 
-module _ (x : List ℕ) (i : ℕ) where
-  module _ (h : i < length x) where
-    pub byte_fails : is_name_byte (get_or x i 0) ≡ false → false ≡ every is_name_byte (drop i x)
-    unfolding every
-    byte_fails e = rw (drop-cons x i 0 h, e)
-
-    pub byte_passes : is_name_byte (get_or x i 0) ≡ true → every is_name_byte (drop (i + 1) x) ≡ every is_name_byte (drop i x)
-    unfolding every
-    byte_passes e = rw (drop-cons x i 0 h, e, add-one i)
-
-  pub bytes_end : length x ≤ i → true ≡ every is_name_byte (drop i x)
-  unfolding every
-  bytes_end h = rw (drop_of_length-le x h)
-
 -- what each test of a name says
-pub ruleset name_read = (too_long, no_name, no_first_letter, by_bytes, byte_fails, byte_passes, bytes_end)
+pub ruleset name_read = (too_long, no_name, no_first_letter, by_bytes)

@@ -1,13 +1,16 @@
 -- The senders' parts of a state image, as the code finds and tests them: one after another.
-use Prim.Native.Nat.{ℕ, suc, ◌+◌, ◌-◌, ◌*◌, ◌≤◌, ◌<◌}
+use Prim.Native.Nat.{ℕ, zero, suc, ◌+◌, ◌-◌, ◌*◌, ◌≤◌, ◌<◌}
 use native.Mathlib.Nat.{suc-mul}
+use native.Mathlib.Numerals.{add-one}
 use native.Mathlib.Omega.{arith}
 use mathlib.Core.Path.{◌≡◌, refl, sym, ap, ap₂, ◌∙◌}
-use mathlib.Core.Bool.{Bool, true, false, not, ◌&&◌}
-use mathlib.Core.List.{List}
+use mathlib.Core.Bool.{Bool, true, false, not, ◌&&◌, true≢false}
+use mathlib.Core.List.{List, ◌∷◌}
 use lib.Dec.{eqb}
-use lib.ListN.{length, get_or, drop, length-take, length-drop}
-use lib.Seq.{drop-drop}
+use lib.ListN.{length, get_or, take, drop, length-take, length-drop}
+use lib.Seq.{drop-drop, drop-cons}
+use Rattle.std.specs.List.{list_all}
+use Rattle.std.specs.Prelude.{Option, Some, None, is_some, unwrap_or, IfSome}
 use borrow.Author.Tests.{le-leb, lt-leb, lt-ltb}
 use Rattle.values.specs.definitions.Bytes.{same_bytes, word_at}
 use Rattle.values.proofs.laws.ByteLaws.{same_bytes_equal}
@@ -15,7 +18,7 @@ use Rattle.text.specs.definitions.Syntax.{File}
 use Rattle.checking.specs.inner_contracts.DirectoryReads.{Few}
 use Rattle.checking.specs.inner_contracts.Directory.{Bench}
 use Rattle.cycles.specs.declared.planes.Plane.TheVariants.{Kept}
-use Rattle.cycles.specs.definitions.Planes.{entity_count, kept_fits, plane_fits}
+use Rattle.cycles.specs.definitions.Planes.{each, entity_count, kept_fits, plane_fits}
 use Rattle.cycles.specs.inner_contracts.PlaneMemory.{fit_of, bound_of, PlaneTest}
 use Rattle.cycles.proofs.laws.TableLaws.{word_drop}
 use Rattle.cycles.proofs.laws.PlaneTestLaws.{behind, behind_all}
@@ -120,7 +123,32 @@ module _ {parts : List ℕ} {size count : ℕ} {name : List ℕ} where
               z ∙ rw (n, first_name, t, e, m) at (p.is f e);
         }
 
+-- a place that is found is one of the parts, and a place that is none is one after the last
+pub found_below : (r : Option ℕ) {n : ℕ} → IfSome r (λ i. i < n) → is_some r ≡ true → unwrap_or r n ≡ n → ⊥
+found_below None b t e = true≢false (sym t)
+found_below (Some i) b t e = omega arith
+
+pub none_last : (r : Option ℕ) {n : ℕ} → is_some r ≡ false → unwrap_or r n ≡ n
+none_last None t = refl
+none_last (Some i) t = absurd (true≢false t)
+
 -- ---- one part
+
+zeros_each : (part : List ℕ) (k i : ℕ) → i + 1 + k ≤ length part → list_all (λ b. eqb b 0) (take k (drop (i + 1) part)) ≡ each (λ j. eqb (get_or part (j + 1) 0) 0) i k
+unfolding each
+zeros_each part zero i h = refl
+zeros_each part (suc k) i h =
+    let next : drop (i + 1) part ≡ get_or part (i + 1) 0 ∷ drop (i + 1 + 1) part =
+    drop-cons part (i + 1) 0 (omega arith) ∙ ap (λ (n : ℕ). get_or part (i + 1) 0 ∷ drop n part) (sym (add-one (i + 1))) in
+    rw next
+    (ap (λ (b : Bool). eqb (get_or part (i + 1) 0) 0 && b) (zeros_each part k (i + 1) (omega arith)))
+
+pub zeros_padded : (part : List ℕ) → 25 ≤ length part → get_or part 0 0 ≤ 24
+    → list_all (λ b. eqb b 0) (take (25 - (get_or part 0 0 + 1)) (drop (get_or part 0 0 + 1) part)) ≡ is_padded part
+unfolding is_padded
+zeros_padded part h l =
+    let n : 25 - (get_or part 0 0 + 1) ≡ 24 - get_or part 0 0 = omega arith in
+    rw n (zeros_each part (24 - get_or part 0 0) (get_or part 0 0) (omega arith))
 
 module _ (part : List ℕ) where
   pub long_name : 24 < get_or part 0 0 → false ≡ is_sender_head part
