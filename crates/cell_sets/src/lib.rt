@@ -7,4 +7,4 @@ pub mod meeting; // the rows that have a number in common with a set
 
 pub use bits::{add, has_bit, with_bit};
 pub use meeting::rows_met;
-pub use moving::find_moved;
+pub use moving::{Pair, find_moved};

@@ -17,35 +17,36 @@ fn add_meeting(
     byte: u8,
     met: u64,
 ) -> u64
-    requires { (count ≤ 64) × (base + size * count ≤ length rows.now) × (j < size) × (size < 2 ^ 63) }
+    requires few { count ≤ 64 }
+    requires rows { base + size * count ≤ length rows.now }
+    requires byte { (j < size) × (size < 2 ^ 63) }
     ensures { Added (byte_meets rows.now (base + j) size byte) 0 count (has_bit met) (has_bit result) }
 {
     let mut all = met;
     let mut at = base + j;
-    let mut k = 0;
-    while k < count {
+    for k in 0..count {
         if rows[at] & byte != 0 {
             all = with_bit(all, k);
         }
         at += size;
-        k += 1;
     }
     all
 }
 
-// Which of so many rows have a number in common with the set, as the bits of a number. Byte by byte of the set, since few of its bytes are not 0.
+/// Which of so many rows have a number in common with the set, as the bits of a number.
+// Byte by byte of the set, since few of its bytes are not 0.
 #[tactic(auto, using(crate::proofs::steps::MeetingSteps::met_begin, crate::proofs::steps::MeetingSteps::met_skip, crate::proofs::steps::MeetingSteps::met_next, crate::proofs::steps::MeetingSteps::met_end))]
 pub fn rows_met(rows: &[u8], base: usize, size: usize, count: u8, set: &[u8]) -> u64
-    requires { (count ≤ 64) × (base + size * count ≤ length rows.now) × (size ≤ length set.now) }
+    requires few { count ≤ 64 }
+    requires rows { base + size * count ≤ length rows.now }
+    requires set { size ≤ length set.now }
     ensures { Met rows.now base size count set.now result }
 {
     let mut met = 0;
-    let mut j = 0;
-    while j < size {
+    for j in 0..size {
         if set[j] != 0 {
             met = add_meeting(rows, base, size, count, j, set[j], met);
         }
-        j += 1;
     }
     met
 }

@@ -7,7 +7,7 @@ ghost use Rattle.cycles.specs.inner_contracts.AllRules.{AreTried};
 use crate::layout::{ENTITY_CELLS, READ_SET_BYTES, READ_SETS_AT, SCOPES_BYTES};
 use crate::rules::Rules;
 use crate::store::Stores;
-use cell_sets::{find_moved, rows_met};
+use cell_sets::{Pair, find_moved, rows_met};
 use checking::layout::{ENTITY_COUNT_ROW, MOST_ENTITIES, MOST_RULES, RULE_COUNT_ROW};
 
 // The set of the rules that are tried, by their numbers. No bench has more rules or entities, and its sets have room.
@@ -30,15 +30,15 @@ pub fn tried_rules(rules: &Rules<'_>, stores: &Stores<'_>) -> u64
     }
     let mut moved = [0u8; READ_SET_BYTES];
     let Stores { current, previous } = stores;
-    find_moved(
-        n,
-        ENTITY_CELLS,
-        current.flags,
-        current.cells,
-        previous.flags,
-        previous.cells,
-        &mut moved,
-    );
+    let flags = Pair {
+        current: current.flags,
+        previous: previous.flags,
+    };
+    let cells = Pair {
+        current: current.cells,
+        previous: previous.cells,
+    };
+    find_moved(n, ENTITY_CELLS, &flags, &cells, &mut moved);
     rows_met(
         rules.scopes,
         READ_SETS_AT,

@@ -121,16 +121,18 @@ fn put_day(
     while at < readings.len() {
         let stop = line_end(readings, at);
         if let Some(number) = step(rules, header, &readings[at..stop], state) {
-            let values = read_chosen(rules.columns.d, state, spots, count);
-            end = put_line(sheet, end, number as u64, values, count);
-            // by a second name: the borrow checker does not cover a call's result that is laid in an array
-            let more = folded_values(folds, values, count);
+            // by second names: the borrow checker does not cover a call's result that is laid in an array
+            let read = read_chosen(rules.columns.d, state, spots, count);
+            let values = read;
+            end = put_line(sheet, end, number as u64, &values[..count]);
+            let more = folded_values(folds, &values[..count]);
             folds = more;
         }
         at = stop + 1;
     }
-    let reals = real_cells(rules.columns.classes, rules.columns.d, spots, count);
-    put_closings(sheet, end, reals, folds, count)
+    let told = real_cells(rules.columns.classes, rules.columns.d, spots, count);
+    let reals = told;
+    put_closings(sheet, end, &reals[..count], folds)
 }
 
 // The run works on a copy: the state that is lent stays.

@@ -1,5 +1,5 @@
 // The closing rows of the real columns.
-ghost use Rattle.std.specs.Prelude.{[], ◌∷◌, cond, ◌+◌, ◌*◌, ◌≤◌, ◌<◌, length, take};
+ghost use Rattle.std.specs.Prelude.{[], ◌∷◌, cond, ◌+◌, ◌*◌, ◌≤◌, ◌<◌, length};
 ghost use Rattle.values.specs.inner_contracts.Puts.{Put};
 ghost use Rattle.sheets.specs.definitions.Layout;
 ghost use Rattle.sheets.specs.definitions.Closing.{column_row, two_rows, closing_rows, all_closing_rows};
@@ -54,23 +54,14 @@ fn put_closing_if_real(out: &mut [u8], at: usize, k: usize, real: bool, f: Fold)
     at
 }
 
-// The closing rows of the first `count` columns.
-pub fn put_closings(
-    out: &mut [u8],
-    at: usize,
-    reals: [bool; MOST_CHOSEN],
-    fs: [Fold; MOST_CHOSEN],
-    count: usize,
-) -> usize
-    requires { (count ≤ Layout.MOST_CHOSEN) × (at + Sizes.MOST_CLOSING_BYTES * count ≤ length out.old) }
-    ensures { Put (with_feeds (all_closing_rows 0 (take count reals) fs)) out.old at out.new result }
+/// Puts the closing rows of the columns; `reals` says which of them are real.
+pub fn put_closings(out: &mut [u8], at: usize, reals: &[bool], folds: [Fold; MOST_CHOSEN]) -> usize
+    requires { (length reals.now ≤ Layout.MOST_CHOSEN) × (at + Sizes.MOST_CLOSING_BYTES * length reals.now ≤ length out.old) }
+    ensures { Put (with_feeds (all_closing_rows 0 reals.now folds)) out.old at out.new result }
 {
-    let mut k = 0;
-    let mut a = at;
-    while k < count {
-        let f = fs[k];
-        a = put_closing_if_real(out, a, k, reals[k], f);
-        k += 1;
+    let mut end = at;
+    for (k, &real) in reals.iter().enumerate() {
+        end = put_closing_if_real(out, end, k, real, folds[k]);
     }
-    a
+    end
 }

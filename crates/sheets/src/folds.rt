@@ -1,5 +1,5 @@
 // The lowest, highest and last set value of each real column, over the lines printed so far.
-ghost use Rattle.std.specs.Prelude.{◌≡◌, cond, ◌≤◌, take, replicate};
+ghost use Rattle.std.specs.Prelude.{◌≡◌, cond, ◌≤◌, length, replicate};
 ghost use Rattle.std.specs.Float.Ieee.{lt};
 ghost use Rattle.sheets.specs.definitions.Layout;
 ghost use Rattle.sheets.specs.definitions.Folds.{NONE_SET, folded, folded_value, folded_values};
@@ -8,6 +8,7 @@ use crate::Fold;
 use crate::layout::MOST_CHOSEN;
 use values::Value;
 
+/// A column without a set value yet, for each that there may be.
 pub fn no_folds() -> [Fold; MOST_CHOSEN]
     ensures { result ≡ replicate Layout.MOST_CHOSEN NONE_SET }
 {
@@ -20,7 +21,7 @@ pub fn no_folds() -> [Fold; MOST_CHOSEN]
     [none_set; MOST_CHOSEN]
 }
 
-// The lower of two values. Of two zeros neither is lower, so the earlier one stays.
+// The lower of two values. Of two zeros neither is lower, so the earlier one stays; `min` may give either.
 fn lower(earlier: f64, later: f64) -> f64
     ensures { result ≡ cond (lt later earlier) later earlier }
 {
@@ -65,35 +66,20 @@ fn folded_value(f: Fold, v: Value) -> Fold
     ensures { result ≡ folded_value f v }
 {
     match v {
-        Value::Whole(_) => f,
-        Value::Truth(_) => f,
-        Value::Real(x) => {
-            if x != x {
-                return f;
-            }
-            folded(f, x)
-        }
-        Value::Unset => f,
+        Value::Real(x) if !x.is_nan() => folded(f, x),
+        _ => f,
     }
 }
 
-// A line's first `count` values enter, each into its column.
+/// The folds with a line's values, each in its column.
 #[tactic(auto, using(crate::proofs::laws::FoldLaws::values_put), unfolding(crate::specs::definitions::Folds::folded_values))]
-pub fn folded_values(
-    fs: [Fold; MOST_CHOSEN],
-    vs: [Value; MOST_CHOSEN],
-    count: usize,
-) -> [Fold; MOST_CHOSEN]
-    requires { count ≤ Layout.MOST_CHOSEN }
-    ensures { result ≡ folded_values fs (take count vs) }
+pub fn folded_values(so_far: [Fold; MOST_CHOSEN], values: &[Value]) -> [Fold; MOST_CHOSEN]
+    requires { length values.now ≤ Layout.MOST_CHOSEN }
+    ensures { result ≡ folded_values so_far values.now }
 {
-    let mut gs = fs;
-    let mut i = 0;
-    while i < count {
-        let f = gs[i];
-        let v = vs[i];
-        gs[i] = folded_value(f, v);
-        i += 1;
+    let mut folds = so_far;
+    for (i, &v) in values.iter().enumerate() {
+        folds[i] = folded_value(folds[i], v);
     }
-    gs
+    folds
 }

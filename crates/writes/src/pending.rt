@@ -4,21 +4,20 @@ ghost use Rattle.writes.specs.inner_contracts.Pending.{pended};
 
 use values::Value;
 
-// Does a write of this priority come too late? By the stamp of its cell: 0 where nothing was written, else the priority that holds the cell, plus 1.
+// Whether a write of this priority comes too late, by the stamp of its cell: 0 where nothing was written, else the priority that holds the cell, plus 1.
 fn is_late(stamp: u8, priority: u8) -> bool
     ensures { result ≡ ltb priority stamp }
 {
-    if stamp == 0 {
-        return false;
-    }
-    let held = stamp - 1;
-    priority <= held
+    stamp.checked_sub(1).is_some_and(|held| priority <= held)
 }
 
-// The write of a value to cell number i, by a rule of this priority: made unless one of its priority or a higher one was made before.
+/// The write of a value to cell number `i`, by a rule of this priority: made unless one of its priority or a higher one was made before. The cells
+/// stand at the front of the area, their stamps from `stamps` on.
 #[tactic(auto, unfolding(crate::specs::inner_contracts::Pending::pended))]
 pub fn put_write(area: &mut [u8], stamps: usize, i: usize, priority: u8, v: Value)
-    requires { (i * 9 + 9 ≤ stamps) × (stamps + i < length area.old) × (priority < 255) }
+    requires cell { i * 9 + 9 ≤ stamps }
+    requires stamp { stamps + i < length area.old }
+    requires few { priority < 255 }
     ensures { area.new ≡ pended stamps area.old i priority v }
 {
     let at = stamps + i;

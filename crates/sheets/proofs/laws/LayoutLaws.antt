@@ -24,19 +24,6 @@ length_filled t h =
 
 -- ---- spaces
 
-pub spaces_start : (l : List ℕ) (at count : ℕ) → overwritten l at (replicate (at + count - at) 32) ≡ overwritten l at (replicate count 32)
-spaces_start l at count = let e : at + count - at ≡ count = omega arith in rw e
-
-pub spaces_step : (l : List ℕ) (i end : ℕ) → i < end
-    → overwritten l i (replicate (end - i) 32) ≡ overwritten (set l i 32) (i + 1) (replicate (end - (i + 1)) 32)
-spaces_step l i end h = let e : end - i ≡ suc (end - (i + 1)) = omega arith in rw e
-
-pub spaces_put : (l m : List ℕ) (at count i : ℕ) → at + count ≤ i
-    → overwritten m i (replicate (at + count - i) 32) ≡ overwritten l at (replicate count 32) → Put (replicate count 32) l at m (at + count)
-spaces_put l m at count i h e =
-    let z : at + count - i ≡ 0 = omega arith in
-    record { end = rw (length-replicate {A = ℕ} count 32); is = rw z at e }
-
 pub spaces_end : (count : ℕ) {l m : List ℕ} {at r : ℕ} → Put (replicate count 32) l at m r → r ≡ at + count
 spaces_end count p = p.end ∙ rw (length-replicate {A = ℕ} count 32)
 

@@ -1,7 +1,8 @@
 -- The rows of a printed line: sizes, and how their parts are put.
 use mathlib.Core.Path.{◌≡◌, refl, sym, ap, ◌∙◌}
 use mathlib.Core.List.{List, [], ◌∷◌, ◌++◌, flat_map, append_assoc, append-nil}
-use mathlib.Core.Bool.{Bool, true, false, cond, false≢true, true≢false}
+use mathlib.Core.Bool.{Bool, true, false, cond, ◌||◌, false≢true, true≢false}
+use Rattle.std.specs.List.{list_any}
 use Prim.Native.Nat.{ℕ, suc, ◌+◌, ◌-◌, ◌*◌, ◌≤◌, ◌<◌}
 use native.Mathlib.Numerals.{add-one}
 use native.Mathlib.Omega.{arith}
@@ -134,25 +135,19 @@ pub columns_end : (below : Bool) (vs : List Value) (i : ℕ) {l m : List ℕ} {a
     → r ≡ at + CELL_COLUMNS * i
 columns_end below vs i h p = p.end ∙ rw (length_columns below (take i vs), length-take-le i vs h)
 
--- ---- a set real among the first values, from the front to the end
+pub columns_whole : (below : Bool) (vs : List Value) {l m : List ℕ} {at r : ℕ} → Put (cell_columns below vs) l at m r → r ≡ at + CELL_COLUMNS * length vs
+columns_whole below vs p = p.end ∙ rw (length_columns below vs)
 
-module _ (vs : List Value) (count i : ℕ) (d : Value) (h : count ≤ length vs) where
-  values_left : i < count → drop i (take count vs) ≡ get_or vs i d ∷ drop (i + 1) (take count vs)
-  values_left p =
-      let n : i < length (take count vs) = rw (length-take-le count vs h) p in
-      rw (drop-cons (take count vs) i d n, get_or-take count vs i d p, add-one i)
+-- ---- a set real among the values
 
-  pub real_next : i < count → is_set_real (get_or vs i d) ≡ false → has_set_real (drop i (take count vs)) ≡ has_set_real (drop (i + 1) (take count vs))
-  unfolding has_set_real
-  real_next p e = rw (values_left p, e)
-
-  pub real_here : i < count → is_set_real (get_or vs i d) ≡ true → has_set_real (drop i (take count vs)) ≡ true
-  unfolding has_set_real
-  real_here p e = rw (values_left p, e)
-
-  pub real_nowhere : count ≤ i → has_set_real (drop i (take count vs)) ≡ false
-  unfolding has_set_real
-  real_nowhere p = let n : length (take count vs) ≤ i = rw (length-take-le count vs h) p in rw (drop_of_length-le (take count vs) n)
+pub any_set_real : (vs : List Value) → list_any is_set_real vs ≡ has_set_real vs
+unfolding has_set_real
+any_set_real [] = refl
+any_set_real (v ∷ vs) = go (is_set_real v) (any_set_real vs)
+  where
+    go : (b : Bool) → list_any is_set_real vs ≡ has_set_real vs → (b || list_any is_set_real vs) ≡ cond b true (has_set_real vs)
+    go true e = refl
+    go false e = e
 
 -- ---- rows
 

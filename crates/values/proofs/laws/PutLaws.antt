@@ -4,7 +4,7 @@ use native.Mathlib.Nat.{add-zero}
 use native.Mathlib.Omega.{arith}
 use mathlib.Core.Path.{◌≡◌, refl, sym, ap, ap₂, ◌∙◌, subst}
 use mathlib.Core.List.{List, [], ◌∷◌, ◌++◌}
-use lib.ListN.{length, set, length-append}
+use lib.ListN.{length, set, replicate, length-append, length-replicate}
 use borrow.Rule.Slice.PartMut.{put_mid}
 use Rattle.values.specs.definitions.Bytes.{overwritten}
 use Rattle.values.specs.inner_contracts.Puts.{Put}
@@ -17,6 +17,14 @@ put_none l at = record { end = sym (add-zero at); is = refl }
 pub put_part : (l : List ℕ) (at : ℕ) (bs new : List ℕ) (k : ℕ) → at + length bs ≤ length l → k ≡ length bs → new ≡ bs
     → Put bs l at (put_mid at k l new) (at + length bs)
 put_part l at bs new k h e f = record { end = refl; is = part_overwritten l at bs new k h e f }
+
+-- and as `fill` leaves it
+pub put_filled : (l : List ℕ) (at n b : ℕ) (new : List ℕ) (k : ℕ) → at + n ≤ length l → k ≡ n → new ≡ replicate k b
+    → Put (replicate n b) l at (put_mid at k l new) (at + n)
+put_filled l at n b new k h e f = record {
+  end = rw (length-replicate {A = ℕ} n b);
+  is = part_overwritten l at (replicate n b) new k (rw (length-replicate {A = ℕ} n b) h) (rw (length-replicate {A = ℕ} n b) e) (rw e at f);
+}
 
 -- one byte
 pub put_byte : (l : List ℕ) (at b : ℕ) → Put (b ∷ []) l at (set l at b) (at + 1)

@@ -10,10 +10,9 @@ loop-k-preserved c =
     let l = c.loop-k in
     let n = row_next c.args.size l.k in (
       omega arith,
-      omega arith,
       elim c.if-rows-at-ne0.branch [
         | then-rows-at-ne0 w ↦
-            bits_same w.all-is (added_pass l.invariant.2 zero-le (meets_here _ _ _ _ l.k l.at l.invariant.1 w.if-rows-at-ne0.true) w.with_bit-all.ensures)
-        | else-rows-at-ne0 w ↦ bits_same w.all-is (added_skip l.invariant.2 zero-le (apart_here _ _ _ _ l.k l.at l.invariant.1 w.if-rows-at-ne0.false))
+            bits_same w.all-is (added_pass l.invariant.1 zero-le (meets_here _ _ _ _ l.k l.at l.invariant.0 w.if-rows-at-ne0.true) w.with_bit-all.ensures)
+        | else-rows-at-ne0 w ↦ bits_same w.all-is (added_skip l.invariant.1 zero-le (apart_here _ _ _ _ l.k l.at l.invariant.0 w.if-rows-at-ne0.false))
       ],
     )

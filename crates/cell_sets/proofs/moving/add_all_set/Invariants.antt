@@ -1,12 +1,8 @@
 -- up to cell number i those that pass are added
-use Rattle.std.proofs.Common.{◌≤◌, ◌-◌}
 use Rattle.cell_sets.specs.definitions.Sets.{is_in}
 use Rattle.cell_sets.specs.inner_contracts.Adding.{Added}
 use Rattle.cell_sets.specs.inner_contracts.Moving.{cell_is_set}
 use Rattle.cell_sets.proofs.moving.add_all_set.Given as goal
 
 abbrev pub invariant-loop-i : goal.invariant-loop-i
-invariant-loop-i l = (l.first ≤ l.i) × (l.i ≤ l.end) × Added (cell_is_set l.cells) l.first l.i (is_in l.fn.moved) (is_in l.moved)
-
-abbrev pub decreases-loop-i : goal.decreases-loop-i
-decreases-loop-i l = l.end - l.i
+invariant-loop-i l = Added (cell_is_set l.cells) l.first l.i (is_in l.fn.moved) (is_in l.moved)

@@ -1,12 +1,8 @@
 -- up to cell number i those that pass are added
-use Rattle.std.proofs.Common.{◌≤◌, ◌-◌}
 use Rattle.cell_sets.specs.definitions.Sets.{is_in}
 use Rattle.cell_sets.specs.inner_contracts.Adding.{Added}
 use Rattle.cell_sets.specs.inner_contracts.Moving.{cells_differ}
 use Rattle.cell_sets.proofs.moving.add_differing.Given as goal
 
 abbrev pub invariant-loop-i : goal.invariant-loop-i
-invariant-loop-i l = (l.first ≤ l.i) × (l.i ≤ l.end) × Added (cells_differ l.cells l.previous_cells) l.first l.i (is_in l.fn.moved) (is_in l.moved)
-
-abbrev pub decreases-loop-i : goal.decreases-loop-i
-decreases-loop-i l = l.end - l.i
+invariant-loop-i l = Added (cells_differ l.cells.current.now l.cells.previous.now) l.first l.i (is_in l.fn.moved) (is_in l.moved)

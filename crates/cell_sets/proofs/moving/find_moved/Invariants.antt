@@ -1,11 +1,8 @@
 -- the set has the cells of the entities below number e that moved
-use Rattle.std.proofs.Common.{◌≡◌, ◌≤◌, ◌*◌, ◌-◌}
+use Rattle.std.proofs.Common.{◌≡◌, ◌≤◌, ◌*◌}
 use Rattle.cell_sets.specs.inner_contracts.Moving.{MovedSet}
 use Rattle.cell_sets.proofs.moving.find_moved.Given as goal
 
 abbrev pub invariant-loop-e : goal.invariant-loop-e
 invariant-loop-e l =
-    (l.e ≤ l.n) × (l.first ≡ l.e * l.per) × MovedSet l.per l.first l.flags l.cells l.previous_flags l.previous_cells l.moved
-
-abbrev pub decreases-loop-e : goal.decreases-loop-e
-decreases-loop-e l = l.n - l.e
+    (l.first ≡ l.e * l.per) × MovedSet l.per l.first l.flags.current.now l.cells.current.now l.flags.previous.now l.cells.previous.now l.moved
