@@ -1,11 +1,11 @@
 // The fresh stores of a bench.
-ghost use Rattle.std.specs.Prelude.{◌≡◌, ◌∷◌, ◌+◌, ◌*◌, ◌≤◌, length};
+ghost use Rattle.std.specs.Prelude.{◌≡◌, ◌∷◌, ◌+◌, ◌*◌, ◌≤◌, length, replicate};
 ghost use Rattle.values.specs.definitions.Bytes.{low_first};
 ghost use Rattle.text.specs.definitions.Syntax.{whole_number, real_number, literal_value};
 ghost use Rattle.cycles.specs.definitions.Planes;
 ghost use Rattle.values.specs.inner_contracts.Puts.{Put};
-ghost use Rattle.cycles.specs.inner_contracts.FreshMemory.{NumberAt, LiteralAt, AssignedValue, FreshCell, FreshCellsPut, flags_of, unset_cells};
-ghost use Rattle.cycles.specs.inner_contracts.FreshMemory.{FreshPut};
+ghost use Rattle.cycles.specs.inner_contracts.FreshMemory.{NumberAt, LiteralAt, AssignedValue, FreshCell, FreshCellsPut, FreshPut};
+ghost use Rattle.cycles.specs.inner_contracts.Bundles.{of_literals};
 ghost use Rattle.checking.specs.inner_contracts.OfColumns.{of_tokens};
 
 use crate::layout::{CELL_BYTES, ENTITY_CELLS};
@@ -14,7 +14,7 @@ use checking::Columns;
 use checking::layout::{ENTITY_COUNT_ROW, ENTITY_ROWS, MOST_ENTITIES};
 use text::classes::{ATTRIBUTE, FALSE, MINUS, NAME, TRUE, WHOLE_NUMBER};
 use text::walks::value_at;
-use values::Value;
+use values::{Packed, Value, pack, put_word};
 
 // ---- literals
 
@@ -22,9 +22,9 @@ use values::Value;
 fn whole_value(negative: bool, n: u32) -> Value
     ensures { result ≡ literal_value (whole_number negative n) }
 {
-    let z = n as i64;
+    let z = i64::from(n);
     if negative {
-        return values::fit(0 - z);
+        return values::fit(-z);
     }
     values::fit(z)
 }
@@ -33,7 +33,7 @@ fn whole_value(negative: bool, n: u32) -> Value
 fn real_value(negative: bool, n: u32) -> Value
     ensures { result ≡ literal_value (real_number negative n) }
 {
-    let x = n as f64;
+    let x = f64::from(n);
     if negative {
         return values::settle(-x);
     }
@@ -94,119 +94,72 @@ fn assigned_value(columns: &Columns<'_>, values: &[u32], from: usize, i: usize) 
 
 // The value of cell number i.
 #[tactic(auto, using(crate::proofs::steps::FreshValues::values_found))]
-fn fresh_value(
-    text: &[u8],
-    classes: &[u8],
-    offsets: &[u16],
-    lengths: &[u8],
-    values: &[u32],
-    d: &[u16],
-    i: usize,
-) -> Value
-    ensures { FreshCell text.now classes.now offsets.now lengths.now values.now d.now i result }
+fn fresh_value(columns: &Columns<'_>, literals: &[u32], i: usize) -> Value
+    ensures { of_literals FreshCell columns.now literals.now i result }
 {
-    let token = cell_token(d, i);
-    if !is_sort(classes, token, ATTRIBUTE) {
+    let token = cell_token(columns.d, i);
+    if !is_sort(columns.classes, token, ATTRIBUTE) {
         return Value::Unset;
     }
-    let from = checking::row(d, ENTITY_ROWS + i / ENTITY_CELLS) + 5;
-    let columns = Columns {
-        text,
-        classes,
-        offsets,
-        lengths,
-        d,
-    };
-    assigned_value(&columns, values, from, token + 1)
+    let from = columns.row(ENTITY_ROWS + i / ENTITY_CELLS) + 5;
+    assigned_value(columns, literals, from, token + 1)
 }
 
 // ---- the parts of the stores, each put from `at` on; the answer is the offset after it
 
-fn put_flags(state: &mut [u8], at: usize, n: usize, flag: u8) -> usize
-    requires { at + n ≤ length state.old }
-    ensures { (result ≡ at + n) × Put (flags_of flag n) state.old at state.new result }
+// A run of one byte.
+#[tactic(auto, using(values::proofs::laws::PutLaws::put_filled))]
+fn put_run(state: &mut [u8], at: usize, count: usize, byte: u8) -> usize
+    requires { at + count ≤ length state.old }
+    ensures { Put (replicate count byte) state.old at state.new result }
 {
-    let mut e = 0;
-    while e < n {
-        state[at + e] = flag;
-        e += 1;
-    }
-    at + n
-}
-
-fn put_tagged(state: &mut [u8], at: usize, tag: u8, word: u64) -> usize
-    requires { at + Planes.CELL_BYTES ≤ length state.old }
-    ensures { (result ≡ at + Planes.CELL_BYTES) × Put (tag ∷ low_first 8 word) state.old at state.new result }
-{
-    let next = at + 1;
-    state[at] = tag;
-    values::put_word(state, next, word);
-    at + CELL_BYTES
-}
-
-fn put_unset(state: &mut [u8], at: usize, count: usize) -> usize
-    requires { at + Planes.CELL_BYTES * count ≤ length state.old }
-    ensures { (result ≡ at + Planes.CELL_BYTES * count) × Put (unset_cells count) state.old at state.new result }
-{
-    let mut end = at;
-    let mut i = 0;
-    while i < count {
-        end = put_tagged(state, end, 0, 0);
-        i += 1;
-    }
+    let end = at + count;
+    state[at..end].fill(byte);
     end
 }
 
+fn put_tagged(state: &mut [u8], at: usize, cell: Packed) -> usize
+    requires { at + Planes.CELL_BYTES ≤ length state.old }
+    ensures end { result ≡ at + Planes.CELL_BYTES }
+    ensures put { Put (cell.tag ∷ low_first 8 cell.word) state.old at state.new result }
+{
+    let next = at + 1;
+    state[at] = cell.tag;
+    put_word(state, next, cell.word);
+    at + CELL_BYTES
+}
+
 fn put_fresh_cells(
-    text: &[u8],
-    classes: &[u8],
-    offsets: &[u16],
-    lengths: &[u8],
-    values: &[u32],
-    d: &[u16],
+    columns: &Columns<'_>,
+    literals: &[u32],
     count: usize,
     state: &mut [u8],
     at: usize,
 ) -> usize
     requires { at + Planes.CELL_BYTES * count ≤ length state.old }
-    ensures { FreshCellsPut text.now classes.now offsets.now lengths.now values.now d.now
-        count state.old at state.new result }
+    ensures { of_literals FreshCellsPut columns.now literals.now count state.old at state.new result }
 {
     let mut end = at;
-    let mut i = 0;
-    while i < count {
-        let v = fresh_value(text, classes, offsets, lengths, values, d, i);
-        let p = values::pack(v);
-        end = put_tagged(state, end, p.tag, p.word);
-        i += 1;
+    for i in 0..count {
+        end = put_tagged(state, end, pack(fresh_value(columns, literals, i)));
     }
     end
 }
 
-// The fresh stores.
+/// Puts the fresh stores of a bench: every entity present, its cells as its assignments say; nobody and no cell before.
 #[tactic(auto, using(crate::proofs::steps::FreshPlanes::fresh_impossible))]
-pub fn put_fresh_stores(
-    text: &[u8],
-    classes: &[u8],
-    offsets: &[u16],
-    lengths: &[u8],
-    values: &[u32],
-    d: &[u16],
-    stores: &mut [u8],
-)
+pub fn put_fresh_stores(columns: &Columns<'_>, literals: &[u32], stores: &mut [u8])
     requires { Planes.MOST_STORES_BYTES ≤ length stores.old }
-    ensures { FreshPut text.now classes.now offsets.now lengths.now values.now d.now
-        stores.old stores.new }
+    ensures { of_literals FreshPut columns.now literals.now stores.old stores.new }
 {
-    let n = checking::row(d, ENTITY_COUNT_ROW);
+    let n = columns.row(ENTITY_COUNT_ROW);
     if MOST_ENTITIES < n {
         return;
     }
     let count = ENTITY_CELLS * n;
-    let flags = put_flags(stores, 0, n, 1);
-    let cells = put_fresh_cells(
-        text, classes, offsets, lengths, values, d, count, stores, flags,
-    );
-    let previous = put_flags(stores, cells, n, 0);
-    put_unset(stores, previous, count);
+    let flags = put_run(stores, 0, n, 1);
+    let cells = put_fresh_cells(columns, literals, count, stores, flags);
+    // an absent entity's flag and an unset cell are zeros
+    let previous = put_run(stores, cells, n, 0);
+    put_run(stores, previous, CELL_BYTES * count, 0);
 }

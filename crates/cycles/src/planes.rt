@@ -18,11 +18,15 @@ use checking::layout::{
     ENTITY_COUNT_ROW, ENTITY_INTERFACE_ROWS, INTERFACE_COUNT_ROW, MEMBER_COUNT_ROWS, MEMBER_ROWS,
     MOST_ENTITIES, MOST_MEMBERS,
 };
+use checking::row;
+use text::classes::{ACTION, ATTRIBUTE, BOOL, EVENT, WHOLE};
+use text::walks::class_at;
+use values::{finite_bits, put_bytes, word_at};
 
-// No token's number.
+/// No token's number.
 pub const NO_TOKEN: usize = 65536;
 
-// The planes: now, one cycle before, and what is kept of a line.
+/// The planes: now, one cycle before, and what is kept of a line.
 #[derive(Clone, Copy)]
 pub enum Plane {
     Now,
@@ -30,27 +34,27 @@ pub enum Plane {
     Kept,
 }
 
-// The first token of the member whose cell has number i; NO_TOKEN where the bench has no such member.
+/// The first token of the member whose cell has number i; NO_TOKEN where the bench has no such member.
 #[tactic(auto, using(crate::proofs::laws::CellTokenLaws::token_no_interface))]
 pub fn cell_token(d: &[u16], i: usize) -> usize
     ensures { CellToken d.now i result }
 {
     let e = i / ENTITY_CELLS;
     let m = i % ENTITY_CELLS;
-    if checking::row(d, ENTITY_COUNT_ROW) <= e {
+    if row(d, ENTITY_COUNT_ROW) <= e {
         return NO_TOKEN;
     }
-    let face = checking::row(d, ENTITY_INTERFACE_ROWS + e);
-    if checking::row(d, INTERFACE_COUNT_ROW) <= face {
+    let face = row(d, ENTITY_INTERFACE_ROWS + e);
+    if row(d, INTERFACE_COUNT_ROW) <= face {
         return NO_TOKEN;
     }
-    if checking::row(d, MEMBER_COUNT_ROWS + face) <= m {
+    if row(d, MEMBER_COUNT_ROWS + face) <= m {
         return NO_TOKEN;
     }
-    checking::row(d, MEMBER_ROWS + face * MOST_MEMBERS + m)
+    row(d, MEMBER_ROWS + face * MOST_MEMBERS + m)
 }
 
-// Whether the member whose first token has number `at` has the sort that the class says.
+/// Whether the member whose first token has number `at` has the sort that the class says.
 #[tactic(auto, using(crate::proofs::laws::CellTokenLaws::no_token_no_sort, crate::proofs::laws::CellTokenLaws::sort_by_class))]
 pub fn is_sort(classes: &[u8], at: usize, class: u8) -> bool
     ensures { SortTest classes.now at class result }
@@ -58,7 +62,7 @@ pub fn is_sort(classes: &[u8], at: usize, class: u8) -> bool
     if NO_TOKEN <= at {
         return false;
     }
-    text::walks::class_at(classes, at) == class
+    class_at(classes, at) == class
 }
 
 // ---- tests of a tag and a payload
@@ -67,20 +71,14 @@ pub fn is_sort(classes: &[u8], at: usize, class: u8) -> bool
 fn is_unset_cell(t: u8, w: u64) -> bool
     ensures { result ≡ is_unset_cell t w }
 {
-    if t == 0 {
-        return w == 0;
-    }
-    false
+    t == 0 && w == 0
 }
 
 #[tactic(auto, unfolding(crate::specs::definitions::Planes::is_blank_cell))]
 fn is_blank_cell(t: u8, w: u64) -> bool
     ensures { result ≡ is_blank_cell t w }
 {
-    if t == NO_READING {
-        return w == 0;
-    }
-    false
+    t == NO_READING && w == 0
 }
 
 // A set value's, of the kind that the class says.
@@ -88,32 +86,20 @@ fn is_blank_cell(t: u8, w: u64) -> bool
 fn is_set_cell(kind: u8, t: u8, w: u64) -> bool
     ensures { KindTest is_set_cell kind t w result }
 {
-    if kind == text::classes::WHOLE {
-        if t == 1 {
-            return w < 4294967296;
-        }
-        return false;
+    if kind == WHOLE {
+        return t == 1 && w < 4294967296;
     }
-    if kind == text::classes::BOOL {
-        if t == 2 {
-            return w < 2;
-        }
-        return false;
+    if kind == BOOL {
+        return t == 2 && w < 2;
     }
-    if t == 3 {
-        return values::finite_bits(w);
-    }
-    false
+    t == 3 && finite_bits(w)
 }
 
 #[tactic(auto, using(crate::proofs::laws::PlaneTestLaws::value_unset, crate::proofs::laws::PlaneTestLaws::value_set))]
 fn is_value_cell(kind: u8, t: u8, w: u64) -> bool
     ensures { KindTest is_value_cell kind t w result }
 {
-    if is_unset_cell(t, w) {
-        return true;
-    }
-    is_set_cell(kind, t, w)
+    is_unset_cell(t, w) || is_set_cell(kind, t, w)
 }
 
 // What a store's cell may hold, by the first token of its member: an attribute's may be unset, or must be set.
@@ -124,12 +110,12 @@ fn store_fits(must_be_set: bool, classes: &[u8], at: usize, t: u8, w: u64) -> bo
     if NO_TOKEN <= at {
         return is_unset_cell(t, w);
     }
-    let sort = text::walks::class_at(classes, at);
-    let kind = text::walks::class_at(classes, at + 3);
+    let sort = class_at(classes, at);
+    let kind = class_at(classes, at + 3);
     if !must_be_set {
         return is_value_cell(kind, t, w);
     }
-    if sort == text::classes::ATTRIBUTE {
+    if sort == ATTRIBUTE {
         return is_set_cell(kind, t, w);
     }
     is_value_cell(kind, t, w)
@@ -143,15 +129,15 @@ fn kept_fits(classes: &[u8], at: usize, t: u8, w: u64) -> bool
     if NO_TOKEN <= at {
         return is_blank_cell(t, w);
     }
-    let sort = text::walks::class_at(classes, at);
-    let kind = text::walks::class_at(classes, at + 3);
-    if sort == text::classes::ACTION {
+    let sort = class_at(classes, at);
+    let kind = class_at(classes, at + 3);
+    if sort == ACTION {
         return is_value_cell(kind, t, w);
     }
     if is_blank_cell(t, w) {
         return true;
     }
-    if sort == text::classes::EVENT {
+    if sort == EVENT {
         return is_value_cell(kind, t, w);
     }
     false
@@ -176,12 +162,10 @@ fn flags_below(flags: &[u8], n: usize, bound: u8) -> bool
     requires { n ≤ length flags.now }
     ensures { result ≡ flags_below bound n flags.now }
 {
-    let mut e = 0;
-    while e < n {
+    for e in 0..n {
         if bound <= flags[e] {
             return false;
         }
-        e += 1;
     }
     true
 }
@@ -192,17 +176,14 @@ fn cells_fit(plane: Plane, classes: &[u8], d: &[u16], flags: &[u8], cells: &[u8]
     requires d_in_bounds_2 { Planes.ENTITY_CELL_BYTES * get_or d.now Directory.ENTITY_COUNT_ROW 0 ≤ length cells.now }
     ensures { CellsTest plane classes.now d.now flags.now cells.now result }
 {
-    let end = ENTITY_CELLS * checking::row(d, ENTITY_COUNT_ROW);
-    let mut i = 0;
-    while i < end {
+    let end = ENTITY_CELLS * row(d, ENTITY_COUNT_ROW);
+    for i in 0..end {
         let present = flags[i / ENTITY_CELLS] == 1;
         let at = i * CELL_BYTES;
-        let next = at + 1;
-        let w = values::word_at(cells, next);
+        let w = word_at(cells, at + 1);
         if !fits(plane, present, classes, cell_token(d, i), cells[at], w) {
             return false;
         }
-        i += 1;
     }
     true
 }
@@ -212,32 +193,31 @@ fn flag_bound(plane: Plane) -> u8
     ensures { result ≡ bound_of plane }
 {
     match plane {
-        Plane::Now => STORE_FLAGS,
-        Plane::Previous => STORE_FLAGS,
+        Plane::Now | Plane::Previous => STORE_FLAGS,
         Plane::Kept => KEPT_FLAGS,
     }
 }
 
-// Whether memory begins with such a plane of the bench.
+/// Whether memory begins with such a plane of the bench.
 #[tactic(auto, using(crate::proofs::laws::PlaneTestLaws::length_behind, crate::proofs::laws::PlaneTestLaws::plane_flags_fail, crate::proofs::laws::PlaneTestLaws::plane_cells_say))]
 pub fn plane_fits(plane: Plane, classes: &[u8], d: &[u16], memory: &[u8]) -> bool
     requires { Planes.ENTITY_BYTES * get_or d.now Directory.ENTITY_COUNT_ROW 0 ≤ length memory.now }
     ensures { PlaneTest plane classes.now d.now memory.now result }
 {
-    let n = checking::row(d, ENTITY_COUNT_ROW);
+    let n = row(d, ENTITY_COUNT_ROW);
     if !flags_below(memory, n, flag_bound(plane)) {
         return false;
     }
     cells_fit(plane, classes, d, memory, &memory[n..])
 }
 
-// Whether memory begins with stores of the bench.
+/// Whether memory begins with stores of the bench.
 #[tactic(auto, using(crate::proofs::laws::PlaneTestLaws::stores_tests))]
 pub fn are_stores(classes: &[u8], d: &[u16], memory: &[u8]) -> bool
     requires { Planes.MOST_STORES_BYTES ≤ length memory.now }
     ensures { StoresTest classes.now d.now memory.now result }
 {
-    let n = checking::row(d, ENTITY_COUNT_ROW);
+    let n = row(d, ENTITY_COUNT_ROW);
     if MOST_ENTITIES < n {
         return false;
     }
@@ -250,7 +230,7 @@ pub fn are_stores(classes: &[u8], d: &[u16], memory: &[u8]) -> bool
 
 // ---- reading and writing
 
-// The number at the front of memory.
+/// The number at the front of memory.
 pub fn number(memory: &[u8]) -> u32
     requires { Planes.NUMBER_BYTES ≤ length memory.now }
     ensures { result ≡ word_at Planes.NUMBER_BYTES memory.now 0 }
@@ -258,6 +238,7 @@ pub fn number(memory: &[u8]) -> u32
     u32::from_le_bytes(*memory.first_chunk::<4>().unwrap())
 }
 
+/// Puts a number to the front of memory.
 pub fn put_number(memory: &mut [u8], n: u32)
     requires { Planes.NUMBER_BYTES ≤ length memory.old }
     ensures { memory.new ≡ overwritten memory.old 0 (low_first Planes.NUMBER_BYTES n) }
@@ -271,10 +252,10 @@ fn put_front(memory: &mut [u8], at: usize, area: &[u8], count: usize) -> usize
     requires count_in_bounds_2 { at + count ≤ length memory.old }
     ensures { (result ≡ at + count) × Put (take count area.now) memory.old at memory.new result }
 {
-    values::put_bytes(memory, at, &area[0..count])
+    put_bytes(memory, at, &area[0..count])
 }
 
-// Puts a plane of n entities, gathered from areas of its flags and its cells, and answers the offset after it.
+/// Puts a plane of n entities, gathered from areas of its flags and its cells, and answers the offset after it.
 pub fn put_plane(memory: &mut [u8], at: usize, flags: &[u8], cells: &[u8], n: usize) -> usize
     requires n_in_bounds { (n ≤ length flags.now) × (Planes.ENTITY_CELL_BYTES * n ≤ length cells.now) }
     requires n_in_bounds_2 { at + Planes.ENTITY_BYTES * n ≤ length memory.old }
@@ -285,7 +266,7 @@ pub fn put_plane(memory: &mut [u8], at: usize, flags: &[u8], cells: &[u8], n: us
     put_front(memory, next, cells, ENTITY_CELL_BYTES * n)
 }
 
-// Puts two stores of the same presence.
+/// Puts two stores of the same presence.
 #[tactic(auto, using(crate::proofs::laws::GatheredLaws::none_gathered, crate::proofs::laws::GatheredLaws::both_gathered))]
 pub fn put_stores(
     rules: &Rules<'_>,

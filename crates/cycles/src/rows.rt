@@ -28,11 +28,11 @@ fn put_fired(
     if !is_sort(classes, token, ACTION) {
         return at;
     }
-    row[at] = 32;
+    row[at] = b' ';
     values::put_value(row, at + 1, values::cell(cells, i))
 }
 
-// Puts the fields of all action cells, and answers the offset after them.
+/// Puts the fields of all action cells, and answers the offset after them.
 #[tactic(auto, using(crate::proofs::laws::RowPuts::fields_impossible))]
 pub fn put_fields(classes: &[u8], d: &[u16], cells: &[u8], row: &mut [u8], at: usize) -> usize
     requires in_bounds { Planes.MOST_CELL_BYTES ≤ length cells.now }
@@ -74,13 +74,13 @@ fn put_name(columns: &Columns<'_>, i: usize, row: &mut [u8], at: usize) -> usize
     if row.len() - at < entity.len() + member.len() + 2 {
         return at;
     }
-    row[at] = 32;
+    row[at] = b' ';
     let dot = values::put_bytes(row, at + 1, entity);
-    row[dot] = 46;
+    row[dot] = b'.';
     values::put_bytes(row, dot + 1, member)
 }
 
-// The header: writes it to the front and answers its length.
+/// Writes the header of rows to the front, and answers its length.
 #[tactic(auto, using(crate::proofs::laws::RowPuts::header_impossible))]
 pub fn put_row_header(columns: &Columns<'_>, row: &mut [u8]) -> usize
     requires { Row.MOST_ROW_BYTES ≤ length row.old }
@@ -93,10 +93,8 @@ pub fn put_row_header(columns: &Columns<'_>, row: &mut [u8]) -> usize
     }
     let end = ENTITY_CELLS * n;
     let mut at = values::put_bytes(row, 0, b"by n");
-    let mut i = 0;
-    while i < end {
+    for i in 0..end {
         at = put_name(columns, i, row, at);
-        i += 1;
     }
     at
 }

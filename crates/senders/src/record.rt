@@ -164,15 +164,7 @@ fn take_sent(
     let mut cells = [0u8; MOST_CELL_BYTES];
     clear_flags(&mut flags, n);
     clear_cells(&mut cells, ENTITY_CELLS * n);
-    if !read_values(
-        rules.columns.classes,
-        rules.columns.d,
-        values,
-        header.columns,
-        header.columns.len(),
-        &mut flags,
-        &mut cells,
-    ) {
+    if !read_values(&rules.columns, header, values, &mut flags, &mut cells) {
         return Err(LineError::IllFormedValue);
     }
     settle(rules, name, place, line, &flags, &mut cells, state)
@@ -189,10 +181,9 @@ pub fn advance(
     requires { StateImage.STATE ≤ length state.old }
     ensures { of_rules Advanced rules.now header.now.columns.now (length header.now.columns.now) values.now state.old state.new (judged_as result) }
 {
-    let sent = read_sent(values, header.columns.len());
-    match sent {
-        Sent::Refused => Err(LineError::IllFormed),
-        Sent::Got { size, number } => {
+    match read_sent(values, header.columns.len()) {
+        None => Err(LineError::IllFormed),
+        Some(Sent { size, number }) => {
             take_sent(rules, header, values, &values[0..size], number, state)
         }
     }

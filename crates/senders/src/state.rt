@@ -42,13 +42,5 @@ pub fn put_fresh(columns: &Columns<'_>, literals: &[u32], print: u32, state: &mu
 {
     put_number(state, print);
     state[COUNT_AT] = 0;
-    put_fresh_stores(
-        columns.text,
-        columns.classes,
-        columns.offsets,
-        columns.lengths,
-        literals,
-        columns.d,
-        &mut state[HEAD_BYTES..],
-    );
+    put_fresh_stores(columns, literals, &mut state[HEAD_BYTES..]);
 }

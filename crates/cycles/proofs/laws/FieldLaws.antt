@@ -3,12 +3,17 @@ use Prim.Native.Nat.{ℕ, zero, suc, ◌+◌, ◌-◌, ◌≤◌, ◌<◌}
 use native.Mathlib.Numerals.{add-one}
 use native.Mathlib.Omega.{arith}
 use mathlib.Core.Path.{◌≡◌, refl, sym, ap, ◌∙◌, subst}
-use mathlib.Core.Bool.{Bool, true, false, not, cond, ◌&&◌}
+use mathlib.Core.Bool.{Bool, true, false, not, cond, ◌&&◌, ◌||◌}
 use mathlib.Core.List.{List, [], ◌∷◌, ◌++◌, append-nil, append_assoc}
-use lib.Dec.{eqb}
+use lib.Dec.{eqb, ltb}
 use lib.ListN.{length, get_or, take, drop, length-take, length-drop, drop_of_length-le}
 use lib.Seq.{drop-cons, take-suc, take_all}
-use borrow.Author.Tests.{eq-eqb, ne_eqb, eqb-true}
+use borrow.Author.Tests.{eq-eqb, ne_eqb, eqb-true, eqb-false, ltb-false}
+use Rattle.std.specs.Prelude.{Option, Some, None, position}
+use Rattle.std.specs.List.{list_any, position_or_len}
+use Rattle.std.proofs.lemmas.List.Quantifiers.{position-Some}
+use Rattle.std.proofs.lemmas.List.Sums.{fails_before_first}
+use Rattle.std.proofs.lemmas.Option.{none-some}
 use Rattle.cycles.specs.definitions.Fields.{lengthened, split, fields, is_empty, has_byte}
 use Rattle.cycles.specs.inner_contracts.FieldReads.{FieldStart, FieldEnd, none_empty, first_length, first_size}
 
@@ -108,21 +113,41 @@ module _ (mark : ℕ) (l : List ℕ) where
 
       pub ends_before_mark : get_or l i 0 ≡ mark → FieldEnd mark l i
       ends_before_mark e = record {
-        within = omega arith;
-        marked = λ q.
+        within = h;
+        marked =
             r.field [] (split mark (drop (i + 1) l)) (split_mark mark l i h e)
             ∙ ap (λ (y : List ℕ). y ∷ split mark (drop (i + 1) l)) (append-nil (take i l));
-        whole = λ q. absurd (omega arith);
       }
 
-    pub ends_line : length l ≤ i → FieldEnd mark l i
-    ends_line h = record {
-      within = r.within;
-      marked = λ q. absurd (omega arith);
-      whole = λ q.
-          r.field [] [] (split_end mark l i h)
-          ∙ ap (λ (y : List ℕ). y ∷ []) (append-nil (take i l) ∙ take_all i l h);
-    }
+    ends_line : length l ≤ i → split mark l ≡ l ∷ []
+    ends_line h =
+        r.field [] [] (split_end mark l i h)
+        ∙ ap (λ (y : List ℕ). y ∷ []) (append-nil (take i l) ∙ take_all i l h)
+
+  -- no mark stands before i, by a test of each byte
+  runs_up : (i : ℕ) → i ≤ length l → ((k : ℕ) → k < i → eqb (get_or l k 0) mark ≡ false) → RunsTo mark l i
+  runs_up zero h e = runs_to_none
+  runs_up (suc i) h e =
+      let n : i + 1 ≡ suc i = omega arith in
+      subst (λ (k : ℕ). RunsTo mark l k) n
+      (runs_to_more i (runs_up i (omega arith) (λ k p. e k (omega arith))) (omega arith) (eqb-false (get_or l i 0) mark (e i (omega arith))))
+
+  -- the first mark that is found ends the first field, and where there is none the line is one field
+  module _ {o : Option ℕ} (q : o ≡ position (λ b. eqb b mark) l) where
+    pub mark_found : {i : ℕ} → o ≡ Some i → FieldEnd mark l i
+    mark_found {i} e =
+        let (h, here, before) = position-Some (λ (b : ℕ). eqb b mark) l i 0 (sym q ∙ e) in
+        ends_before_mark i (runs_up i (omega arith) before) h (eqb-true (get_or l i 0) mark here)
+
+    pub mark_nowhere : o ≡ None → split mark l ≡ l ∷ []
+    mark_nowhere e =
+        let n : length l ≤ position_or_len (λ b. eqb b mark) l = none_long (ltb (position_or_len (λ b. eqb b mark) l) (length l)) refl (sym q ∙ e) in
+        ends_line (length l) (runs_up (length l) (omega arith) (λ k p. fails_before_first (λ (b : ℕ). eqb b mark) l k 0 (omega arith))) (omega arith)
+      where
+        none_long : (t : Bool) → ltb (position_or_len (λ b. eqb b mark) l) (length l) ≡ t
+            → cond t (Some (position_or_len (λ b. eqb b mark) l)) None ≡ None → length l ≤ position_or_len (λ b. eqb b mark) l
+        none_long true e g = absurd (none-some (position_or_len (λ b. eqb b mark) l) (sym g))
+        none_long false e g = ltb-false (position_or_len (λ b. eqb b mark) l) (length l) e
 
 -- ---- what was read is the end of all
 
@@ -182,19 +207,14 @@ split_more c (b ∷ bs) {x} {y} {ys} e = go (eqb b c) refl (split c bs) (λ z q.
 
 -- ---- a byte that occurs
 
-module _ (b : ℕ) (l : List ℕ) (i : ℕ) where
-  pub has_none : length l ≤ i → has_byte b (drop i l) ≡ false
-  unfolding has_byte
-  has_none h = rw (drop_of_length-le l h)
-
-  module _ (h : i < length l) where
-    pub has_here : get_or l i 0 ≡ b → has_byte b (drop i l) ≡ true
-    unfolding has_byte
-    has_here e = rw (drop-cons l i 0 h, eq-eqb (get_or l i 0) b e)
-
-    pub has_later : (get_or l i 0 ≡ b → ⊥) → has_byte b (drop i l) ≡ has_byte b (drop (i + 1) l)
-    unfolding has_byte
-    has_later e = rw (drop-cons l i 0 h, ne_eqb (get_or l i 0) b e, add-one i)
+pub contains_has : (b : ℕ) (l : List ℕ) → list_any (λ y. eqb y b) l ≡ has_byte b l
+unfolding has_byte
+contains_has b [] = refl
+contains_has b (x ∷ xs) = go (eqb x b) (contains_has b xs)
+  where
+    go : (t : Bool) → list_any (λ y. eqb y b) xs ≡ has_byte b xs → (t || list_any (λ y. eqb y b) xs) ≡ cond t true (has_byte b xs)
+    go true e = refl
+    go false e = e
 
 -- ---- counting fields
 
@@ -266,7 +286,7 @@ module _ {l : List ℕ} {end passed : ℕ} (p : FieldsPassed l end passed) {star
     unfolding none_empty
     more_full = let b = s.within in rw (full_field its_field (rw its_length (omega arith)), p.full)
 
-    pub first_passed : (count : ℕ) → start ≡ 0 → first_size count (fields l) ≡ cond (eqb passed count) end 0
+    pub first_passed : (count : ℕ) → start ≡ 0 → first_size count (fields l) ≡ cond (eqb passed count) (Some end) None
     unfolding first_size first_length
     first_passed count e =
         let n : length its_field ≡ end = its_length ∙ omega arith in
@@ -287,6 +307,6 @@ module _ {l : List ℕ} {end passed : ℕ} (p : FieldsPassed l end passed) {star
           counted = omega arith;
         }
 
-pub empty_size : (count : ℕ) (xs : List (List ℕ)) → none_empty xs ≡ false → first_size count xs ≡ 0
+pub empty_size : (count : ℕ) (xs : List (List ℕ)) → none_empty xs ≡ false → first_size count xs ≡ None
 unfolding first_size
 empty_size count xs e = rw e

@@ -12,11 +12,11 @@ use borrow.Author.Tests.{le-leb, lt-leb, eqb-true}
 use Rattle.std.specs.Prelude.{Option as Read, Some, None}
 use Rattle.values.specs.definitions.Forms.{magnitude}
 use Rattle.text.proofs.laws.ListLaws.{some_injective, none_some}
-use Rattle.cycles.specs.declared.record.Sent.TheVariants.{Refused, Got}
+use Rattle.std.proofs.lemmas.Option.{none-some, same_Some}
 use Rattle.cycles.specs.definitions.Fields.{split, fields, is_empty, has_byte}
 use Rattle.cycles.specs.definitions.Record.{Sent, sent_as, sent_fields, record_of}
 use Rattle.cycles.specs.inner_contracts.FieldReads.{FieldEnd, none_empty, first_length, first_size}
-use Rattle.cycles.specs.inner_contracts.LineReads.{sent_answer, SentRead}
+use Rattle.cycles.specs.inner_contracts.LineReads.{got, sent_answer, SentRead}
 use Rattle.cycles.proofs.laws.FieldLaws.{part_to_end, split_first}
 
 -- ---- the sender and the number of a record
@@ -68,137 +68,130 @@ sender_first count l {r} h =
     (sym e, omega arith)
 
 module _ (count : ℕ) (l : List ℕ) where
-  sent_none : record_of count l ≡ none → SentRead count l Refused
+  sent_none : record_of count l ≡ none → SentRead count l None
   unfolding sent_answer
   sent_none h = record { is = ap sent_answer (sym h); front = λ x e. sender_first count l e }
 
-  pub record_too_long : 8192 < length l → SentRead count l Refused
+  pub record_too_long : 8192 < length l → SentRead count l None
   unfolding record_of
   record_too_long h = sent_none (rw (lt-leb (length l) 8192 h, record_of))
 
   module _ (short : length l ≤ 8192) where
-    pub record_feeds : has_byte 10 l ≡ true → SentRead count l Refused
+    pub record_feeds : has_byte 10 l ≡ true → SentRead count l None
     unfolding record_of
     record_feeds h = sent_none (rw (le-leb (length l) 8192 short, h, record_of))
 
-    module _ (one : has_byte 10 l ≡ false) {size : ℕ} (e : FieldEnd 32 l size) where
-      -- the line's first field
-      pub no_sender : size ≡ 0 → SentRead count l Refused
-      unfolding none_empty fields
-      no_sender z = sent_none (by_full count l short one ∙ ap (λ (b : Bool). if_full count b (fields l)) (go l refl))
-        where
-          go : (k : List ℕ) → l ≡ k → none_empty (split 32 l) ≡ false
-          go [] q = rw q
-          go (b ∷ k) q =
-              let n : length l ≡ suc (length k) = ap length q in
-              let f = e.marked (omega arith) in
-              rw (f, z)
-
-      whole_line : size ≡ length l → fields l ≡ l ∷ []
-      unfolding fields
-      whole_line z = e.whole z
-
-      pub sender_alone : size ≡ length l → SentRead count l Refused
-      unfolding sent_fields
+    module _ (one : has_byte 10 l ≡ false) where
+      pub sender_alone : split 32 l ≡ l ∷ [] → SentRead count l None
+      unfolding sent_fields fields
       sender_alone z =
-          sent_none (by_full count l short one ∙ ap (λ (xs : List (List ℕ)). if_full count (none_empty xs) xs) (whole_line z) ∙ go (none_empty (l ∷ [])))
+          sent_none (by_full count l short one ∙ ap (λ (xs : List (List ℕ)). if_full count (none_empty xs) xs) z ∙ go (none_empty (l ∷ [])))
         where
           go : (b : Bool) → if_full count b (l ∷ []) ≡ none
           go true = refl
           go false = refl
 
-      module _ (some_bytes : size ≡ 0 → ⊥) (more : size ≡ length l → ⊥) where
-        abbrev sender : List ℕ
-        sender = take size l
-
-        abbrev part : List ℕ
-        part = take (length l - (size + 1)) (drop (size + 1) l)
-
-        abbrev left : List ℕ
-        left = drop (size + 1) l
-
-        its_fields : fields l ≡ sender ∷ fields left
-        unfolding fields
-        its_fields = let w = e.within in e.marked (omega arith)
-
-        sender_length : length sender ≡ size
-        sender_length = length-take-le size l e.within
-
-        full_sender : is_empty sender ≡ false
-        unfolding is_empty
-        full_sender = go sender sender_length
+      module _ {size : ℕ} (e : FieldEnd 32 l size) where
+        -- the line's first field
+        pub no_sender : size ≡ 0 → SentRead count l None
+        unfolding none_empty fields
+        no_sender z = sent_none (by_full count l short one ∙ ap (λ (b : Bool). if_full count b (fields l)) empty_first)
           where
-            go : (x : List ℕ) → length x ≡ size → is_empty x ≡ false
-            go [] q = absurd (some_bytes (sym q))
-            go (b ∷ x) q = refl
+            empty_first : none_empty (fields l) ≡ false
+            empty_first = rw (e.marked, z)
 
-        -- by the fields after it
-        sent_by : record_of count l ≡ if_full count (none_empty (fields left)) (sender ∷ fields left)
-        unfolding none_empty
-        sent_by =
-            by_full count l short one
-            ∙ ap (λ (xs : List (List ℕ)). if_full count (none_empty xs) xs) its_fields
-            ∙ ap (λ (b : Bool). if_full count (not b && none_empty (fields left)) (sender ∷ fields left)) full_sender
+        module _ (some_bytes : size ≡ 0 → ⊥) where
+          abbrev sender : List ℕ
+          sender = take size l
 
-        module _ {digits : ℕ} (read : digits ≡ first_size count (fields part)) where
-          d : digits ≡ first_size count (fields left)
-          d = rw (part_to_end l (size + 1)) at read
+          abbrev part : List ℕ
+          part = take (length l - (size + 1)) (drop (size + 1) l)
 
-          pub no_number : digits ≡ 0 → SentRead count l Refused
-          unfolding none_empty first_size first_length sent_fields
-          no_number z = sent_none (sent_by ∙ by_fields (fields left) (sym d ∙ z))
+          abbrev left : List ℕ
+          left = drop (size + 1) l
+
+          its_fields : fields l ≡ sender ∷ fields left
+          unfolding fields
+          its_fields = e.marked
+
+          sender_length : length sender ≡ size
+          sender_length = let w = e.within in length-take-le size l (omega arith)
+
+          full_sender : is_empty sender ≡ false
+          unfolding is_empty
+          full_sender = go sender sender_length
             where
-              by_count : (x : List ℕ) (xs : List (List ℕ)) (b : Bool) → cond b (length x) 0 ≡ 0 → 0 < length x
-                  → cond b (sent_as sender (magnitude x) xs) none ≡ none
-              by_count x xs true h p = absurd (omega arith)
-              by_count x xs false h p = refl
+              go : (x : List ℕ) → length x ≡ size → is_empty x ≡ false
+              go [] q = absurd (some_bytes (sym q))
+              go (b ∷ x) q = refl
 
-              by_test : (x : List ℕ) (xs : List (List ℕ)) (b : Bool) → none_empty xs ≡ b
-                  → cond (not (is_empty x) && b) (cond (eqb (length xs) count) (length x) 0) 0 ≡ 0
-                  → if_full count (not (is_empty x) && b) (sender ∷ x ∷ xs) ≡ none
-              by_test [] xs b q h = refl
-              by_test (y ∷ x) xs true q h = by_count (y ∷ x) xs (eqb (length xs) count) h (omega arith)
-              by_test (y ∷ x) xs false q h = refl
+          -- by the fields after it
+          sent_by : record_of count l ≡ if_full count (none_empty (fields left)) (sender ∷ fields left)
+          unfolding none_empty
+          sent_by =
+              by_full count l short one
+              ∙ ap (λ (xs : List (List ℕ)). if_full count (none_empty xs) xs) its_fields
+              ∙ ap (λ (b : Bool). if_full count (not b && none_empty (fields left)) (sender ∷ fields left)) full_sender
 
-              by_fields : (xs : List (List ℕ)) → first_size count xs ≡ 0
-                  → if_full count (none_empty xs) (sender ∷ xs) ≡ none
-              by_fields [] h = refl
-              by_fields (x ∷ xs) h = by_test x xs (none_empty xs) refl h
+          module _ {o : Read ℕ} (read : o ≡ first_size count (fields part)) where
+            d : o ≡ first_size count (fields left)
+            d = rw (part_to_end l (size + 1)) at read
 
-          module _ (z : digits ≡ 0 → ⊥) {m : Read ℕ} (h : m ≡ magnitude (take (size + 1 + digits - (size + 1)) left)) where
-            -- sender and number are read, and the texts of values follow
-            sent_is : (xs : List (List ℕ)) × (record_of count l ≡ sent_as sender m xs)
-            unfolding none_empty first_size first_length sent_fields fields
-            sent_is = let (xs, q) = by_fields (fields left) refl d in (xs, sent_by ∙ q)
+            pub no_number : o ≡ None → SentRead count l None
+            unfolding none_empty first_size first_length sent_fields
+            no_number z = sent_none (sent_by ∙ by_fields (fields left) (sym d ∙ z))
               where
-                by_count : (x : List ℕ) (xs : List (List ℕ)) → fields left ≡ x ∷ xs → (b : Bool) → digits ≡ cond b (length x) 0
-                    → cond b (sent_as sender (magnitude x) xs) none ≡ sent_as sender m xs
-                by_count x xs q false k = absurd (z k)
-                by_count x xs q true k =
-                    let n : size + 1 + digits - (size + 1) ≡ length x = omega arith in
-                    ap (λ (n : Read ℕ). sent_as sender n xs)
-                    (sym (h ∙ ap magnitude (ap (λ (i : ℕ). take i left) n ∙ split_first 32 left q)))
+                by_count : (x : List ℕ) (xs : List (List ℕ)) (b : Bool) → cond b (Some (length x)) None ≡ None
+                    → cond b (sent_as sender (magnitude x) xs) none ≡ none
+                by_count x xs true h = absurd (none-some (length x) (sym h))
+                by_count x xs false h = refl
 
-                by_test : (x : List ℕ) (xs : List (List ℕ)) → fields left ≡ x ∷ xs → (b : Bool)
-                    → digits ≡ cond b (cond (eqb (length xs) count) (length x) 0) 0
-                    → if_full count b (sender ∷ x ∷ xs) ≡ sent_as sender m xs
-                by_test x xs q false k = absurd (z k)
-                by_test x xs q true k = by_count x xs q (eqb (length xs) count) k
+                by_test : (x : List ℕ) (xs : List (List ℕ)) (b : Bool)
+                    → cond (not (is_empty x) && b) (cond (eqb (length xs) count) (Some (length x)) None) None ≡ None
+                    → if_full count (not (is_empty x) && b) (sender ∷ x ∷ xs) ≡ none
+                by_test [] xs b h = refl
+                by_test (y ∷ x) xs true h = by_count (y ∷ x) xs (eqb (length xs) count) h
+                by_test (y ∷ x) xs false h = refl
 
-                by_fields : (xs : List (List ℕ)) → fields left ≡ xs → digits ≡ first_size count xs
-                    → (ys : List (List ℕ)) × (if_full count (none_empty xs) (sender ∷ xs) ≡ sent_as sender m ys)
-                by_fields [] q k = absurd (z k)
-                by_fields (x ∷ xs) q k = (xs, by_test x xs q (none_empty (x ∷ xs)) k)
+                by_fields : (xs : List (List ℕ)) → first_size count xs ≡ None
+                    → if_full count (none_empty xs) (sender ∷ xs) ≡ none
+                by_fields [] h = refl
+                by_fields (x ∷ xs) h = by_test x xs (none_empty xs) h
 
-            pub sent_no_number : m ≡ None → SentRead count l Refused
-            unfolding sent_as
-            sent_no_number q = let (xs, r) = sent_is in sent_none (r ∙ ap (λ (n : Read ℕ). sent_as sender n xs) q)
+            module _ {digits : ℕ} (z : o ≡ Some digits) {m : Read ℕ} (h : m ≡ magnitude (take digits part)) where
+              -- sender and number are read, and the texts of values follow
+              sent_is : (xs : List (List ℕ)) × (record_of count l ≡ sent_as sender m xs)
+              unfolding none_empty first_size first_length sent_fields fields
+              sent_is = let (xs, q) = by_fields (fields left) refl (sym z ∙ d) in (xs, sent_by ∙ q)
+                where
+                  by_count : (x : List ℕ) (xs : List (List ℕ)) → fields left ≡ x ∷ xs → (b : Bool) → Some digits ≡ cond b (Some (length x)) None
+                      → cond b (sent_as sender (magnitude x) xs) none ≡ sent_as sender m xs
+                  by_count x xs q false k = absurd (none-some digits (sym k))
+                  by_count x xs q true k =
+                      ap (λ (n : Read ℕ). sent_as sender n xs)
+                      (sym (h ∙ ap magnitude (ap (λ (i : ℕ). take i part) (same_Some digits (length x) k)
+                      ∙ ap (take (length x)) (part_to_end l (size + 1)) ∙ split_first 32 left q)))
 
-            pub sent_number : {n : ℕ} → m ≡ Some n → SentRead count l (Got size n)
-            unfolding sent_as sent_answer
-            sent_number {n} q =
-                let (xs, r) = sent_is in
-                record {
-                  is = ap (λ (k : ℕ). Got k n) (sym sender_length) ∙ sym (ap sent_answer (r ∙ ap (λ (k : Read ℕ). sent_as sender k xs) q));
-                  front = λ x e. sender_first count l e;
-                }
+                  by_test : (x : List ℕ) (xs : List (List ℕ)) → fields left ≡ x ∷ xs → (b : Bool)
+                      → Some digits ≡ cond b (cond (eqb (length xs) count) (Some (length x)) None) None
+                      → if_full count b (sender ∷ x ∷ xs) ≡ sent_as sender m xs
+                  by_test x xs q false k = absurd (none-some digits (sym k))
+                  by_test x xs q true k = by_count x xs q (eqb (length xs) count) k
+
+                  by_fields : (xs : List (List ℕ)) → fields left ≡ xs → Some digits ≡ first_size count xs
+                      → (ys : List (List ℕ)) × (if_full count (none_empty xs) (sender ∷ xs) ≡ sent_as sender m ys)
+                  by_fields [] q k = absurd (none-some digits (sym k))
+                  by_fields (x ∷ xs) q k = (xs, by_test x xs q (none_empty (x ∷ xs)) k)
+
+              pub sent_no_number : m ≡ None → SentRead count l None
+              unfolding sent_as
+              sent_no_number q = let (xs, r) = sent_is in sent_none (r ∙ ap (λ (n : Read ℕ). sent_as sender n xs) q)
+
+              pub sent_number : {n : ℕ} → m ≡ Some n → SentRead count l (got size n)
+              unfolding sent_as sent_answer
+              sent_number {n} q =
+                  let (xs, r) = sent_is in
+                  record {
+                    is = ap (λ (k : ℕ). got k n) (sym sender_length) ∙ sym (ap sent_answer (r ∙ ap (λ (k : Read ℕ). sent_as sender k xs) q));
+                    front = λ x e. sender_first count l e;
+                  }

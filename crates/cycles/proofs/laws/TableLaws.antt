@@ -7,7 +7,7 @@ use native.Mathlib.Nat.{add-zero, zero-mul, suc-mul, mul-one, add_assoc, pow-suc
 use native.Mathlib.Numerals.{add-one}
 use native.Mathlib.Omega.{arith}
 use lib.Dec.{T, eqb}
-use lib.ListN.{length, get_or, set, take, drop, take-append-drop, length-append, length-drop, get_or-append}
+use lib.ListN.{length, get_or, set, replicate, take, drop, take-append-drop, length-append, length-drop, get_or-append}
 use lib.Seq.{take_at, drop_at, drop-drop, get_or-drop}
 use lib.Ieee.Fits.{and_i, and_l, and_r}
 use borrow.Author.Tests.{eqb-true, eqb-false}
@@ -140,6 +140,15 @@ module _ (piece : ℕ → List ℕ) (sized : (i : ℕ) → length (piece i) ≡ 
   table_flag k i rest h =
       let a : i ≡ i * 1 + 0 = omega arith in
       ap (λ (n : ℕ). get_or (table piece 0 k ++ rest) n 0) a ∙ table_byte piece 1 sized k i 0 rest h (omega arith)
+
+-- pieces of one and the same byte, as `fill` puts them
+pub flags_same : (b i k : ℕ) → table (λ e. b ∷ []) i k ≡ replicate k b
+unfolding table
+flags_same b i zero = refl
+flags_same b i (suc k) = ap (◌∷◌ b) (flags_same b (i + 1) k)
+
+pub flags_filled : (new rest : List ℕ) (n k b : ℕ) → k ≡ n → new ≡ replicate k b → new ++ rest ≡ table (λ e. b ∷ []) 0 n ++ rest
+flags_filled new rest n k b e f = rw (f, e, flags_same b 0 n)
 
 -- pieces of 9 bytes, as cells have: a tag, then a number in 8 bytes
 module _ (piece : ℕ → List ℕ) (sized : (i : ℕ) → length (piece i) ≡ 9) (k i : ℕ) (rest : List ℕ) (h : i < k) where

@@ -1,11 +1,10 @@
 -- The fresh stores, put part by part.
-use Prim.Native.Nat.{ℕ, ◌+◌, ◌*◌, ◌≤◌, ◌<◌}
-use native.Mathlib.Nat.{add_assoc}
+use Prim.Native.Nat.{ℕ, zero, suc, ◌+◌, ◌*◌, ◌≤◌, ◌<◌}
 use native.Mathlib.Omega.{arith}
-use mathlib.Core.Path.{◌≡◌, refl, sym, ap, ap₂, ◌∙◌, subst}
+use mathlib.Core.Path.{◌≡◌, refl, sym, ap, ap₂, ◌∙◌}
 use mathlib.Core.List.{List, [], ◌∷◌, ◌++◌, append_assoc}
 use mathlib.Core.Option.{Option}
-use lib.ListN.{length, get_or, get_elem?, set, drop}
+use lib.ListN.{length, get_or, get_elem?, replicate, drop}
 use Rattle.values.specs.declared.Value.{Value}
 use Rattle.values.specs.definitions.Bytes.{low_first}
 use Rattle.values.specs.definitions.Cells.{tag, payload, cell_bytes}
@@ -16,23 +15,31 @@ use Rattle.cycles.specs.definitions.Cycle.{fresh_stores}
 use Rattle.cycles.specs.definitions.Planes.{MOST_STORES_BYTES, table, flag, encode_store, encode_stores, entity_count, stores_size, with_stores}
 use Rattle.values.specs.inner_contracts.Puts.{Put}
 use Rattle.cycles.specs.inner_contracts.FreshMemory.{fresh_value, FreshCell, FreshCellsPut, flags_of, unset_cells, FreshPut}
-use Rattle.cycles.proofs.laws.TableLaws.{table_same}
+use Rattle.cycles.proofs.laws.TableLaws.{table_same, flags_same}
 use Rattle.cycles.proofs.laws.PlaneParts.{length_encode_stores}
-use Rattle.values.proofs.laws.PutLaws.{put_byte, put_length, put_next, put_same}
+use Rattle.values.proofs.laws.PutLaws.{put_length, put_next, put_same}
 use Rattle.cycles.proofs.laws.PutLaws.{put_piece, put_no_piece, put_in_front}
 
+-- ---- runs of one byte
+
+pub flags_run : (flag n : ℕ) {l m : List ℕ} {at r : ℕ} → Put (replicate n flag) l at m r → Put (flags_of flag n) l at m r
+flags_run flag n p = put_same p (sym (flags_same flag 0 n))
+
+unset_run : (k : ℕ) → unset_cells k ≡ replicate (9 * k) 0
+unfolding table
+unset_run k = go 0 k
+  where
+    nine : (k : ℕ) → 9 * suc k ≡ suc (suc (suc (suc (suc (suc (suc (suc (suc (9 * k)))))))))
+    nine k = omega arith
+
+    go : (i k : ℕ) → table (λ i. 0 ∷ low_first 8 0) i k ≡ replicate (9 * k) 0
+    go i zero = refl
+    go i (suc k) = ap (λ (l : List ℕ). (0 ∷ low_first 8 0) ++ l) (go (i + 1) k) ∙ sym (ap (λ (n : ℕ). replicate n 0) (nine k))
+
+pub unset_cells_run : (k : ℕ) {l m : List ℕ} {at r : ℕ} → Put (replicate (9 * k) 0) l at m r → Put (unset_cells k) l at m r
+unset_cells_run k p = put_same p (sym (unset_run k))
+
 -- ---- loops
-
-pub flags_begin : (flag : ℕ) (l : List ℕ) (at : ℕ) → Put (flags_of flag 0) l at l (at + 0)
-flags_begin flag l at =
-    let z : at ≡ at + 0 = omega arith in
-    subst (λ (k : ℕ). Put (flags_of flag 0) l at l k) z (put_no_piece (λ e. flag ∷ []) l at)
-
-pub flags_next : (flag : ℕ) {l m : List ℕ} (at e : ℕ) → Put (flags_of flag e) l at m (at + e)
-    → Put (flags_of flag (e + 1)) l at (set m (at + e) flag) (at + (e + 1))
-flags_next flag {l} {m} at e p =
-    subst (λ (k : ℕ). Put (flags_of flag (e + 1)) l at (set m (at + e) flag) k) (add_assoc at e 1)
-    (put_piece (λ e. flag ∷ []) e p (put_byte m (at + e) flag))
 
 module _ {text classes offsets lengths values d : List ℕ} where
   pub fresh_cells_begin : (l : List ℕ) (at : ℕ) → FreshCellsPut text classes offsets lengths values d 0 l at l at

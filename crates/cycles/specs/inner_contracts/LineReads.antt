@@ -1,6 +1,6 @@
 -- What is read of a record into memory: its sender and number, and its inputs as planes have them. Said for every file that stands in the token
 -- table and the directory and is within the counts.
-use Rattle.std.specs.Prelude.{ℕ, ◌+◌, ◌*◌, ◌/◌, ◌%◌, ◌≤◌, ◌≡◌, Bool, true, false, length, take, Some, None, Ok, Err}
+use Rattle.std.specs.Prelude.{ℕ, ◌+◌, ◌*◌, ◌/◌, ◌%◌, ◌≤◌, ◌≡◌, Bool, true, false, length, take, Option as Read, Some, None, Ok, Err}
 use mathlib.Core.List.{List, [], ◌∷◌, ◌++◌, map, Memᴰ}
 use Rattle.std.proofs.Math.Option.{Option, none, some}
 use Rattle.std.proofs.Math.ListN.{get_elem?}
@@ -12,7 +12,6 @@ use Rattle.checking.specs.inner_contracts.DirectoryReads.{Few}
 use Rattle.checking.specs.definitions.Scope.{member_of}
 use Rattle.checking.specs.inner_contracts.Directory.{Bench}
 use Rattle.cycles.specs.declared.record.Sent.{Sent as Reads}
-use Rattle.cycles.specs.declared.record.Sent.TheVariants.{Refused, Got}
 use Rattle.cycles.specs.definitions.Store.{Inputs}
 use Rattle.cycles.specs.definitions.Spots.{Spot}
 use Rattle.cycles.specs.definitions.Fields.{fields}
@@ -24,11 +23,14 @@ use Rattle.cycles.specs.inner_contracts.HeaderReads.{column_number, backwards}
 -- ---- sender and number
 
 -- how many bytes at the record's front are the sender's, and the number; or none
-unfoldable pub sent_answer : Option Sent → Reads
-sent_answer none = Refused
-sent_answer (some r) = Got (length r.sender) r.number
+abbrev pub got : ℕ → ℕ → Read Reads
+got size number = Some (record { size = size; number = number })
 
-pub record SentRead (count : ℕ) (values : List ℕ) (r : Reads) : Type 0 where
+unfoldable pub sent_answer : Option Sent → Read Reads
+sent_answer none = None
+sent_answer (some r) = got (length r.sender) r.number
+
+pub record SentRead (count : ℕ) (values : List ℕ) (r : Read Reads) : Type 0 where
   pub is : r ≡ sent_answer (record_of count values)
   pub front : (x : Sent) → record_of count values ≡ some x → (x.sender ≡ take (length x.sender) values) × (length x.sender ≤ length values)
 

@@ -12,12 +12,13 @@ use Rattle.text.specs.definitions.Syntax.{File}
 use Rattle.checking.specs.inner_contracts.DirectoryReads.{Few}
 use Rattle.checking.specs.inner_contracts.Directory.{Bench}
 use Rattle.cycles.specs.declared.record.Sent.{Sent as Reads}
-use Rattle.cycles.specs.declared.record.Sent.TheVariants.{Refused as Not-read, Got}
+use Rattle.std.specs.Prelude.{Option as Read, Some, None}
+use Rattle.std.proofs.lemmas.Option.{none-some, same_Some}
 use Rattle.cycles.specs.definitions.Header.{Column, header}
 use Rattle.cycles.specs.definitions.Record.{Sent, record_of, Input, inputs_in, inputs_of, presence_in, given_in}
 use Rattle.cycles.specs.definitions.Planes.{entity_count, table, input_bytes}
 use Rattle.cycles.specs.inner_contracts.HeaderReads.{column_number, backwards}
-use Rattle.cycles.specs.inner_contracts.LineReads.{sent_answer, SentRead, ColumnStands, InputsAre, ValuesRead}
+use Rattle.cycles.specs.inner_contracts.LineReads.{got, sent_answer, SentRead, ColumnStands, InputsAre, ValuesRead}
 use Rattle.cycles.proofs.laws.PlaneParts.{presence_piece, presence_sized, input_piece, input_sized}
 use Rattle.cycles.proofs.laws.PlaneTestLaws.{behind, behind_all}
 use Rattle.cycles.proofs.laws.GatheredLaws.{area_taken}
@@ -55,8 +56,8 @@ recorded values columns count cs b r = ap (λ (k : ℕ). record_of k values) (co
 module _ (classes literals d refs scopes columns : List ℕ) (count : ℕ) (values : List ℕ) where
   -- ---- under a header
 
-  module _ {reads : Reads} (sends : SentRead count values reads) (state : List ℕ) where
-    pub advanced_refused : reads ≡ Not-read → Advanced classes literals d refs scopes columns count values state state (Refused 21)
+  module _ {reads : Read Reads} (sends : SentRead count values reads) (state : List ℕ) where
+    pub advanced_refused : reads ≡ None → Advanced classes literals d refs scopes columns count values state state (Refused 21)
     unfolding sent_answer
     advanced_refused q = record {
       is = λ text offsets lengths b print s h names cs p c.
@@ -64,33 +65,33 @@ module _ (classes literals d refs scopes columns : List ℕ) (count : ℕ) (valu
           (line_no_record b.checked.bench.file names values cs p s (recorded values columns count cs c (no_record (record_of count values) (sym sends.is ∙ q))));
     }
       where
-        no_record : (o : Option Sent) → sent_answer o ≡ Not-read → o ≡ none
+        no_record : (o : Option Sent) → sent_answer o ≡ None → o ≡ none
         no_record none e = refl
-        no_record (some x) e = let z : ◌≡◌ {A = ℕ} 0 1 = cc in absurd (omega arith)
+        no_record (some x) e = absurd (none-some _ (sym e))
 
     -- what the sender's bytes and the number are
-    got_record : {size number : ℕ} → reads ≡ Got size number
+    got_record : {size number : ℕ} → reads ≡ got size number
         → (x : Sent) × (record_of count values ≡ some x) × (x.sender ≡ take size values) × (x.number ≡ number)
     unfolding sent_answer
     got_record {size} {number} q = go (record_of count values) refl
       where
         go : (o : Option Sent) → record_of count values ≡ o
             → (x : Sent) × (record_of count values ≡ some x) × (x.sender ≡ take size values) × (x.number ≡ number)
-        go none r = let e : sent_answer none ≡ Got size number = sym (ap sent_answer r) ∙ sym sends.is ∙ q in let z : ◌≡◌ {A = ℕ} 0 1 = cc in absurd (omega arith)
+        go none r = let e : sent_answer none ≡ got size number = sym (ap sent_answer r) ∙ sym sends.is ∙ q in absurd (none-some _ e)
         go (some x) r =
-            let e : sent_answer (some x) ≡ Got size number = sym (ap sent_answer r) ∙ sym sends.is ∙ q in
-            let k : length x.sender ≡ size = cc in
-            (x, r, (sends.front x r).0 ∙ ap (λ (i : ℕ). take i values) k, cc)
+            let e : sent_answer (some x) ≡ got size number = sym (ap sent_answer r) ∙ sym sends.is ∙ q in
+            let s = same_Some _ _ e in
+            (x, r, (sends.front x r).0 ∙ ap (λ (i : ℕ). take i values) (ap (λ (y : Reads). y.size) s), ap (λ (y : Reads). y.number) s)
 
-    pub got_size : {size number : ℕ} → reads ≡ Got size number → size ≤ length values
+    pub got_size : {size number : ℕ} → reads ≡ got size number → size ≤ length values
     unfolding sent_answer
     got_size {size} {number} q =
         let (x, r, m, k) = got_record q in
-        let e : sent_answer (some x) ≡ Got size number = sym (ap sent_answer r) ∙ sym sends.is ∙ q in
-        let z : length x.sender ≡ size = cc in
+        let e : sent_answer (some x) ≡ got size number = sym (ap sent_answer r) ∙ sym sends.is ∙ q in
+        let z : length x.sender ≡ size = ap (λ (y : Reads). y.size) (same_Some _ _ e) in
         subst (λ (i : ℕ). i ≤ length values) z (sends.front x r).1
 
-    pub advanced_sent : {size number : ℕ} → reads ≡ Got size number → {new_state : List ℕ} {r : Judged}
+    pub advanced_sent : {size number : ℕ} → reads ≡ got size number → {new_state : List ℕ} {r : Judged}
         → SentTaken classes literals d refs scopes columns count values (take (size - 0) values) number state new_state r
         → Advanced classes literals d refs scopes columns count values state new_state r
     advanced_sent {size} q takes = record {

@@ -4,6 +4,3 @@ use Rattle.cycles.proofs.fields.field_start.Given as goal
 
 abbrev pub invariant-loop-i : goal.invariant-loop-i
 invariant-loop-i l = RunsFrom l.mark l.line l.end l.i
-
-abbrev pub decreases-loop-i : goal.decreases-loop-i
-decreases-loop-i l = l.i

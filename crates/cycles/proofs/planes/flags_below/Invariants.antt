@@ -5,6 +5,3 @@ use Rattle.cycles.proofs.planes.flags_below.Given as goal
 
 abbrev pub invariant-loop-e : goal.invariant-loop-e
 invariant-loop-e l = each (λ k. ltb (get_or l.flags k 0) l.bound) l.e (l.n - l.e) ≡ flags_below l.bound l.n l.flags
-
-abbrev pub decreases-loop-e : goal.decreases-loop-e
-decreases-loop-e l = l.n - l.e

@@ -7,9 +7,9 @@ use Rattle.cycles.proofs.record.clear_cells.Goals as goal
 
 pub loop-i-init : goal.loop-i-init
 unfolding table
-loop-i-init c = (omega arith, refl)
+loop-i-init c = refl
 
 pub loop-i-preserved : goal.loop-i-preserved
 loop-i-preserved c =
     let fill = table_fill (λ (k : ℕ). input_bytes none) 9 (λ k. refl) c.loop-i.i c.args.cells.now (omega arith) in
-    (omega arith, c.put_blank.ensures ∙ rw c.loop-i.invariant.1 fill)
+    c.put_blank.ensures ∙ rw c.loop-i.invariant fill

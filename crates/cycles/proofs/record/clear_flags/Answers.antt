@@ -1,8 +1,7 @@
 -- What is left of `clear_flags`.
-use Rattle.cycles.specs.definitions.Planes.{table}
-use Rattle.std.proofs.Common.{arith, refl}
+use lib.Seq.{length-take-le}
+use Rattle.cycles.proofs.laws.TableLaws.{flags_filled}
 use Rattle.cycles.proofs.record.clear_flags.Goals as goal
 
-pub loop-e-init : goal.loop-e-init
-unfolding table
-loop-e-init c = (omega arith, refl)
+pub returns : goal.returns
+returns c = flags_filled _ _ c.args.n _ 0 (length-take-le c.args.n c.args.flags.now c.requires) (c.fill.ensures.after (λ y e. e))

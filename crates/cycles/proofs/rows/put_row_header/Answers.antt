@@ -7,16 +7,13 @@ pub loop-i-init : goal.loop-i-init
 loop-i-init c =
     let e = c.put_bytes-at.ensures.end in
     let k = c.put_bytes-at.auto.s in
-    record { within = omega arith; so_far = names_begin _ _ (omega arith) }
+    names_begin _ _ (omega arith)
 
 pub loop-i-preserved : goal.loop-i-preserved
 loop-i-preserved c =
     let e = c.put_bytes-at.ensures.end in
     let k = c.put_bytes-at.auto.s in
-    record {
-      within = omega arith;
-      so_far = names_next c.loop-i.invariant.so_far c.put_name-at.auto.row (omega arith) c.put_name-at.ensures;
-    }
+    names_next c.loop-i.invariant c.put_name-at.auto.row (omega arith) c.put_name-at.ensures
 
 pub returns : goal.returns
-returns c = header_end c.row-n.ensures.0 c.put_bytes-at.ensures c.loop-i.invariant.so_far c.loop-i.invariant.within c.loop-i-test.false
+returns c = header_end c.row-n.ensures.0 c.put_bytes-at.ensures c.loop-i.invariant (omega arith) (omega arith)

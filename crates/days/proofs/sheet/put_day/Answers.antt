@@ -12,7 +12,7 @@ loop-at-preserved c =
       | in-Some w ↦
           rw (w.end-is, w.sheet-is, w.folds-is)
           (going_prints _ _ _ _ _ _ _ _ _ _ _ _ _ c.loop-at.invariant c.loop-at-test.true c.line_end-stop.ensures c.step.auto.state c.step.ensures
-          w.in-Some.is w.read_chosen-values.ensures c.requires.count_bound.0 w.put_line-end.ensures w.folded_values-more.ensures)
+          w.in-Some.is w.read_chosen-read.ensures c.requires.count_bound.0 w.put_line-end.ensures w.folded_values-more.ensures)
       | in_default w ↦
           rw (w.end-is, w.sheet-is, w.folds-is)
           (going_passes _ _ _ _ _ _ _ _ _ _ _ _ _ c.loop-at.invariant c.loop-at-test.true c.line_end-stop.ensures c.step.auto.state c.step.ensures
@@ -20,4 +20,4 @@ loop-at-preserved c =
     ]
 
 pub returns : goal.returns
-returns c = going_ends _ _ _ _ _ _ _ _ _ _ _ _ _ c.loop-at.invariant c.loop-at-test.false c.real_cells-reals.ensures c.put_closings.ensures
+returns c = going_ends _ _ _ _ _ _ _ _ _ _ _ _ _ c.loop-at.invariant c.loop-at-test.false c.real_cells-told.ensures c.put_closings.ensures
