@@ -20,7 +20,7 @@ use crate::world::Worlds;
 use cell_sets::has_bit;
 use checking::layout::{
     ENTITY_COUNT_ROW, ENTITY_INTERFACE_ROWS, MOST_ENTITIES, MOST_ENTITIES_8, MOST_INTERFACES_8,
-    MOST_RULES, MOST_VARIABLES_8, RULE_COUNT_ROW, RULE_ROWS, SCOPE_ROWS,
+    MOST_RULES, MOST_VARIABLES, MOST_VARIABLES_8, RULE_COUNT_ROW, RULE_ROWS, SCOPE_ROWS,
 };
 use text::walks::class_at;
 
@@ -183,7 +183,9 @@ fn try_rules(rules: &Rules<'_>, stores: &Stores<'_>, set: u64, area: &mut [u8])
         };
         let none = Worlds {
             rules: &*rules,
-            b: Binding { entities: 0 },
+            b: Binding {
+                entities: [0; MOST_VARIABLES],
+            },
             stores: &*stores,
         };
         bind(&none, &trial, 0, area);

@@ -1,9 +1,9 @@
 // A cycle: a line's inputs are applied, the rules that read what moved are tried, and the next stores are put.
-ghost use Rattle.std.specs.Prelude.{◌≡◌, ◌++◌, cond, ◌+◌, ◌*◌, ◌≤◌, ◌<◌, length, drop};
+ghost use Rattle.std.specs.Prelude.{◌≡◌, ◌++◌, ◌+◌, ◌*◌, ◌≤◌, ◌<◌, length, drop};
 ghost use Rattle.checking.specs.definitions.CountFaults;
 ghost use Rattle.cycles.specs.definitions.Planes;
 ghost use Rattle.cycles.specs.definitions.Planes.{table};
-ghost use Rattle.cycles.specs.inner_contracts.CycleMemory.{present_by, seen_flag, leaves_by, seen_value, next_value, ValueOf, any_sort, no_action};
+ghost use Rattle.cycles.specs.inner_contracts.CycleMemory.{present_by, seen_flag, seen_value, next_value, ValueOf, any_sort, no_action};
 ghost use Rattle.cycles.specs.inner_contracts.CycleMemory.{MembersPut, SeenPut, Cycled};
 
 use crate::bindings::all_rules;
@@ -29,94 +29,62 @@ pub fn present_after(present: u8, flag: u8) -> bool
     flag == 2
 }
 
-// The flag of an entity after the line.
-fn present_byte(present: u8, flag: u8) -> u8
-    ensures { result ≡ cond (present_by present flag) 1 0 }
-{
-    if present_after(present, flag) {
-        return 1;
-    }
-    0
-}
-
 // Puts the flags of n entities after the line.
 #[tactic(auto, using(crate::proofs::laws::TableLaws::flag_fill), unfolding(crate::specs::definitions::Planes::table))]
 fn see_flags(n: usize, present: &[u8], inputs: &Inputs<'_>, seen: &mut [u8])
     requires { (n ≤ length present.now) × (n ≤ length inputs.now.flags.now) × (n ≤ length seen.old) }
     ensures { seen.new ≡ table (seen_flag present.now inputs.now.flags.now) 0 n ++ drop n seen.old }
 {
-    let mut e = 0;
-    while e < n {
-        seen[e] = present_byte(present[e], inputs.flags[e]);
-        e += 1;
+    for e in 0..n {
+        seen[e] = u8::from(present_after(present[e], inputs.flags[e]));
     }
 }
 
-// Does an entity leave? By its flags before the line and after it.
-fn leaves(before: u8, after: u8) -> bool
-    ensures { result ≡ leaves_by before after }
-{
-    if before == 1 {
-        return after != 1;
-    }
-    false
+// A line: the store before it, who is present after it, and what was read.
+#[derive(Clone, Copy)]
+struct Line<'a> {
+    before: &'a Store<'a>,
+    seen: &'a [u8],
+    inputs: &'a Inputs<'a>,
 }
 
 // Cell number i after the line: its reading, or what it was; unset if its entity leaves and it is no attribute.
 #[tactic(auto, using(crate::proofs::steps::SeenLaws::values_seen))]
-fn seen_value(
-    rules: &Rules<'_>,
-    before: &Store<'_>,
-    seen: &[u8],
-    inputs: &Inputs<'_>,
-    i: usize,
-) -> Value
-    requires i_bound { (i < Planes.ENTITY_CELLS * length before.now.flags) × (i < Planes.ENTITY_CELLS * length seen.now) }
-    requires i_in_bounds { (i * Planes.CELL_BYTES + Planes.CELL_BYTES ≤ length before.now.cells) × (i * Planes.CELL_BYTES + Planes.CELL_BYTES ≤ length inputs.now.cells.now) }
+fn seen_value(rules: &Rules<'_>, line: &Line<'_>, i: usize) -> Value
+    requires i_bound { (i < Planes.ENTITY_CELLS * length line.now.before.now.flags) × (i < Planes.ENTITY_CELLS * length line.now.seen.now) }
+    requires i_in_bounds { (i * Planes.CELL_BYTES + Planes.CELL_BYTES ≤ length line.now.before.now.cells) × (i * Planes.CELL_BYTES + Planes.CELL_BYTES ≤ length line.now.inputs.now.cells.now) }
     ensures { ValueOf rules.now.columns.classes.now rules.now.columns.d.now
-        (seen_value before.now.flags seen.now before.now.cells inputs.now.cells.now) i result }
+        (seen_value line.now.before.now.flags line.now.seen.now line.now.before.now.cells line.now.inputs.now.cells.now) i result }
 {
-    let cells = inputs.cells;
-    let at = i * CELL_BYTES;
-    if cells[at] != NO_READING {
+    let Inputs { cells, .. } = line.inputs;
+    if cells[i * CELL_BYTES] != NO_READING {
         return cell(cells, i);
     }
     let e = i / ENTITY_CELLS;
-    if !leaves(before.flags[e], seen[e]) {
-        return cell(before.cells, i);
+    let before = line.before;
+    let leaves = before.flags[e] == 1 && line.seen[e] != 1;
+    if leaves && !rules.is_sort(rules.cell_token(i), ATTRIBUTE) {
+        return Value::Unset;
     }
-    if rules.is_sort(rules.cell_token(i), ATTRIBUTE) {
-        return cell(before.cells, i);
-    }
-    Value::Unset
+    cell(before.cells, i)
 }
 
 // Puts the cells of n entities after the line over unset cells; a cell of no member stays unset.
-fn see_cells(
-    rules: &Rules<'_>,
-    n: usize,
-    before: &Store<'_>,
-    seen: &[u8],
-    inputs: &Inputs<'_>,
-    out: &mut [u8],
-)
-    requires n_in_bounds { (n ≤ length before.now.flags) × (n ≤ length seen.now) }
-    requires n_in_bounds_2 { (Planes.ENTITY_CELL_BYTES * n ≤ length before.now.cells) × (Planes.ENTITY_CELL_BYTES * n ≤ length inputs.now.cells.now)
+fn see_cells(rules: &Rules<'_>, n: usize, line: &Line<'_>, out: &mut [u8])
+    requires n_in_bounds { (n ≤ length line.now.before.now.flags) × (n ≤ length line.now.seen.now) }
+    requires n_in_bounds_2 { (Planes.ENTITY_CELL_BYTES * n ≤ length line.now.before.now.cells) × (Planes.ENTITY_CELL_BYTES * n ≤ length line.now.inputs.now.cells.now)
         × (Planes.ENTITY_CELL_BYTES * n ≤ length out.old) }
     ensures { MembersPut rules.now.columns.classes.now rules.now.columns.d.now any_sort
-        (seen_value before.now.flags seen.now before.now.cells inputs.now.cells.now) (Planes.ENTITY_CELLS * n)
+        (seen_value line.now.before.now.flags line.now.seen.now line.now.before.now.cells line.now.inputs.now.cells.now) (Planes.ENTITY_CELLS * n)
         out.old out.new }
 {
-    let end = ENTITY_CELLS * n;
-    let mut i = 0;
-    while i < end {
-        if NO_TOKEN <= rules.cell_token(i) {
-            // its entity has no further member
-            i = i - i % ENTITY_CELLS + ENTITY_CELLS;
-        } else {
-            let v = seen_value(rules, before, seen, inputs, i);
-            put_cell(out, i, v);
-            i += 1;
+    for e in 0..n {
+        for m in 0..ENTITY_CELLS {
+            let i = ENTITY_CELLS * e + m;
+            if NO_TOKEN <= rules.cell_token(i) {
+                break; // the entity has no further member
+            }
+            put_cell(out, i, seen_value(rules, line, i));
         }
     }
 }
@@ -140,16 +108,14 @@ fn put_next(rules: &Rules<'_>, n: usize, cells: &[u8], area: &mut [u8])
     ensures { MembersPut rules.now.columns.classes.now rules.now.columns.d.now no_action (next_value cells.now area.old) (Planes.ENTITY_CELLS * n)
         area.old area.new }
 {
-    let end = ENTITY_CELLS * n;
-    let mut i = 0;
-    while i < end {
-        let token = rules.cell_token(i);
-        if NO_TOKEN <= token {
-            // its entity has no further member
-            i = i - i % ENTITY_CELLS + ENTITY_CELLS;
-        } else {
+    for e in 0..n {
+        for m in 0..ENTITY_CELLS {
+            let i = ENTITY_CELLS * e + m;
+            let token = rules.cell_token(i);
+            if NO_TOKEN <= token {
+                break; // the entity has no further member
+            }
             put_seen(rules, token, cells, i, area);
-            i += 1;
         }
     }
 }
@@ -177,7 +143,12 @@ pub fn cycle(rules: &Rules<'_>, inputs: &Inputs<'_>, stores: &mut [u8])
         cells: &memory[n..],
     };
     see_flags(n, memory, inputs, &mut flags);
-    see_cells(rules, n, &before, &flags, inputs, &mut cells);
+    let line = Line {
+        before: &before,
+        seen: &flags,
+        inputs: &*inputs,
+    };
+    see_cells(rules, n, &line, &mut cells);
     let seen = Stores {
         current: Store {
             flags: &flags,

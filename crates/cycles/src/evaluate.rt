@@ -6,19 +6,17 @@ ghost use Rattle.cycles.specs.inner_contracts.AllRules.{EntityAdded};
 ghost use Rattle.checking.specs.definitions.PriorityFaults;
 
 use crate::layout::{ENTITY_CELLS, MOST_CELL_BYTES, MOST_CELLS};
-use checking::layout::{FIRST_VARIABLE_8, NO_MEMBER_8};
+use checking::layout::{FIRST_VARIABLE_8, MOST_VARIABLES, NO_MEMBER_8};
+use text::walks::class_at;
 use values::Value;
 
-// A rule's second variable, as a reference.
-const SECOND_VARIABLE: u8 = FIRST_VARIABLE_8 + 1;
-
-// The entities of a rule's variables, at most three: a byte for each, the first variable's the lowest. One number goes in a register.
+/// The entities of a rule's variables; 0 for one that has none yet.
 #[derive(Clone, Copy)]
 pub struct Binding {
-    pub entities: u32,
+    pub entities: [u8; MOST_VARIABLES],
 }
 
-// The entity that a reference means.
+/// The entity that a reference means.
 #[tactic(auto, unfolding(crate::specs::inner_contracts::Evaluation::bound))]
 pub fn bound(b: Binding, r: u8) -> u8
     ensures { result ≡ bound b r }
@@ -26,31 +24,19 @@ pub fn bound(b: Binding, r: u8) -> u8
     if r < FIRST_VARIABLE_8 {
         return r;
     }
-    if r == FIRST_VARIABLE_8 {
-        return (b.entities % 256) as u8;
-    }
-    if r == SECOND_VARIABLE {
-        return (b.entities / 256 % 256) as u8;
-    }
-    (b.entities / 65536 % 256) as u8
+    class_at(&b.entities, (r - FIRST_VARIABLE_8) as usize)
 }
 
-// The binding with entity e for variable number `level`, the next one.
-#[tactic(auto, using(crate::proofs::steps::BindingPuts::added_first, crate::proofs::steps::BindingPuts::added_second, crate::proofs::steps::BindingPuts::added_third))]
+/// The binding with entity e for variable number `level`, the next one.
+#[tactic(auto, using(crate::proofs::steps::BindingPuts::entity_set, crate::proofs::steps::BindingPuts::no_variable))]
 pub fn with_entity(b: Binding, level: u8, e: u8) -> Binding
     ensures { EntityAdded b level e result }
 {
-    if level == 0 {
-        return Binding { entities: e as u32 };
+    let mut entities = b.entities;
+    if (level as usize) < MOST_VARIABLES {
+        entities[level as usize] = e;
     }
-    if level == 1 {
-        return Binding {
-            entities: b.entities % 256 + 256 * (e as u32),
-        };
-    }
-    Binding {
-        entities: b.entities % 65536 + 65536 * (e as u32),
-    }
+    Binding { entities }
 }
 
 // The write of a value to member m of entity e, by a rule of this priority, if it is to be made and there is such a member.

@@ -8,7 +8,7 @@ use Rattle.std.specs.Bool.{beq}
 use mathlib.Core.List.{List, [], ◌∷◌, ◌++◌, map}
 use mathlib.Core.Logic.{◌⊎◌, inl, inr}
 use lib.Dec.{eqb, ltb}
-use lib.ListN.{length, get_or, get_elem?, drop, set, length-append, length-drop}
+use lib.ListN.{length, get_or, drop, set, length-append, length-drop}
 use lib.Seq.{get_or-set_same, get_or-set_other}
 use borrow.Author.Tests.{eqb-true, eqb-false, ltb-true, ltb-false}
 use Rattle.values.specs.declared.Value.{Value}
@@ -68,7 +68,7 @@ use Rattle.cycles.proofs.laws.AmongLaws.{AllIn, all_in_cons, all_in_map, all_in_
 use Rattle.cycles.proofs.laws.BindingLaws.{bindings_bind}
 use Rattle.cycles.proofs.steps.ResolvedLaws.{rule_rows, GivesAt, named_refers, resolved}
 use Rattle.cycles.proofs.steps.BindingWrites.{Chosen, file, writes_with, writes_after, few}
-use Rattle.cycles.proofs.steps.BindingPuts.{in_each}
+use Rattle.cycles.proofs.steps.BindingPuts.{front_at, in_each}
 
 -- ---- bindings that begin with given entities
 
@@ -86,11 +86,6 @@ binds_append f vs [] rest p q k v x h g = q k v x h g
 binds_append f [] (e ∷ es) rest p q k v x h g = absurd (none_some h)
 binds_append f (v ∷ vs) (e ∷ es) rest p q zero w x h g = p 0 w x h g
 binds_append f (v ∷ vs) (e ∷ es) rest p q (suc k) w x h g = binds_append f vs es rest (λ k. p (suc k)) q k w x h g
-
-front_at : (es rest : List ℕ) (v : ℕ) → v < length es → get_elem? (es ++ rest) v ≡ get_elem? es v
-front_at [] rest v h = absurd (omega arith)
-front_at (e ∷ es) rest zero h = refl
-front_at (e ∷ es) rest (suc v) h = front_at es rest v (omega arith)
 
 -- two bindings in memory have the same entities for the first variables
 abbrev Agree : Binding → Binding → ℕ → Type 0

@@ -79,6 +79,10 @@ module _ {classes d : List ℕ} (sort : Sort → Bool) (value : File → ℕ →
   members_begin l = record { same = refl; is = λ text offsets lengths w c h. refl }
 
   module _ {i : ℕ} {before l : List ℕ} (p : MembersPut classes d sort value i before l) where
+    -- by another name of the number
+    pub members_at : {r : ℕ} → r ≡ i → MembersPut classes d sort value r before l
+    members_at e = rw e p
+
     -- a cell that is put
     pub member_put : {m : List ℕ} {v : Value} → ValueOf classes d value i v → m ≡ with_cell l i v → (i + 1) * 9 ≤ length before
         → MembersPut classes d sort value (i + 1) before m
