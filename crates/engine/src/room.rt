@@ -1,7 +1,8 @@
 // Room for the columns of a bench text, and an accepted text that stands in it.
-ghost use Rattle.std.specs.Prelude.{true, ◌≡◌, ◌≤◌, ◌⊎◌, length, MatchResult};
+ghost use Rattle.std.specs.Prelude.{ℕ, true, false, ◌≡◌, ◌≤◌, ◌<◌, ◌⊎◌, length, get_or, MatchResult};
 ghost use Rattle.text.specs.inner_contracts.TokenTable.{columns_of};
 ghost use Rattle.checking.specs.inner_contracts.CheckedBench.{has_room};
+ghost use Rattle.cycles.specs.inner_contracts.HeaderReads;
 ghost use Rattle.cycles.specs.inner_contracts.ReadSets;
 ghost use Rattle.checking.specs.definitions.Verdict;
 ghost use Rattle.checking.specs.definitions.Verdict.{verdict, accepted_file, refused_at};
@@ -11,19 +12,21 @@ ghost use Rattle.days.specs.definitions.DaySheet.{sheet_size};
 ghost use Rattle.engine.specs.definitions.BenchImage;
 ghost use Rattle.engine.specs.definitions.Calls;
 ghost use Rattle.engine.specs.definitions.Calls.{length_answer, checked, freshened, header_on_bench, row_on_bench, line_on_bench, sheet_on_bench};
+ghost use Rattle.engine.specs.declared.refusal.Refusal.TheVariants as refused;
+ghost use Rattle.engine.specs.inner_contracts.LineMemory.{InState, HeaderRead, NoHeader, RecordTaken};
 ghost use Rattle.engine.specs.inner_contracts.Refusals.{answer_of};
 
 use crate::bench::put_bench;
-use crate::line::take_line;
 use crate::refusal::Refusal;
 use checking::Columns;
 use checking::check::{Checked, check};
 use checking::layout::DIRECTORY;
-use cycles::layout::SCOPES_BYTES;
-use cycles::put_row_header;
+use cycles::header::{Header, read_header};
+use cycles::layout::{MOST_COLUMNS, SCOPES_BYTES};
+use cycles::{Rules, put_row_header};
 use days::sheet::put_sheet;
 use senders::fingerprint::fingerprint;
-use senders::{is_sender, is_state, put_fresh, show};
+use senders::{Turn, advance, is_sender, is_state, put_fresh, show, show_place};
 use std::marker::Model;
 
 /// Why a text is refused, and where.
@@ -35,60 +38,48 @@ pub struct Fault {
 
 /// An accepted text in columns, a row for each token, with room to resolve its rules' names. Clauses see the text.
 #[derive(Drop)]
-pub struct Bench<'a> {
-    text: &'a [u8],
-    classes: &'a [u8],
-    offsets: &'a [u16],
-    lengths: &'a [u8],
+pub struct AcceptedBench<'a> {
+    columns: Columns<'a>,
     literals: &'a [u32],
-    directory: &'a [u16],
     references: &'a mut [u16],
     scopes: &'a mut [u8],
 }
 
-impl<'a> Model for Bench<'a> {
+impl<'a> Model for AcceptedBench<'a> {
     ghost use Rattle.std.specs.Prelude.{ℕ, List};
     ghost use Rattle.engine.specs.inner_contracts.Benches.{Stands};
 
     ghost Value = { List ℕ };
 
-    ghost view = { λ b. b.text.now };
+    ghost view = { λ b. b.columns.text.now };
 
-    ghost invariant = { λ b. Stands b.text.now b.classes.now b.offsets.now b.lengths.now b.literals.now b.directory.now b.references.now b.scopes.now };
+    ghost invariant = { λ b. Stands b.columns.text.now b.columns.classes.now b.columns.offsets.now b.columns.lengths.now b.literals.now b.columns.d.now b.references.now b.scopes.now };
 }
 
 /// An accepted text in columns, with its rules' names resolved. Clauses see the text.
 #[derive(Drop)]
-pub struct Rules<'a> {
-    text: &'a [u8],
-    classes: &'a [u8],
-    offsets: &'a [u16],
-    lengths: &'a [u8],
-    literals: &'a [u32],
-    directory: &'a [u16],
-    references: &'a [u16],
-    scopes: &'a [u8],
+pub struct ResolvedBench<'a> {
+    rules: Rules<'a>,
 }
 
-impl<'a> Model for Rules<'a> {
+impl<'a> Model for ResolvedBench<'a> {
     ghost use Rattle.std.specs.Prelude.{ℕ, List};
-    ghost use Rattle.senders.specs.inner_contracts.Advancing.{ResolvedBench};
+    ghost use Rattle.senders.specs.inner_contracts.Advancing.{ResolvedBench as Resolved};
 
     ghost Value = { List ℕ };
 
-    ghost view = { λ b. b.text.now };
+    ghost view = { λ b. b.rules.columns.text.now };
 
-    ghost invariant = { λ b. ResolvedBench b.text.now b.classes.now b.offsets.now b.lengths.now b.literals.now b.directory.now b.references.now b.scopes.now };
+    ghost invariant = { λ b. Resolved b.rules.columns.text.now b.rules.columns.classes.now b.rules.columns.offsets.now b.rules.columns.lengths.now b.rules.literals.now b.rules.columns.d.now b.rules.references.now b.rules.scopes.now };
 }
 
-impl<'a> Bench<'a> {
+impl<'a> AcceptedBench<'a> {
     /// Writes the image of the text.
-    #[tactic(auto, using(crate::proofs::laws::ServingLaws::stands_short))]
     pub fn put_image(&self, image: &mut [u8])
         requires { BenchImage.BENCH ≤ length image.old }
         ensures { record { answer = 0; bench = image.new } ≡ checked (verdict self.now) self.now image.old }
     {
-        put_bench(self.text, image);
+        put_bench(self.columns.text, image);
     }
 
     /// Writes the fresh state.
@@ -96,23 +87,12 @@ impl<'a> Bench<'a> {
         requires { StateImage.STATE ≤ length state.old }
         ensures { record { answer = 0; state = state.new } ≡ freshened (fingerprint self.now) (accepted_file self.now) state.old }
     {
-        let Bench {
-            text,
-            classes,
-            offsets,
-            lengths,
+        let AcceptedBench {
+            columns,
             literals,
-            directory,
             ..
         } = self;
-        let columns = Columns {
-            text,
-            classes,
-            offsets,
-            lengths,
-            d: directory,
-        };
-        put_fresh(&columns, literals, fingerprint(text), state);
+        put_fresh(columns, literals, fingerprint(columns.text), state);
     }
 
     /// Writes the row of names: its length.
@@ -120,22 +100,7 @@ impl<'a> Bench<'a> {
         requires { Calls.ROW ≤ length row.old }
         ensures { record { answer = length_answer result; row = row.new } ≡ header_on_bench (accepted_file self.now) row.old }
     {
-        let Bench {
-            text,
-            classes,
-            offsets,
-            lengths,
-            directory,
-            ..
-        } = self;
-        let columns = Columns {
-            text,
-            classes,
-            offsets,
-            lengths,
-            d: directory,
-        };
-        put_row_header(&columns, row)
+        put_row_header(&self.columns, row)
     }
 
     /// Writes the row that a state keeps for a sender: its length, or a refusal.
@@ -145,63 +110,94 @@ impl<'a> Bench<'a> {
         ensures { record { answer = answer_of result; row = row.new }
             ≡ row_on_bench (fingerprint self.now) (accepted_file self.now) state.now sender.now row.old }
     {
-        let Bench {
-            text,
-            classes,
-            offsets,
-            lengths,
-            directory,
-            ..
-        } = self;
-        let columns = Columns {
-            text,
-            classes,
-            offsets,
-            lengths,
-            d: directory,
-        };
-        if !is_state(&columns, fingerprint(text), state) {
+        let AcceptedBench { columns, .. } = self;
+        if !is_state(columns, fingerprint(columns.text), state) {
             return Err(Refusal::NoState);
         }
         if !is_sender(sender) {
             return Err(Refusal::IllFormedSender);
         }
-        Ok(show(&columns, state, sender, row))
+        Ok(show(columns, state, sender, row))
     }
 
     /// Resolves the names of the rules.
     #[tactic(auto, using(crate::proofs::laws::ServingLaws::rules_stand))]
-    pub fn resolve(self) -> Rules<'a>
+    pub fn resolve(self) -> ResolvedBench<'a>
         ensures { result ≡ self.entry }
     {
-        let Bench {
-            text,
-            classes,
-            offsets,
-            lengths,
+        let AcceptedBench {
+            columns,
             literals,
-            directory,
             references,
             scopes,
         } = self;
         reads::resolve(
-            text, classes, offsets, lengths, directory, references, scopes,
-        );
-        Rules {
-            text,
-            classes,
-            offsets,
-            lengths,
-            literals,
-            directory,
+            columns.text,
+            columns.classes,
+            columns.offsets,
+            columns.lengths,
+            columns.d,
             references,
             scopes,
+        );
+        ResolvedBench {
+            rules: Rules {
+                columns,
+                literals,
+                references,
+                scopes,
+            },
         }
     }
 }
 
-impl<'a> Rules<'a> {
+impl<'a> ResolvedBench<'a> {
+    /// Writes the row of names: its length.
+    pub fn put_header(&self, row: &mut [u8]) -> usize
+        requires { Calls.ROW ≤ length row.old }
+        ensures is { record { answer = length_answer result; row = row.new } ≡ header_on_bench (accepted_file self.now) row.old }
+        ensures short { result ≤ Calls.ROW }
+    {
+        put_row_header(&self.rules.columns, row)
+    }
+
+    /// Reads a header: how many columns it has, whose numbers `columns` then has, or `Refusal::Header`.
+    pub fn read_header(&self, names: &[u8], columns: &mut [u16]) -> Result<usize, Refusal>
+        requires { HeaderReads.MOST_COLUMNS ≤ length columns.old }
+        ensures { MatchResult result (HeaderRead self.now names.now columns.new) (λ e. (e ≡ refused.Header) × NoHeader self.now names.now) }
+    {
+        let count = read_header(&self.rules.columns, names, columns);
+        if MOST_COLUMNS < count {
+            return Err(Refusal::Header);
+        }
+        Ok(count)
+    }
+
+    /// Takes a record under a header that is read, `columns` with the numbers of its `count` columns, on memory that is a state: the length of its
+    /// sender's row, or a refusal.
+    pub fn take_record(
+        &self,
+        columns: &[u16],
+        count: usize,
+        values: &[u8],
+        state: &mut [u8],
+        row: &mut [u8],
+    ) -> Result<usize, Refusal>
+        requires header { (count ≤ length columns.now) × ((k : ℕ) → k < count → get_or columns.now k 0 < HeaderReads.NO_COLUMN) }
+        requires room { (StateImage.STATE ≤ length state.old) × (Calls.ROW ≤ length row.old) }
+        ensures { RecordTaken self.now columns.now count values.now state.old row.old state.new row.new result }
+    {
+        let ResolvedBench { rules } = self;
+        let header = Header::new(columns, count);
+        match advance(rules, &header, values, state) {
+            Err(error) => Err(Refusal::Line(error.code())),
+            Ok(Turn::New { place, .. }) => Ok(show_place(&rules.columns, state, place, row)),
+            Ok(Turn::Retransmission { place }) => Ok(show_place(&rules.columns, state, place, row)),
+        }
+    }
+
     /// Takes a header and a record: the length of the sender's row, or a refusal.
+    #[tactic(auto, using(crate::proofs::laws::LineLaws::line_no_state, crate::proofs::laws::LineLaws::line_no_header))]
     pub fn take_line(
         &self,
         names: &[u8],
@@ -213,20 +209,22 @@ impl<'a> Rules<'a> {
         ensures { record { answer = answer_of result; state = state.new; row = row.new }
             ≡ line_on_bench (fingerprint self.now) (accepted_file self.now) state.old names.now values.now row.old }
     {
-        let Rules {
-            text,
-            classes,
-            offsets,
-            lengths,
-            literals,
-            directory,
-            references,
-            scopes,
-        } = self;
-        take_line(
-            text, classes, offsets, lengths, literals, directory, references, scopes, names,
-            values, state, row,
-        )
+        self.check_state(state)?;
+        let mut columns = [0u16; MOST_COLUMNS];
+        let count = self.read_header(names, &mut columns)?;
+        self.take_record(&columns, count, values, state, row)
+    }
+
+    /// Is the memory a state of the bench? Else it is refused.
+    fn check_state(&self, state: &[u8]) -> Result<(), Refusal>
+        requires { StateImage.STATE ≤ length state.now }
+        ensures { MatchResult result (λ _. InState self.now state.now true) (λ e. (e ≡ refused.NoState) × InState self.now state.now false) }
+    {
+        let columns = &self.rules.columns;
+        if !is_state(columns, fingerprint(columns.text), state) {
+            return Err(Refusal::NoState);
+        }
+        Ok(())
     }
 
     /// Writes the day sheet of a text of readings, run on from a state that stays: its length, or a refusal.
@@ -241,30 +239,8 @@ impl<'a> Rules<'a> {
         ensures { record { answer = answer_of result; sheet = sheet.new }
             ≡ sheet_on_bench (fingerprint self.now) (accepted_file self.now) state.now readings.now cells.now sheet.old }
     {
-        let Rules {
-            text,
-            classes,
-            offsets,
-            lengths,
-            literals,
-            directory,
-            references,
-            scopes,
-        } = self;
-        let columns = Columns {
-            text,
-            classes,
-            offsets,
-            lengths,
-            d: directory,
-        };
-        let rules = cycles::Rules {
-            columns,
-            literals,
-            references,
-            scopes,
-        };
-        match put_sheet(&rules, state, readings, cells, sheet) {
+        let ResolvedBench { rules } = self;
+        match put_sheet(rules, state, readings, cells, sheet) {
             Err(error) => Err(Refusal::Sheet(error.code())),
             Ok(length) => Ok(length),
         }
@@ -297,7 +273,7 @@ impl<const N: usize> Room<N> {
     }
 
     /// The bench that a text is, or why it is none.
-    pub fn read<'a>(&'a mut self, text: &'a [u8]) -> Result<Bench<'a>, Fault>
+    pub fn read<'a>(&'a mut self, text: &'a [u8]) -> Result<AcceptedBench<'a>, Fault>
         requires { (length text.now ≤ N) ⊎ (Verdict.MOST_BYTES ≤ N) }
         ensures { MatchResult result (λ b. b ≡ text.now) (λ fault. verdict text.now ≡ refused_at fault.code fault.at) }
     {
@@ -327,20 +303,22 @@ fn read_into<'a>(
     directory: &'a mut [u16],
     references: &'a mut [u16],
     scopes: &'a mut [u8],
-) -> Result<Bench<'a>, Fault>
+) -> Result<AcceptedBench<'a>, Fault>
     requires room { has_room text.now (columns_of classes.old offsets.old lengths.old literals.old) directory.old ≡ true }
     requires to_resolve { (length classes.old ≤ length references.old) × (ReadSets.SCOPES_BYTES ≤ length scopes.old) }
     ensures { MatchResult result (λ b. b ≡ text.now) (λ fault. verdict text.now ≡ refused_at fault.code fault.at) }
 {
     let checked = check(text, classes, offsets, lengths, literals, directory);
     match checked {
-        Checked::Accepted(n) => Ok(Bench {
-            text,
-            classes: &classes[..n],
-            offsets,
-            lengths,
+        Checked::Accepted(n) => Ok(AcceptedBench {
+            columns: Columns {
+                text,
+                classes: &classes[..n],
+                offsets,
+                lengths,
+                d: directory,
+            },
             literals,
-            directory,
             references,
             scopes,
         }),

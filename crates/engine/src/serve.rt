@@ -12,7 +12,7 @@ ghost use Rattle.engine.specs.inner_contracts.Serving;
 ghost use Rattle.engine.specs.inner_contracts.Serving.{Served, served_check, served_fresh, served_line, served_row, served_sheet};
 
 use crate::refusal::Refusal;
-use crate::room::{Bench, Fault, Room};
+use crate::room::{AcceptedBench, Fault, Room};
 use checking::layout::MOST_BYTES;
 
 // The length of what an accepted call writes that writes no row.
@@ -30,7 +30,12 @@ pub trait Call {
     ghost fits: { Self → List ℕ → List ℕ → Type 0 };
 
     /// On an accepted text.
-    fn on_bench(self, bench: Bench<'_>, state: &mut [u8], out: &mut [u8]) -> Result<usize, Refusal>
+    fn on_bench(
+        self,
+        bench: AcceptedBench<'_>,
+        state: &mut [u8],
+        out: &mut [u8],
+    ) -> Result<usize, Refusal>
         requires { fits self state.old out.old }
         ensures { record { answer = answer_of result; state = state.new; out = out.new } ≡ served self bench.entry state.old out.old };
 
@@ -51,7 +56,7 @@ impl Call for Check {
 
     fn on_bench(
         self,
-        bench: Bench<'_>,
+        bench: AcceptedBench<'_>,
         _state: &mut [u8],
         out: &mut [u8],
     ) -> Result<usize, Refusal> {
@@ -78,7 +83,7 @@ impl Call for Fresh {
 
     fn on_bench(
         self,
-        bench: Bench<'_>,
+        bench: AcceptedBench<'_>,
         state: &mut [u8],
         _out: &mut [u8],
     ) -> Result<usize, Refusal> {
@@ -105,7 +110,7 @@ impl<'a> Call for Line<'a> {
 
     fn on_bench(
         self,
-        bench: Bench<'_>,
+        bench: AcceptedBench<'_>,
         state: &mut [u8],
         out: &mut [u8],
     ) -> Result<usize, Refusal> {
@@ -130,7 +135,7 @@ impl Call for Header {
 
     fn on_bench(
         self,
-        bench: Bench<'_>,
+        bench: AcceptedBench<'_>,
         _state: &mut [u8],
         out: &mut [u8],
     ) -> Result<usize, Refusal> {
@@ -156,7 +161,7 @@ impl<'a> Call for Row<'a> {
 
     fn on_bench(
         self,
-        bench: Bench<'_>,
+        bench: AcceptedBench<'_>,
         _state: &mut [u8],
         out: &mut [u8],
     ) -> Result<usize, Refusal> {
@@ -183,7 +188,7 @@ impl<'a> Call for Sheet<'a> {
 
     fn on_bench(
         self,
-        bench: Bench<'_>,
+        bench: AcceptedBench<'_>,
         _state: &mut [u8],
         out: &mut [u8],
     ) -> Result<usize, Refusal> {

@@ -1,6 +1,5 @@
 -- Steps of the proofs of functions: for this crate alone.
 pub mod GatheringLaws
 pub mod FeedingLaws
-pub mod TakenLaws
 pub mod LineLaws
 pub mod StartLaws

@@ -2,254 +2,224 @@
 // printed stands in a buffer. Reading and writing is left to the caller.
 #![tactic(auto)]
 
-pub mod gathering; // a line over chunks
 pub mod rows; // what a line prints
 
-ghost use Rattle.std.specs.Prelude.{◌≡◌, true, ◌+◌, ◌≤◌, ◌<◌, length};
-ghost use Rattle.text.specs.inner_contracts.TokenTable.{columns_of};
-ghost use Rattle.checking.specs.inner_contracts.CheckedBench.{has_room};
-ghost use Rattle.cycles.specs.inner_contracts.ReadSets;
-ghost use Rattle.senders.specs.definitions.StateImage;
-ghost use Rattle.replay.specs.inner_contracts.Awaiting.{bench_memory};
+ghost use Rattle.std.specs.Prelude.{◌≡◌, ◌≤◌, ◌⊎◌, length, eqb, MatchOption, MatchResult};
+ghost use Rattle.std.specs.List.{position};
+ghost use Rattle.checking.specs.definitions.Verdict;
+ghost use Rattle.cycles.specs.definitions.Readings.{PartOfLine};
+ghost use Rattle.cycles.specs.inner_contracts.HeaderReads;
+ghost use Rattle.engine.specs.definitions.Calls;
 ghost use Rattle.replay.specs.inner_contracts.Feeding;
-ghost use Rattle.replay.specs.inner_contracts.Feeding.{Lent, Fed, Finished, Starts, is_over, is_closed};
+ghost use Rattle.replay.specs.inner_contracts.Feeding.{Kept, Gathers, LineGathered, HeaderTaken, NamesRefused, LinePut, Fed, Finished, Started, BenchRefused, is_over, is_closed};
 
-use checking::Columns;
-use checking::check::{Checked, check};
-use cycles::layout::MOST_ROW_BYTES;
-use gathering::gather;
-use reads::resolve;
-use rows::{put_bench_refusal, put_line};
-use senders::fingerprint::fingerprint;
-use senders::put_fresh;
+use cycles::layout::{MOST_COLUMNS, MOST_HEADER_BYTES, MOST_ROW_BYTES};
+use engine::refusal::Refusal;
+use engine::room::{AcceptedBench, ResolvedBench, Room};
+use rows::{end_row, put_bench_refusal};
+use senders::layout::STATE;
+use std::marker::Model;
 
-// The most bytes of a row with its line feed.
-const ROOM: usize = MOST_ROW_BYTES + 1;
+/// The most bytes of a row with its line feed: a buffer has room for one.
+pub const ROOM: usize = MOST_ROW_BYTES + 1;
 
-// What is awaited: the line of names, a line of values under so many columns, or nothing more.
-#[derive(Clone, Copy)]
+/// One byte more than a line of names may have: so it shows that a line is too long.
+pub const LINE: usize = MOST_HEADER_BYTES + 1;
+
+/// What is awaited: the line of names, a line of values under so many columns, or nothing more.
+#[derive(Clone, Copy, Debug, PartialEq, Eq)]
 pub enum Stage {
     Names,
     Values(usize),
     Closed,
 }
 
-// A bench is started: its text has `rows` tokens, and `used` bytes wait to be written.
-#[derive(Clone, Copy)]
-pub struct Begun {
-    pub rows: usize,
-    pub stage: Stage,
-    pub used: usize,
-}
-
-// The chunk is taken up to `from`, `kept` bytes of a line wait for its end, and `used` bytes wait to be written.
-#[derive(Clone, Copy)]
+/// How many bytes of a chunk are taken, and how many wait to be written.
+#[derive(Clone, Copy, Debug, PartialEq, Eq)]
 pub struct Progress {
-    pub stage: Stage,
-    pub from: usize,
-    pub kept: usize,
+    pub taken: usize,
     pub used: usize,
 }
 
-// Checks a bench, resolves its names and writes its fresh state; or puts its refusal.
-pub fn start(
-    text: &[u8],
-    classes: &mut [u8],
-    offsets: &mut [u16],
-    lengths: &mut [u8],
-    literals: &mut [u32],
-    d: &mut [u16],
-    refs: &mut [u16],
-    scopes: &mut [u8],
-    state: &mut [u8],
+/// A bench that is started: what is awaited, the numbers of the header's columns, the bytes of a line that wait for its end, and the state.
+#[derive(Drop)]
+pub struct Replay<'a> {
+    bench: ResolvedBench<'a>,
+    stage: Stage,
+    columns: [u16; MOST_COLUMNS],
+    line: [u8; LINE],
+    kept: usize,
+    state: [u8; STATE],
+}
+
+impl<'a> Model for Replay<'a> {
+    ghost use Rattle.std.specs.Prelude.{◌≤◌, take};
+    ghost use Rattle.replay.specs.inner_contracts.Awaiting.{Memory, Stood};
+    ghost use Rattle.replay.specs.inner_contracts.Feeding;
+
+    ghost Value = { Memory };
+
+    ghost view = { λ r. record { text = r.bench; stage = r.stage; columns = r.columns; waiting = take r.kept r.line; state = r.state } };
+
+    ghost invariant = { λ r. (r.kept ≤ Feeding.LINE)
+        × Stood (record { text = r.bench; stage = r.stage; columns = r.columns; waiting = take r.kept r.line; state = r.state }) };
+}
+
+/// Starts a bench with its fresh state; or puts its refusal, so many bytes.
+pub fn start<'a, const N: usize>(
+    room: &'a mut Room<N>,
+    text: &'a [u8],
     out: &mut [u8],
-) -> Begun
-    requires d_value { has_room text.now (columns_of classes.old offsets.old lengths.old literals.old) d.old ≡ true }
-    requires classes_in_bounds { (length classes.old ≤ length refs.old) × (ReadSets.SCOPES_BYTES ≤ length scopes.old) }
-    requires in_bounds { (StateImage.STATE ≤ length state.old) × (Feeding.ROOM ≤ length out.old) }
-    ensures { Starts text.now classes.new offsets.new lengths.new literals.new d.new
-        refs.new scopes.new state.new out.new result }
+) -> Result<Replay<'a>, usize>
+    requires text { (length text.now ≤ N) ⊎ (Verdict.MOST_BYTES ≤ N) }
+    requires room { Feeding.ROOM ≤ length out.old }
+    ensures { MatchResult result (Started text.now) (BenchRefused text.now out.new) }
 {
-    let checked = check(text, classes, offsets, lengths, literals, d);
-    match checked {
-        Checked::NoRoom => Begun {
-            rows: 0,
-            stage: Stage::Closed,
-            used: 0,
-        },
-        Checked::Refused { code, at } => {
-            let end = put_bench_refusal(out, code, at);
-            Begun {
-                rows: 0,
-                stage: Stage::Closed,
-                used: end,
-            }
-        }
-        Checked::Accepted(n) => {
-            resolve(text, &classes[0..n], offsets, lengths, d, refs, scopes);
-            let columns = Columns {
-                text,
-                classes: &classes[0..n],
-                offsets,
-                lengths,
-                d,
-            };
-            put_fresh(&columns, literals, fingerprint(text), state);
-            Begun {
-                rows: n,
-                stage: Stage::Names,
-                used: 0,
-            }
-        }
+    match room.read(text) {
+        Ok(bench) => Ok(Replay::new(bench)),
+        Err(fault) => Err(put_bench_refusal(out, fault.code, fault.at)),
     }
 }
 
-// Takes the lines of the chunk from `from` on, as long as the buffer has room for a row, and keeps the bytes of an unfinished one.
-pub fn feed(
-    text: &[u8],
-    classes: &[u8],
-    offsets: &[u16],
-    lengths: &[u8],
-    literals: &[u32],
-    d: &[u16],
-    refs: &[u16],
-    scopes: &[u8],
-    stage: Stage,
-    chunk: &[u8],
-    from: usize,
-    line: &mut [u8],
-    kept: usize,
-    columns: &mut [u16],
-    state: &mut [u8],
-    out: &mut [u8],
-) -> Progress
-    requires from_in_bounds { from ≤ length chunk.now }
-    requires lent { Lent (bench_memory text.now classes.now offsets.now lengths.now literals.now d.now refs.now scopes.now) stage
-        line.old kept columns.old state.old }
-    ensures { Fed (bench_memory text.now classes.now offsets.now lengths.now literals.now
-        d.now refs.now scopes.now) stage chunk.now from line.old kept
-        columns.old state.old out.old line.new columns.new state.new
-        out.new result }
+// Where the first line feed stands.
+fn line_end(chunk: &[u8]) -> Option<usize>
+    ensures { result ≡ position (λ b. eqb b 10) chunk.now }
 {
-    let mut awaited = stage;
-    let mut at = from;
-    let mut waits = kept;
-    let mut end: usize = 0;
-    while at < chunk.len() {
-        if out.len() - end < ROOM {
-            return Progress {
-                stage: awaited,
-                from: at,
-                kept: waits,
-                used: end,
-            };
-        }
-        let g = gather(chunk, at, line, waits);
-        let stop = g.end;
-        let n = g.kept;
-        if stop == chunk.len() {
-            return Progress {
-                stage: awaited,
-                from: stop,
-                kept: n,
-                used: end,
-            };
-        }
-        let step = put_line(
-            text,
-            classes,
-            offsets,
-            lengths,
-            literals,
-            d,
-            refs,
-            scopes,
-            awaited,
-            &line[0..n],
-            columns,
+    chunk.iter().position(|b| *b == b'\n')
+}
+
+// The row of names, under a header that is read, and what is awaited then.
+fn take_names(
+    bench: &ResolvedBench<'_>,
+    names: &[u8],
+    stage: &mut Stage,
+    columns: &mut [u16],
+    row: &mut [u8],
+) -> Result<usize, Refusal>
+    requires { (HeaderReads.MOST_COLUMNS ≤ length columns.old) × (Calls.ROW ≤ length row.old) }
+    ensures { MatchResult result (HeaderTaken bench.now names.now stage.new columns.new row.new) (NamesRefused bench.now names.now stage.new) }
+{
+    *stage = Stage::Closed;
+    let count = bench.read_header(names, columns)?;
+    *stage = Stage::Values(count);
+    Ok(bench.put_header(row))
+}
+
+impl<'a> Replay<'a> {
+    /// A bench with its fresh state, which awaits the line of names.
+    pub fn new(bench: AcceptedBench<'a>) -> Self
+        ensures { Started bench.entry result }
+    {
+        let mut state = [0; STATE];
+        bench.put_fresh(&mut state);
+        Replay {
+            bench: bench.resolve(),
+            stage: Stage::Names,
+            columns: [0; MOST_COLUMNS],
+            line: [0; LINE],
+            kept: 0,
             state,
-            out,
-            end,
-        );
-        awaited = step.stage;
-        end = step.used;
-        waits = 0;
-        at = stop + 1;
+        }
     }
-    Progress {
-        stage: awaited,
-        from: at,
-        kept: waits,
-        used: end,
-    }
-}
 
-// Is nothing more awaited? Whatever text is left then, it prints nothing.
-#[tactic(auto, unfolding(crate::specs::inner_contracts::Feeding::is_closed))]
-pub fn is_closed(stage: Stage) -> bool
-    ensures { result ≡ is_closed stage }
-{
-    match stage {
-        Stage::Names => false,
-        Stage::Values(_) => false,
-        Stage::Closed => true,
+    // Keeps more bytes of the line, as many as there is room for: a line that fills the room is too long, whatever follows.
+    fn keep(&mut self, bytes: &[u8])
+        requires { PartOfLine bytes.now }
+        ensures { Kept self.old bytes.now self.new }
+    {
+        let n = bytes.len().min(LINE - self.kept);
+        let end = self.kept + n;
+        self.line[self.kept..end].copy_from_slice(&bytes[..n]);
+        self.kept = end;
     }
-}
 
-// At the text's end: is there no line any more? A line of names is there, if only an empty one.
-#[tactic(auto, unfolding(crate::specs::inner_contracts::Feeding::is_over))]
-fn is_over(stage: Stage, kept: usize) -> bool
-    ensures { result ≡ is_over stage kept }
-{
-    match stage {
-        Stage::Names => false,
-        Stage::Values(_) => kept == 0,
-        Stage::Closed => true,
+    // Keeps the bytes of a line up to its line feed, and answers where that stands; or all of the chunk.
+    fn gather(&mut self, chunk: &[u8]) -> Option<usize>
+        ensures { MatchOption result (Gathers self.old chunk.now (length chunk.now) self.new) (LineGathered self.old chunk.now self.new) }
+    {
+        let end = line_end(chunk);
+        self.keep(&chunk[..end.unwrap_or(chunk.len())]);
+        end
     }
-}
 
-// The text has ended: a last line that no line feed ends.
-pub fn finish(
-    text: &[u8],
-    classes: &[u8],
-    offsets: &[u16],
-    lengths: &[u8],
-    literals: &[u32],
-    d: &[u16],
-    refs: &[u16],
-    scopes: &[u8],
-    stage: Stage,
-    line: &[u8],
-    kept: usize,
-    columns: &mut [u16],
-    state: &mut [u8],
-    out: &mut [u8],
-) -> usize
-    requires lent { Lent (bench_memory text.now classes.now offsets.now lengths.now literals.now d.now refs.now scopes.now) stage
-        line.now kept columns.old state.old }
-    requires in_bounds { Feeding.ROOM ≤ length out.old }
-    ensures { Finished (bench_memory text.now classes.now offsets.now lengths.now literals.now
-        d.now refs.now scopes.now) stage line.now kept columns.old state.old
-        out.new result }
-{
-    if is_over(stage, kept) {
-        return 0;
+    // Puts what the line prints that waits, which is taken then: how many bytes.
+    fn put_line(&mut self, out: &mut [u8]) -> usize
+        requires { Feeding.ROOM ≤ length out.old }
+        ensures { LinePut self.old self.new out.new result }
+    {
+        let Replay {
+            bench,
+            stage,
+            columns,
+            line,
+            kept,
+            state,
+        } = self;
+        let waiting = &line[..*kept];
+        *kept = 0;
+        match *stage {
+            Stage::Names => {
+                let row = take_names(bench, waiting, stage, columns, out);
+                end_row(row, out)
+            }
+            Stage::Values(count) => {
+                let row = bench.take_record(columns, count, waiting, state, out);
+                end_row(row, out)
+            }
+            Stage::Closed => 0,
+        }
     }
-    let step = put_line(
-        text,
-        classes,
-        offsets,
-        lengths,
-        literals,
-        d,
-        refs,
-        scopes,
-        stage,
-        &line[0..kept],
-        columns,
-        state,
-        out,
-        0,
-    );
-    step.used
+
+    /// Takes the lines of a chunk, as long as the buffer has room for a row, and keeps the bytes of an unfinished one.
+    pub fn feed(&mut self, chunk: &[u8], out: &mut [u8]) -> Progress
+        ensures { Fed self.old chunk.now self.new out.new result }
+    {
+        let mut taken = 0;
+        let mut used = 0;
+        while ROOM <= out.len() - used {
+            let Some(length) = self.gather(&chunk[taken..]) else {
+                return Progress {
+                    taken: chunk.len(),
+                    used,
+                };
+            };
+            used += self.put_line(&mut out[used..]);
+            taken += length + 1;
+        }
+        Progress { taken, used }
+    }
+
+    /// Is nothing more awaited? Whatever text is left then, it prints nothing.
+    #[tactic(auto, unfolding(crate::specs::inner_contracts::Feeding::is_closed))]
+    pub fn is_closed(&self) -> bool
+        ensures { result ≡ is_closed self.now.stage }
+    {
+        match self.stage {
+            Stage::Names | Stage::Values(_) => false,
+            Stage::Closed => true,
+        }
+    }
+
+    // At the text's end: is there no line any more? A line of names is there, if only an empty one.
+    #[tactic(auto, unfolding(crate::specs::inner_contracts::Feeding::is_over))]
+    fn is_over(&self) -> bool
+        ensures { result ≡ is_over self.now.stage (length self.now.waiting) }
+    {
+        match self.stage {
+            Stage::Names => false,
+            Stage::Values(_) => self.line[..self.kept].is_empty(),
+            Stage::Closed => true,
+        }
+    }
+
+    /// The text has ended: puts what a last line prints that no line feed ends.
+    pub fn finish(&mut self, out: &mut [u8]) -> usize
+        requires { Feeding.ROOM ≤ length out.old }
+        ensures { Finished self.old out.new result }
+    {
+        if self.is_over() {
+            return 0;
+        }
+        self.put_line(out)
+    }
 }

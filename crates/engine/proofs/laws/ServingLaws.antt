@@ -38,6 +38,7 @@ use Rattle.engine.specs.declared.refusal.Refusal.TheVariants as refused_as
 use Rattle.engine.specs.inner_contracts.Refusals.{answer_of}
 use Rattle.engine.specs.definitions.BenchImage.{with_bench, bench_of, text_in}
 use Rattle.engine.specs.definitions.Calls.{
+  ROW,
   with_row,
   AfterLine,
   AfterSheet,
@@ -54,7 +55,6 @@ use Rattle.engine.specs.definitions.Calls.{
   sheet_on_bench,
   length_answer,
 }
-use Rattle.engine.specs.inner_contracts.LineMemory.{LineTaken}
 use Rattle.engine.proofs.laws.LineLaws.{state_told, length_told}
 use Rattle.engine.specs.inner_contracts.Serving.{served_check, served_fresh, served_line, served_row, served_sheet}
 use Rattle.engine.specs.inner_contracts.Benches.{Stands}
@@ -106,6 +106,18 @@ pub rules_stand : {text classes offsets lengths literals d refs scopes new_refs 
     → ResolvedBench text classes offsets lengths literals d new_refs new_scopes
 rules_stand s r = record { checked = s.checked; references = r.references; scopes_are = r.scopes_are; reads_are = r.reads_are }
 
+module _ {text classes offsets lengths literals d : List ℕ} (c : CheckedBench text classes offsets lengths literals d) where
+  pub header_is : {row new : List ℕ} {n : ℕ} → HeaderPut text classes offsets lengths d row new n
+      → record { answer = length_answer n; row = new } ≡ header_on_bench (accepted_file text) row
+  unfolding header_on_bench row_written with_row
+  header_is p =
+      let s = short_names c.lexed c.bench.columns in
+      let i = p.is c.bench c.few s in
+      rw (accepted_is c, length_told (p.short c.bench c.few s), i.is, i.count)
+
+  pub header_short : {row new : List ℕ} {n : ℕ} → HeaderPut text classes offsets lengths d row new n → n ≤ ROW
+  header_short p = p.short c.bench c.few (short_names c.lexed c.bench.columns)
+
 module _ {text classes offsets lengths literals d refs scopes : List ℕ} (stands : Stands text classes offsets lengths literals d refs scopes) where
   c : CheckedBench text classes offsets lengths literals d
   c = stands.checked
@@ -118,14 +130,6 @@ module _ {text classes offsets lengths literals d refs scopes : List ℕ} (stand
       → record { answer = 0; state = new } ≡ freshened (fingerprint text) (accepted_file text) state
   unfolding freshened
   fresh_is e p = rw (accepted_is c, ← e, p.is c.bench c.few c.valued)
-
-  pub header_is : {row new : List ℕ} {n : ℕ} → HeaderPut text classes offsets lengths d row new n
-      → record { answer = length_answer n; row = new } ≡ header_on_bench (accepted_file text) row
-  unfolding header_on_bench row_written with_row
-  header_is p =
-      let s = short_names c.lexed c.bench.columns in
-      let i = p.is c.bench c.few s in
-      rw (accepted_is c, length_told (p.short c.bench c.few s), i.is, i.count)
 
   module _ {print : ℕ} (p : print ≡ fingerprint text) {shown : List ℕ} {is : Bool} (tests : StateTest print classes d shown is) where
     pub row_of_no_state : is ≡ false → (sender row : List ℕ)
@@ -147,12 +151,6 @@ module _ {text classes offsets lengths literals d refs scopes : List ℕ} (stand
         rw (accepted_is c, o, n, length_told shows.short, i.is, i.count)
 
 module _ {text classes offsets lengths literals d refs scopes : List ℕ} (b : ResolvedBench text classes offsets lengths literals d refs scopes) where
-  pub line_is : {names values state row new_state new_row : List ℕ} {r : Result ℕ Refusal}
-      → LineTaken text classes offsets lengths literals d refs scopes names values state row new_state new_row r
-      → record { answer = answer_of r; state = new_state; row = new_row } ≡ line_on_bench (fingerprint text) (accepted_file text) state names values row
-  unfolding line_on_bench
-  line_is takes = rw (accepted_is b.checked) (takes.is b)
-
   pub sheet_is : {state readings cells out new : List ℕ} {t k : Sheeted}
       → SheetPut text classes offsets lengths literals d refs scopes state readings cells out new t → t ≡ k
       → record { answer = answer_of (sheeted k); sheet = new } ≡ sheet_on_bench (fingerprint text) (accepted_file text) state readings cells out

@@ -1,20 +1,19 @@
--- What a line on a checked bench in columns comes to, whose rules' names are resolved: the answer, and the memory of state and row.
-use Rattle.std.specs.Prelude.{ℕ, Result, Ok, Err, ◌≤◌, ◌≡◌, true, List, map}
-use Rattle.std.proofs.Math.Option.{some}
+-- What a line on an accepted bench comes to: the answer, and the memory of state and row.
+use Rattle.std.specs.Prelude.{ℕ, Result, Ok, Err, IfOk, ◌≤◌, ◌<◌, ◌≡◌, Bool, List, map, get_or, take}
+use Rattle.std.proofs.Math.Option.{none, some}
 use Rattle.text.specs.definitions.Syntax.{File}
+use Rattle.checking.specs.definitions.Verdict.{accepted_file}
 use Rattle.cycles.specs.definitions.Header.{Column, header}
-use Rattle.cycles.specs.inner_contracts.HeaderReads.{column_number, backwards}
+use Rattle.cycles.specs.inner_contracts.HeaderReads.{MOST_COLUMNS, NO_COLUMN, column_number, backwards}
+use Rattle.senders.specs.definitions.Sender.{State}
+use Rattle.senders.specs.definitions.Answer.{refused, accepted}
+use Rattle.senders.specs.definitions.Line.{Accepted, line}
+use Rattle.senders.specs.definitions.Turns.{state_after}
 use Rattle.senders.specs.definitions.Fingerprint.{fingerprint}
 use Rattle.senders.specs.definitions.StateImage.{is_state, state_of}
-use Rattle.senders.specs.inner_contracts.Advancing.{ResolvedBench}
 use Rattle.engine.specs.declared.refusal.Refusal.{Refusal}
-use Rattle.engine.specs.inner_contracts.Refusals.{code_of, refusal_answer, answer_of}
-use Rattle.engine.specs.definitions.Calls.{ROW, AfterLine, line_in_state}
-
--- a row has no more bytes than the memory for it, and above the number of a line's refusal nothing stands
-abbrev pub ShortRow : Result ℕ Refusal → Type 0
-ShortRow (Err refusal) = refusal_answer refusal ≡ code_of refusal
-ShortRow (Ok n) = n ≤ ROW
+use Rattle.engine.specs.inner_contracts.Refusals.{code_of, answer_of}
+use Rattle.engine.specs.definitions.Calls.{ROW, AfterLine, line_row, line_in_state}
 
 abbrev pub after_line : Result ℕ Refusal → List ℕ → List ℕ → AfterLine
 after_line r state row = record { answer = answer_of r; state = state; row = row }
@@ -23,16 +22,41 @@ after_line r state row = record { answer = answer_of r; state = state; row = row
 abbrev pub line_in_memory : (text : List ℕ) → File → (state names values row : List ℕ) → AfterLine
 line_in_memory text f state names values row = line_in_state (fingerprint text) f (state_of (fingerprint text) f state) state names values row
 
--- a record under a header, whose columns' numbers stand in memory, on memory that is a state
-pub record RecordTaken (classes literals d refs scopes columns : List ℕ) (count : ℕ) (values state row new_state new_row : List ℕ) (r : Result ℕ Refusal) : Type 0 where
-  pub short : ShortRow r
-  pub is : (text offsets lengths : List ℕ) (b : ResolvedBench text classes offsets lengths literals d refs scopes)
-      → is_state (fingerprint text) b.checked.bench.file state ≡ true
-      → (names : List ℕ) (cs : List Column) → header b.checked.bench.file names ≡ some cs → map column_number cs ≡ backwards count columns
-      → after_line r new_state new_row ≡ line_in_memory text b.checked.bench.file state names values row
+-- does the memory hold a state of the text's bench?
+pub record InState (text state : List ℕ) (is : Bool) : Type 0 where
+  pub file : File
+  pub accepted : accepted_file text ≡ some file
+  pub told : is_state (fingerprint text) file state ≡ is
 
--- a header and a record, on any memory
-pub record LineTaken (text classes offsets lengths literals d refs scopes names values state row new_state new_row : List ℕ) (r : Result ℕ Refusal) : Type 0 where
-  pub short : ShortRow r
-  pub is : (b : ResolvedBench text classes offsets lengths literals d refs scopes)
-      → after_line r new_state new_row ≡ line_in_memory text b.checked.bench.file state names values row
+-- a line of names that is no header of the text's bench
+abbrev pub NoHeader : (text names : List ℕ) → Type 0
+NoHeader text names = (f : File) → accepted_file text ≡ some f → header f names ≡ none
+
+-- the columns of a header, whose numbers stand in memory, the last one first
+pub record ColumnsOf (f : File) (names columns : List ℕ) (count : ℕ) : Type 0 where
+  pub columns_of : List Column
+  pub header_is : header f names ≡ some columns_of
+  pub numbers_are : map column_number columns_of ≡ backwards count columns
+
+-- a header of the text's bench
+pub record HeaderRead (text names columns : List ℕ) (count : ℕ) : Type 0 where
+  pub few : count ≤ MOST_COLUMNS
+  pub known : (k : ℕ) → k < count → get_or columns k 0 < NO_COLUMN
+  pub is : (f : File) → accepted_file text ≡ some f → ColumnsOf f names columns count
+
+-- a refused line, and an accepted one with its row at the memory's front
+abbrev pub LineTold : File → State → (names values new_row : List ℕ) → Result ℕ Refusal → Type 0
+LineTold f s names values new_row (Err why) = line f s names values ≡ refused (code_of why)
+LineTold f s names values new_row (Ok n) = (a : Accepted) × (line f s names values ≡ accepted a) × (take n new_row ≡ line_row f s a)
+
+-- what a record under a header comes to in a state, and the state after it stands in memory
+pub record LineTaken (text : List ℕ) (f : File) (s : State) (names values state row new_state new_row : List ℕ) (r : Result ℕ Refusal) : Type 0 where
+  pub answered : after_line r new_state new_row ≡ line_in_memory text f state names values row
+  pub told : LineTold f s names values new_row r
+  pub stands : state_of (fingerprint text) f new_state ≡ some (state_after f s (line f s names values))
+
+-- a record under a header, whose columns' numbers stand in memory, on memory that is a state of the text's bench
+pub record RecordTaken (text columns : List ℕ) (count : ℕ) (values state row new_state new_row : List ℕ) (r : Result ℕ Refusal) : Type 0 where
+  pub short : IfOk r (λ n. n ≤ ROW)
+  pub is : (f : File) → accepted_file text ≡ some f → (s : State) → state_of (fingerprint text) f state ≡ some s
+      → (names : List ℕ) → ColumnsOf f names columns count → LineTaken text f s names values state row new_state new_row r

@@ -1,10 +1,10 @@
-use Rattle.replay.proofs.steps.StartLaws.{refused_starts, accepted_starts}
+use Rattle.std.proofs.Common.{subst}
+use Rattle.replay.specs.inner_contracts.Feeding.{Started}
+use Rattle.replay.proofs.steps.StartLaws.{bench_refused}
 use Rattle.replay.proofs.start.Goals as goal
 
-pub returns-in-Refused : goal.returns-in-Refused
-returns-in-Refused c =
-    refused_starts c.check-checked.ensures _ _ c.in-Refused.is _ _ c.requires.in_bounds.1 c.put_bench_refusal-end.ensures
+pub returns-in-Ok : goal.returns-in-Ok
+returns-in-Ok g c = subst (λ text. Started text c.new.result) c.in-Ok.ensures c.new.ensures
 
-pub returns-in-Accepted : goal.returns-in-Accepted
-returns-in-Accepted c =
-    accepted_starts c.check-checked.ensures _ _ c.in-Accepted.is c.resolve.ensures _ _ c.fingerprint.ensures c.put_fresh.ensures
+pub returns-in-Err : goal.returns-in-Err
+returns-in-Err g c = bench_refused c.in-Err.ensures c.requires.room c.put_bench_refusal.ensures

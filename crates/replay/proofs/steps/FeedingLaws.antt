@@ -4,10 +4,12 @@ use native.Mathlib.Numerals.{add-one}
 use native.Mathlib.Omega.{arith}
 use mathlib.Core.Path.{◌≡◌, refl, sym, ap, ◌∙◌, subst}
 use mathlib.Core.List.{List, [], ◌∷◌, ◌++◌, append_assoc, append-nil}
-use mathlib.Core.Bool.{true, false}
+use mathlib.Core.Bool.{Bool, true, false}
 use mathlib.Core.Option.{Option, none, some}
-use lib.ListN.{length, get_or, take, drop}
-use lib.Seq.{length-take-le, drop-cons}
+use lib.ListN.{length, get_or, take, drop, length-append, length-drop, drop_of_length-le}
+use lib.Seq.{length-take-le, take_all, drop-cons, take-append-add}
+use Rattle.std.proofs.lemmas.List.{drop-drop, take-append-le}
+use Rattle.std.specs.Prelude.{◌==◌}
 use borrow.Author.Tests.{eqb-true, eqb-false}
 use Rattle.text.specs.definitions.Syntax.{File}
 use Rattle.cycles.specs.definitions.Header.{Column, header}
@@ -20,102 +22,110 @@ use Rattle.replay.specs.inner_contracts.Awaiting.{
   prints_at_end,
   to_print,
   left_after,
-  BenchMemory,
+  Memory,
+  StandsAt,
   Stands,
 }
 use Rattle.replay.specs.inner_contracts.Awaiting.Awaits.{names, values, nothing}
-use Rattle.replay.specs.inner_contracts.Feeding.{LONGEST, Gathering, LinePut, Lent, Feeding, Finished, is_over}
+use Rattle.replay.specs.inner_contracts.Feeding.{Gathers, LineGathered, LinePut, Feeding, Finished, is_over}
 use Rattle.replay.specs.declared.Stage.{Stage}
 use Rattle.replay.specs.declared.Stage.TheVariants.{Names, Values, Closed}
-use Rattle.replay.specs.declared.rows.Step.{Step}
 use Rattle.replay.proofs.laws.AwaitingLaws.{print_fed, left_fed, print_last, print_none, nothing_printed}
-use Rattle.replay.proofs.steps.GatheringLaws.{gathered_part, gathered_prints, gathered_left}
 
 -- ---- the lines of a chunk
 
-module _ (m : BenchMemory) (stage : Stage) (chunk : List ℕ) (from : ℕ) (line : List ℕ) (kept : ℕ) (columns state out : List ℕ) where
-  module _ {l c1 s1 o : List ℕ} {st : Stage} {at k u : ℕ} (f : Feeding m stage chunk from line kept columns state out l c1 s1 o st at k u)
-      {l2 : List ℕ} {stop n : ℕ} (g : Gathering chunk at l k l2 stop n) where
-    long : LONGEST < length l2
-    long = let a = f.lent.long in let b = g.same in omega arith
+-- the rest of a chunk, as code lends it
+rest_is : (chunk : List ℕ) (taken : ℕ) → take (length chunk - taken) (drop taken chunk) ≡ drop taken chunk
+rest_is chunk taken = let d = length-drop taken chunk in take_all (length chunk - taken) (drop taken chunk) (omega arith)
 
+-- .. and the rest of a buffer has the same length after a call
+pub room_left : (out : List ℕ) (used : ℕ) (part : List ℕ) → used ≤ length out → length part ≡ length (take (length out - used) (drop used out))
+    → length part ≡ length out - used
+room_left out used part h e = e ∙ ap length (rest_is out used) ∙ length-drop used out
+
+module _ (m : Memory) (chunk : List ℕ) where
+  pub feeding_none : (out : List ℕ) → Feeding m chunk m out 0 0
+  feeding_none out = record {
+    inside = omega arith;
+    fits = omega arith;
+    still = λ h. refl;
+    goes = λ a s. record { later = a; stands = s; is = λ rest. refl; left = λ rest. refl };
+  }
+
+  module _ {n n2 : Memory} {out : List ℕ} {taken used : ℕ} (f : Feeding m chunk n out taken used) where
     -- the chunk ends before the line does
-    pub feeding_waits : Feeding m stage chunk from line kept columns state out l2 c1 s1 o st stop n u
-    feeding_waits =
-        let a = f.after in
-        let b = g.after in
-        let lent = f.lent in
-        record {
-          after = omega arith;
-          inside = g.inside;
-          fits = f.fits;
-          still = λ z. f.still (omega arith);
-          lent = record {
-            long = long;
-            fits = let r = g.room in let s = g.same in omega arith;
-            columns_fit = lent.columns_fit;
-            state_fits = lent.state_fits;
-            stood = lent.stood;
-            part = gathered_part g lent.part;
+    pub feeding_waits : Gathers n (take (length chunk - taken) (drop taken chunk)) (length (take (length chunk - taken) (drop taken chunk))) n2 → Feeding m chunk n2 out (length chunk) used
+    feeding_waits g0 = let g : Gathers n (drop taken chunk) (length (drop taken chunk)) n2 = subst (λ (l : List ℕ). Gathers n l (length l) n2) (rest_is chunk taken) g0 in record {
+      inside = omega arith;
+      fits = f.fits;
+      still = λ h. f.still (let i = f.inside in omega arith);
+      goes = λ a s.
+          let t = f.goes a s in
+          let none_left : drop (length (drop taken chunk)) (drop taken chunk) ≡ drop (length chunk) chunk =
+          drop_of_length-le (drop taken chunk) (omega arith) ∙ sym (drop_of_length-le chunk (omega arith)) in
+          record {
+            later = t.later;
+            stands = g.stands t.later t.stands;
+            is = λ rest.
+                t.is rest ∙ ap (λ (x : List ℕ). take used out ++ x)
+                (g.is t.later rest ∙ ap (λ (x : List ℕ). to_print t.later (n2.waiting ++ (x ++ rest))) none_left);
+            left = λ rest. t.left rest ∙ g.left t.later rest ∙ ap (λ (x : List ℕ). left_after t.later (n2.waiting ++ (x ++ rest))) none_left;
           };
-          goes = λ w q.
-              let t = f.goes w q in
-              record {
-                later = t.later;
-                stands = t.stands;
-                is = λ rest. t.is rest ∙ ap (λ (x : List ℕ). take u o ++ x) (gathered_prints g lent.part lent.long t.later rest);
-                left = λ rest. t.left rest ∙ gathered_left g lent.part lent.long t.later rest;
-              };
-        }
+    }
 
-    -- a line ends, and what it prints is put; the line as code lends it
-    pub feeding_put : stop < length chunk → get_or chunk stop 0 ≡ 10 → {c2 s2 o2 : List ℕ} {r : Step}
-        → LinePut m st (take (n - 0) l2) c1 s1 o u c2 s2 o2 r → length c2 ≡ length c1 → length s2 ≡ length s1 → r.used ≤ length out
-        → Feeding m stage chunk from line kept columns state out l2 c2 s2 o2 r.stage (stop + 1) 0 r.used
-    feeding_put h ten {c2} {s2} {o2} {r} put0 same_columns same_state fits =
-        let z : n - 0 ≡ n = omega arith in
-        let put = subst (λ (x : ℕ). LinePut m st (take x l2) c1 s1 o u c2 s2 o2 r) z put0 in
-        let a = f.after in
-        let b = g.after in
-        let lent = f.lent in
-        let after = drop (stop + 1) chunk in
-        let fed : drop stop chunk ≡ 10 ∷ after =
-        drop-cons chunk stop 0 h ∙ ap (λ (x : ℕ). x ∷ drop (suc stop) chunk) ten ∙ ap (λ (x : ℕ). 10 ∷ drop x chunk) (sym (add-one stop)) in
-        let now_put = put.is lent.stood.awaits lent.stood.stands in
-        record {
-          after = omega arith;
-          inside = omega arith;
-          fits = fits;
-          still = λ z. absurd (omega arith);
-          lent = record {
-            long = long;
-            fits = omega arith;
-            columns_fit = let x = lent.columns_fit in omega arith;
-            state_fits = let x = lent.state_fits in omega arith;
-            stood = record { awaits = awaited_after lent.stood.awaits (take n l2); stands = now_put.stands };
-            part = tt;
+    -- a line ends, and what it prints is put
+    pub feeding_put : {end : ℕ} → LineGathered n (take (length chunk - taken) (drop taken chunk)) n2 end
+        → {n3 : Memory} (part rest : List ℕ) {out2 : List ℕ} {r : ℕ} → LinePut n2 n3 part r → out2 ≡ take used out ++ (part ++ rest)
+        → r ≤ length part
+        → Feeding m chunk n3 out2 (taken + (end + 1)) (used + r)
+    feeding_put {end} l0 {n3} part rest0 {out2} {r} p e fits = record {
+      inside = let i = l.inside in let d = length-drop taken chunk in omega arith;
+      fits =
+          let z = ap length e ∙ length-append (take used out) (part ++ rest0) in
+          let y = length-append part rest0 in
+          let t = length-take-le used out f.fits in
+          omega arith;
+      still = λ h. absurd (omega arith);
+      goes = λ a s.
+          let t = f.goes a s in
+          let g = l.gathers in
+          let w = p.is t.later (g.stands t.later t.stands) in
+          let then = awaited_after t.later n2.waiting in
+          record {
+            later = then;
+            stands = w.stands;
+            is = λ rest.
+                t.is rest
+                ∙ ap (λ (x : List ℕ). take used out ++ x)
+                (g.is t.later rest
+                ∙ ap (λ (x : List ℕ). to_print t.later (n2.waiting ++ (x ++ rest))) fed
+                ∙ print_fed t.later n2.waiting (drop (taken + (end + 1)) chunk ++ rest) g.part
+                ∙ ap (λ (x : List ℕ). prints t.later n2.waiting ++ to_print then (x ++ (drop (taken + (end + 1)) chunk ++ rest))) (sym p.none_waits))
+                ∙ sym (append_assoc (take used out) (prints t.later n2.waiting) (to_print then (n3.waiting ++ (drop (taken + (end + 1)) chunk ++ rest))))
+                ∙ ap (λ (x : List ℕ). x ++ to_print then (n3.waiting ++ (drop (taken + (end + 1)) chunk ++ rest)))
+                (ap (λ (x : List ℕ). take used out ++ x) (sym w.printed) ∙ sym taken_out);
+            left = λ rest.
+                t.left rest ∙ g.left t.later rest
+                ∙ ap (λ (x : List ℕ). left_after t.later (n2.waiting ++ (x ++ rest))) fed
+                ∙ left_fed t.later n2.waiting (drop (taken + (end + 1)) chunk ++ rest) g.part
+                ∙ ap (λ (x : List ℕ). left_after then (x ++ (drop (taken + (end + 1)) chunk ++ rest))) (sym p.none_waits);
           };
-          goes = λ w q.
-              let t = f.goes w q in
-              let p = put.is t.later t.stands in
-              let then = awaited_after t.later (take n l2) in
-              record {
-                later = then;
-                stands = p.stands;
-                is = λ rest.
-                    t.is rest
-                    ∙ ap (λ (x : List ℕ). take u o ++ x)
-                    (gathered_prints g lent.part lent.long t.later rest
-                    ∙ ap (λ (x : List ℕ). to_print t.later (take n l2 ++ (x ++ rest))) fed
-                    ∙ print_fed t.later (take n l2) (after ++ rest) (gathered_part g lent.part))
-                    ∙ sym (append_assoc (take u o) (prints t.later (take n l2)) (to_print then (after ++ rest)))
-                    ∙ ap (λ (x : List ℕ). x ++ to_print then (after ++ rest)) (sym p.appended);
-                left = λ rest.
-                    t.left rest ∙ gathered_left g lent.part lent.long t.later rest
-                    ∙ ap (λ (x : List ℕ). left_after t.later (take n l2 ++ (x ++ rest))) fed
-                    ∙ left_fed t.later (take n l2) (after ++ rest) (gathered_part g lent.part);
-              };
-        }
+    }
+      where
+        l : LineGathered n (drop taken chunk) n2 end
+        l = subst (λ (x : List ℕ). LineGathered n x n2 end) (rest_is chunk taken) l0
+
+        taken_out : take (used + r) out2 ≡ take used out ++ take r part
+        taken_out =
+            ap (take (used + r)) e ∙ ap (λ (k : ℕ). take (k + r) (take used out ++ (part ++ rest0))) (sym (length-take-le used out f.fits))
+            ∙ take-append-add (take used out) (part ++ rest0) r
+            ∙ ap (λ (x : List ℕ). take used out ++ x) (take-append-le r part rest0 fits)
+
+        fed : drop end (drop taken chunk) ≡ 10 ∷ drop (taken + (end + 1)) chunk
+        fed =
+            drop-cons (drop taken chunk) end 0 l.inside
+            ∙ ap (λ (x : ℕ). x ∷ drop (suc end) (drop taken chunk)) l.feeds
+            ∙ ap (λ (x : List ℕ). 10 ∷ x) (ap (λ (x : ℕ). drop x (drop taken chunk)) (sym (add-one end)) ∙ drop-drop (end + 1) taken chunk)
 
 -- ---- the text's end
 
@@ -139,41 +149,42 @@ unfolding prints_at_end
 names_last f [] p = print_none (names f)
 names_last f (b ∷ k) p = last_printed (names f) (b ∷ k) p (omega arith)
 
-module _ (m : BenchMemory) (line : List ℕ) (kept : ℕ) (columns state : List ℕ) (out : List ℕ) where
-  none_printed : (stage : Stage) → is_over stage kept ≡ true → (a : Awaits) → Stands m a stage columns state → [] ≡ to_print a (take kept line)
+module _ (text : List ℕ) (columns line state : List ℕ) where
+  none_printed : (stage : Stage) → is_over stage (length line) ≡ true → (a : Awaits) → StandsAt text a stage columns state → [] ≡ to_print a line
   unfolding is_over prints_at_end
   none_printed Names e a q = let z : ◌≡◌ {A = ℕ} 0 1 = cc in absurd (omega arith)
-  none_printed (Values count) e (values f ns s) q = let z = eqb-true kept 0 e in rw z (sym (print_none (values f ns s)))
-  none_printed Closed e nothing q = sym (nothing_printed (take kept line))
+  none_printed (Values count) e (values f ns s) q = none_there line (eqb-true (length line) 0 e)
+    where
+      none_there : (l : List ℕ) → length l ≡ 0 → [] ≡ to_print (values f ns s) l
+      none_there [] h = sym (print_none (values f ns s))
+      none_there (b ∷ l) h = absurd (omega arith)
+  none_printed Closed e nothing q = sym (nothing_printed line)
   none_printed (Values count) e (names _) q = elim q [ ]
   none_printed (Values count) e nothing q = elim q [ ]
   none_printed Closed e (names _) q = elim q [ ]
   none_printed Closed e (values f ns s) q = elim q [ ]
 
-  pub none_finished : (stage : Stage) → is_over stage kept ≡ true → Finished m stage line kept columns state out 0
-  none_finished stage e = record { fits = omega arith; is = none_printed stage e }
+  last_there : PartOfLine line → (stage : Stage) → is_over stage (length line) ≡ false → (a : Awaits) → StandsAt text a stage columns state
+      → to_print a line ≡ prints a line
+  unfolding is_over
+  last_there part st x (names f) y = names_last f line part
+  last_there part (Values count) x (values f ns s) y = let z = eqb-false (length line) 0 x in last_printed (values f ns s) line part (omega (arith, z))
+  last_there part Closed x nothing y = let z : ◌≡◌ {A = ℕ} 0 1 = cc in absurd (omega arith)
+  last_there part Names x (values f ns s) y = elim y [ ]
+  last_there part Closed x (values f ns s) y = elim y [ ]
+  last_there part Names x nothing y = elim y [ ]
+  last_there part (Values count) x nothing y = elim y [ ]
 
-  module _ (stage : Stage) (lent : Lent m stage line kept columns state) where
-    last_there : is_over stage kept ≡ false → (a : Awaits) → Stands m a stage columns state → to_print a (take kept line) ≡ prints a (take kept line)
-    unfolding is_over
-    last_there e a q = go stage a e q
-      where
-        go : (st : Stage) (b : Awaits) → is_over st kept ≡ false → Stands m b st columns state → to_print b (take kept line) ≡ prints b (take kept line)
-        go st (names f) x y = names_last f (take kept line) lent.part
-        go (Values count) (values f ns s) x y =
-            let n = length-take-le kept line lent.fits in
-            let z = eqb-false kept 0 x in
-            last_printed (values f ns s) (take kept line) lent.part (omega (arith, z))
-        go Closed nothing x y = let z : ◌≡◌ {A = ℕ} 0 1 = cc in absurd (omega arith)
-        go Names (values f ns s) x y = elim y [ ]
-        go Closed (values f ns s) x y = elim y [ ]
-        go Names nothing x y = elim y [ ]
-        go (Values count) nothing x y = elim y [ ]
+-- does nothing wait?
+pub values_over : {stage : Stage} {count : ℕ} (line : List ℕ) {none : Bool} → none ≡ (length line == 0) → stage ≡ Values count
+    → none ≡ is_over stage (length line)
+unfolding is_over
+values_over line e h = rw h e
 
-    -- as code lends it
-    pub last_finished : is_over stage kept ≡ false → {c2 s2 o2 : List ℕ} {r : Step} → LinePut m stage (take (kept - 0) line) columns state out 0 c2 s2 o2 r
-        → Finished m stage line kept columns state o2 r.used
-    last_finished e {c2} {s2} {o2} {r} put0 =
-        let z : kept - 0 ≡ kept = omega arith in
-        let put = subst (λ (x : ℕ). LinePut m stage (take x line) columns state out 0 c2 s2 o2 r) z put0 in
-        record { fits = let s = put.short in omega arith; is = λ a q. (put.is a q).appended ∙ sym (last_there e a q) }
+module _ (m : Memory) (out : List ℕ) where
+  pub none_finished : {over : Bool} → over ≡ is_over m.stage (length m.waiting) → over ≡ true → Finished m out 0
+  none_finished e t = record { fits = omega arith; is = none_printed m.text m.columns m.waiting m.state m.stage (sym e ∙ t) }
+
+  pub last_finished : {over : Bool} → over ≡ is_over m.stage (length m.waiting) → over ≡ false → {n : Memory} {r : ℕ} → LinePut m n out r → Finished m out r
+  last_finished e t p =
+      record { fits = p.short; is = λ a q. (p.is a q).printed ∙ sym (last_there m.text m.columns m.waiting m.state p.part m.stage (sym e ∙ t) a q) }

@@ -1,99 +1,151 @@
--- A line over chunks: a byte more of it, and as many bytes as there is room for.
-use Prim.Native.Nat.{ℕ, suc, zero, ◌+◌, ◌≤◌, ◌<◌}
-use native.Mathlib.Numerals.{add-one}
+-- A line over chunks: up to its line feed, and as many bytes as there is room for.
+use Prim.Native.Nat.{ℕ, suc, ◌+◌, ◌-◌, min, ◌≤◌, ◌<◌}
 use native.Mathlib.Omega.{arith}
 use mathlib.Core.Path.{◌≡◌, refl, sym, ap, ◌∙◌, subst}
 use mathlib.Core.List.{List, [], ◌∷◌, ◌++◌, append_assoc}
-use lib.ListN.{length, get_or, take, drop, set, length-set}
-use lib.Seq.{length-take-le, take-nil, drop-cons, take-suc-set}
-use borrow.Author.Tests.{ne_eqb}
+use mathlib.Core.Bool.{Bool, true, false, not}
+use lib.ListN.{length, get_or, take, drop, drop_of_length-le}
+use lib.Seq.{length-take-le, take_all, take_at, take-append-add}
+use lib.Dec.{eqb, ltb, leb}
+use borrow.Author.Tests.{eqb-true, leb-true, leb-false}
+use Rattle.std.specs.Prelude.{Option, Some, None, cond, MatchOption}
+use Rattle.std.specs.Option.{unwrap_or}
+use Rattle.std.specs.List.{position, position_or_len}
+use Rattle.std.proofs.lemmas.Bool.{ltb-true, ltb-false}
+use Rattle.std.proofs.lemmas.List.{take-append-drop}
 use Rattle.cycles.specs.definitions.Readings.{PartOfLine}
 use Rattle.cycles.proofs.laws.ReadingsLaws.{part_append, part_take}
-use Rattle.replay.specs.inner_contracts.Awaiting.{Awaits, to_print, left_after}
-use Rattle.replay.specs.inner_contracts.Feeding.{LONGEST, Gathering}
+use Rattle.replay.specs.inner_contracts.Awaiting.{Awaits, to_print, left_after, Memory, Stands, Stood}
+use Rattle.replay.specs.declared.Stage.{Stage}
+use Rattle.replay.specs.inner_contracts.Feeding.{LINE, kept, Kept, Gathers, LineGathered}
 use Rattle.replay.proofs.laws.AwaitingLaws.{print_cut, left_cut}
 
--- ---- as many bytes as there is room for, and one more
+-- ---- the first line feed
 
-cut_more : (n : ℕ) (l : List ℕ) (b : ℕ) → length (take n l) < n → take n l ++ b ∷ [] ≡ take n (l ++ b ∷ [])
-cut_more zero l b h = absurd (omega arith)
-cut_more (suc n) [] b h = ap (λ (m : List ℕ). b ∷ m) (sym (take-nil n))
-cut_more (suc n) (x ∷ l) b h = ap (λ (m : List ℕ). x ∷ m) (cut_more n l b (omega arith))
+abbrev end_of : List ℕ → ℕ
+end_of chunk = position_or_len (λ b. eqb b 10) chunk
 
-cut_full : (n : ℕ) (l m : List ℕ) → n ≤ length (take n l) → take n l ≡ take n (l ++ m)
-cut_full zero l m h = refl
-cut_full (suc n) [] m h = absurd (omega arith)
-cut_full (suc n) (x ∷ l) m h = ap (λ (k : List ℕ). x ∷ k) (cut_full n l m (omega arith))
+pub part_before : (chunk : List ℕ) → PartOfLine (take (end_of chunk) chunk)
+part_before [] = tt
+part_before (b ∷ l) = go (part_before l) (eqb b 10) refl
+  where
+    go : PartOfLine (take (end_of l) l) → (c : Bool) → eqb b 10 ≡ c → PartOfLine (take (cond (not c) (1 + end_of l) 0) (b ∷ l))
+    go p true e = tt
+    go p false e = let z : suc (end_of l) ≡ 1 + end_of l = omega arith in subst (λ (n : ℕ). PartOfLine (take n (b ∷ l))) z (e, p)
 
-module _ (chunk : List ℕ) (from : ℕ) (line : List ℕ) (kept : ℕ) where
-  module _ {l : List ℕ} {i at : ℕ} (g : Gathering chunk from line kept l i at) (h : i < length chunk) (other : get_or chunk i 0 ≡ 10 → ⊥) where
-    step_part : PartOfLine (g.piece ++ get_or chunk i 0 ∷ [])
-    step_part = part_append g.piece (get_or chunk i 0 ∷ []) g.part (ne_eqb (get_or chunk i 0) 10 other, tt)
+pub feed_there : (chunk : List ℕ) → end_of chunk < length chunk → get_or chunk (end_of chunk) 0 ≡ 10
+feed_there [] h = absurd (omega arith)
+feed_there (b ∷ l) h = go (feed_there l) (eqb b 10) refl h
+  where
+    go : (end_of l < length l → get_or l (end_of l) 0 ≡ 10) → (c : Bool) → eqb b 10 ≡ c → cond (not c) (1 + end_of l) 0 < suc (length l)
+        → get_or (b ∷ l) (cond (not c) (1 + end_of l) 0) 0 ≡ 10
+    go p true e h = eqb-true b 10 e
+    go p false e h =
+        let z : suc (end_of l) ≡ 1 + end_of l = omega arith in subst (λ (n : ℕ). get_or (b ∷ l) n 0 ≡ 10) z (p (omega arith))
 
-    step_split : drop from chunk ≡ (g.piece ++ get_or chunk i 0 ∷ []) ++ drop (i + 1) chunk
-    step_split =
-        g.split ∙ ap (λ (t : List ℕ). g.piece ++ t) (drop-cons chunk i 0 h ∙ ap (λ (k : ℕ). get_or chunk i 0 ∷ drop k chunk) (sym (add-one i)))
-        ∙ sym (append_assoc g.piece (get_or chunk i 0 ∷ []) (drop (i + 1) chunk))
+-- ---- bytes are kept
 
-    pub gathering_kept : at < length l → Gathering chunk from line kept (set l at (get_or chunk i 0)) (i + 1) (at + 1)
-    gathering_kept k =
-        let same = g.same in
-        let n : length (take (length line) (take kept line ++ g.piece)) ≡ at = ap length (sym g.is) ∙ length-take-le at l (omega arith) in
-        record {
-          after = let a = g.after in omega arith;
-          inside = omega arith;
-          room = omega arith;
-          same = length-set l at (get_or chunk i 0) ∙ g.same;
-          piece = g.piece ++ get_or chunk i 0 ∷ [];
-          part = step_part;
-          split = step_split;
-          is =
-              ap (λ (j : ℕ). take j (set l at (get_or chunk i 0))) (add-one at) ∙ take-suc-set l at (get_or chunk i 0) k
-              ∙ ap (λ (t : List ℕ). t ++ get_or chunk i 0 ∷ []) g.is
-              ∙ cut_more (length line) (take kept line ++ g.piece) (get_or chunk i 0) (omega arith)
-              ∙ ap (take (length line)) (append_assoc (take kept line) g.piece (get_or chunk i 0 ∷ []));
-        }
+module _ {m n : Memory} (chunk : List ℕ) (end : ℕ) (k : Kept m (take end chunk) n) (piece : PartOfLine (take end chunk)) where
+  all : PartOfLine (m.waiting ++ take end chunk)
+  all = part_append m.waiting (take end chunk) k.part piece
 
-    pub gathering_full : length l ≤ at → Gathering chunk from line kept l (i + 1) at
-    gathering_full k =
-        let same = g.same in
-        let room = g.room in
-        let n : length (take (length line) (take kept line ++ g.piece)) ≡ at = ap length (sym g.is) ∙ length-take-le at l (omega arith) in
-        record {
-          after = let a = g.after in omega arith;
-          inside = omega arith;
-          room = room;
-          same = same;
-          piece = g.piece ++ get_or chunk i 0 ∷ [];
-          part = step_part;
-          split = step_split;
-          is =
-              g.is ∙ cut_full (length line) (take kept line ++ g.piece) (get_or chunk i 0 ∷ []) (omega arith)
-              ∙ ap (take (length line)) (append_assoc (take kept line) g.piece (get_or chunk i 0 ∷ []));
-        }
+  joined_up : (rest : List ℕ) → m.waiting ++ (chunk ++ rest) ≡ (m.waiting ++ take end chunk) ++ (drop end chunk ++ rest)
+  joined_up rest =
+      ap (λ (t : List ℕ). m.waiting ++ (t ++ rest)) (sym (take-append-drop end chunk))
+      ∙ ap (λ (t : List ℕ). m.waiting ++ t) (append_assoc (take end chunk) (drop end chunk) rest)
+      ∙ sym (append_assoc m.waiting (take end chunk) (drop end chunk ++ rest))
 
--- what is to be printed and what will be left are the same, and the bytes that wait are still a part of a line
-module _ {chunk : List ℕ} {from : ℕ} {line : List ℕ} {kept : ℕ} {l : List ℕ} {i at : ℕ} (g : Gathering chunk from line kept l i at)
-    (p : PartOfLine (take kept line)) where
-  pub gathered_part : PartOfLine (take at l)
-  gathered_part =
-      subst PartOfLine (sym g.is) (part_take (length line) (take kept line ++ g.piece) (part_append (take kept line) g.piece p g.part))
+  pub gathered : Gathers m chunk end n
+  gathered = rw k.is (record {
+    part = part_take LINE (m.waiting ++ take end chunk) all;
+    stands = λ a s. s;
+    is = λ a rest. ap (to_print a) (joined_up rest) ∙ print_cut LINE (omega arith) a (m.waiting ++ take end chunk) (drop end chunk ++ rest) all;
+    left = λ a rest. ap (left_after a) (joined_up rest) ∙ left_cut LINE (omega arith) a (m.waiting ++ take end chunk) (drop end chunk ++ rest) all;
+  })
 
-  module _ (h : LONGEST < length line) (a : Awaits) (rest : List ℕ) where
-    joined_up : take kept line ++ (drop from chunk ++ rest) ≡ (take kept line ++ g.piece) ++ (drop i chunk ++ rest)
-    joined_up =
-        ap (λ (t : List ℕ). take kept line ++ (t ++ rest)) g.split
-        ∙ ap (λ (t : List ℕ). take kept line ++ t) (append_assoc g.piece (drop i chunk) rest)
-        ∙ sym (append_assoc (take kept line) g.piece (drop i chunk ++ rest))
+-- what waits is still a part of a line
+pub kept_stood : {m : Memory} (bytes : List ℕ) → Stood m → PartOfLine bytes → Stood (kept m bytes)
+kept_stood {m} bytes s p =
+    record { awaits = s.awaits; stands = s.stands; part = part_take LINE (m.waiting ++ bytes) (part_append m.waiting bytes s.part p) }
 
-    pub gathered_prints : to_print a (take kept line ++ (drop from chunk ++ rest)) ≡ to_print a (take at l ++ (drop i chunk ++ rest))
-    gathered_prints =
-        ap (to_print a) joined_up
-        ∙ print_cut (length line) h a (take kept line ++ g.piece) (drop i chunk ++ rest) (part_append (take kept line) g.piece p g.part)
-        ∙ ap (λ (t : List ℕ). to_print a (t ++ (drop i chunk ++ rest))) (sym g.is)
+-- as many bytes of them as there is room for
+pub kept_waits : (line bytes mid rest : List ℕ) (kept n : ℕ) → kept ≤ length line → length line ≡ LINE → n ≡ min (length bytes) (32769 - kept)
+    → mid ≡ take n bytes → take (kept + n) (take kept line ++ (mid ++ rest)) ≡ take LINE (take kept line ++ bytes)
+kept_waits line bytes mid rest kept n h long least e =
+    ap (λ (k : ℕ). take (k + n) (take kept line ++ (mid ++ rest))) (sym front)
+    ∙ take-append-add (take kept line) (mid ++ rest) n
+    ∙ ap (λ (t : List ℕ). take kept line ++ t)
+    (take_at mid rest n (ap length e ∙ length-take-le n bytes (omega arith)) ∙ e ∙ go (leb (length bytes) (32769 - kept)) refl)
+    ∙ sym (take-append-add (take kept line) bytes (32769 - kept))
+    ∙ ap (λ (k : ℕ). take k (take kept line ++ bytes)) all_room
+  where
+    front : length (take kept line) ≡ kept
+    front = length-take-le kept line h
 
-    pub gathered_left : left_after a (take kept line ++ (drop from chunk ++ rest)) ≡ left_after a (take at l ++ (drop i chunk ++ rest))
-    gathered_left =
-        ap (left_after a) joined_up
-        ∙ left_cut (length line) h a (take kept line ++ g.piece) (drop i chunk ++ rest) (part_append (take kept line) g.piece p g.part)
-        ∙ ap (λ (t : List ℕ). left_after a (t ++ (drop i chunk ++ rest))) (sym g.is)
+    all_room : length (take kept line) + (32769 - kept) ≡ LINE
+    all_room = omega (arith, front)
+
+    go : (b : Bool) → leb (length bytes) (32769 - kept) ≡ b → take n bytes ≡ take (32769 - kept) bytes
+    go true i =
+        let k = leb-true (length bytes) (32769 - kept) i in
+        take_all n bytes (omega arith) ∙ sym (take_all (32769 - kept) bytes k)
+    go false i =
+        let k = leb-false (length bytes) (32769 - kept) i in
+        let z : n ≡ 32769 - kept = omega arith in
+        ap (λ (x : ℕ). take x bytes) z
+
+pub kept_put : {text columns state bytes mid : List ℕ} {stage : Stage} (line rest : List ℕ) {at n : ℕ} → at ≤ LINE → length line ≡ LINE
+    → n ≡ min (length bytes) (32769 - at) → mid ≡ take n bytes → PartOfLine (take at line)
+    → Kept (record { text = text; stage = stage; columns = columns; waiting = take at line; state = state }) bytes
+    (record { text = text; stage = stage; columns = columns; waiting = take (at + n) (take at line ++ (mid ++ rest)); state = state })
+kept_put {text} {columns} {state} {bytes} {mid} {stage} line rest {at} {n} h long least e part = record {
+  part = part;
+  is =
+      ap (λ (w : List ℕ). record { text = text; stage = stage; columns = columns; waiting = w; state = state })
+      (kept_waits line bytes mid rest at n (omega arith) long least e);
+}
+
+pub put_stood : {text columns state mid : List ℕ} {stage : Stage} (line bytes rest : List ℕ) {at n : ℕ} → at ≤ LINE → length line ≡ LINE
+    → n ≡ min (length bytes) (32769 - at) → mid ≡ take n bytes → PartOfLine bytes
+    → Stood (record { text = text; stage = stage; columns = columns; waiting = take at line; state = state })
+    → Stood (record { text = text; stage = stage; columns = columns; waiting = take (at + n) (take at line ++ (mid ++ rest)); state = state })
+put_stood line bytes rest h long least e piece s =
+    subst Stood (sym (kept_put line rest h long least e s.part).is) (kept_stood bytes s piece)
+
+-- up to a line feed, and all of a chunk that has none
+pub line_gathered : {m n : Memory} {chunk : List ℕ} → end_of chunk < length chunk → Kept m (take (end_of chunk) chunk) n
+    → LineGathered m chunk n (end_of chunk)
+line_gathered {chunk = chunk} h k =
+    record { inside = h; feeds = feed_there chunk h; gathers = gathered chunk (end_of chunk) k (part_before chunk) }
+
+pub chunk_gathered : {m n : Memory} {chunk : List ℕ} → length chunk ≤ end_of chunk → Kept m (take (length chunk) chunk) n
+    → Gathers m chunk (length chunk) n
+chunk_gathered {chunk = chunk} h k =
+    gathered chunk (length chunk) k
+    (subst PartOfLine (take_all (end_of chunk) chunk h ∙ sym (take_all (length chunk) chunk (omega arith))) (part_before chunk))
+
+-- .. as the search for one says
+module _ (chunk : List ℕ) {end : Option ℕ} (e : end ≡ position (λ b. eqb b 10) chunk) {r : ℕ} (i : r ≡ unwrap_or end (length chunk)) where
+  found : (b : Bool) → ltb (end_of chunk) (length chunk) ≡ b → end ≡ cond b (Some (end_of chunk)) None
+  found b h = e ∙ ap (λ (x : Bool). cond x (Some (end_of chunk)) None) h
+
+  pub piece_kept : PartOfLine (take r chunk)
+  piece_kept = go (ltb (end_of chunk) (length chunk)) refl
+    where
+      go : (b : Bool) → ltb (end_of chunk) (length chunk) ≡ b → PartOfLine (take r chunk)
+      go true h = rw (i, found true h) (part_before chunk)
+      go false h =
+          rw (i, found false h)
+          (subst PartOfLine (take_all (end_of chunk) chunk (ltb-false (end_of chunk) (length chunk) h) ∙ sym (take_all (length chunk) chunk (omega arith)))
+          (part_before chunk))
+
+  pub gathers : {m n : Memory} → Kept m (take r chunk) n → MatchOption end (Gathers m chunk (length chunk) n) (LineGathered m chunk n)
+  gathers {m} {n} k = go (ltb (end_of chunk) (length chunk)) refl
+    where
+      go : (b : Bool) → ltb (end_of chunk) (length chunk) ≡ b → MatchOption end (Gathers m chunk (length chunk) n) (LineGathered m chunk n)
+      go true h =
+          let j : r ≡ end_of chunk = i ∙ rw (found true h) refl in
+          rw (found true h) (line_gathered (ltb-true (end_of chunk) (length chunk) h) (subst (λ (x : ℕ). Kept m (take x chunk) n) j k))
+      go false h =
+          let j : r ≡ length chunk = i ∙ rw (found false h) refl in
+          rw (found false h) (chunk_gathered (ltb-false (end_of chunk) (length chunk) h) (subst (λ (x : ℕ). Kept m (take x chunk) n) j k))

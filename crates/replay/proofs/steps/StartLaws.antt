@@ -1,31 +1,29 @@
--- The start: a bench that is refused, and one that is accepted and stands in the columns with its fresh state.
-use Prim.Native.Nat.{ℕ, ◌-◌, ◌≤◌}
+-- The start: a bench that is refused, and one that is accepted with its fresh state.
+use Prim.Native.Nat.{ℕ, ◌≤◌}
 use native.Mathlib.Omega.{arith}
-use mathlib.Core.Path.{◌≡◌, subst}
+use mathlib.Core.Path.{◌≡◌, refl, sym, ap, ◌∙◌}
 use mathlib.Core.List.{List, [], ◌∷◌, ◌++◌}
+use mathlib.Core.Option.{Option, none, some}
 use lib.ListN.{length, take, length-append}
-use Rattle.text.specs.inner_contracts.TokenTable.{TokenColumns, columns_of}
-use Rattle.checking.specs.declared.check.Checked.{Checked}
-use Rattle.checking.specs.declared.check.Checked.TheVariants as checked_as
-use Rattle.checking.specs.inner_contracts.CheckedBench.{Checks}
-use Rattle.reads.specs.inner_contracts.RulesResolved.{RulesResolved}
-use Rattle.checking.proofs.laws.VerdictLaws.{accepted_verdict}
+use Rattle.text.specs.definitions.Syntax.{File}
+use Rattle.checking.specs.definitions.Verdict.{Verdict, verdict, accepted_file}
+use Rattle.checking.proofs.laws.VerdictLaws.{accepted_verdict, file_is_accepted}
 use Rattle.checking.proofs.laws.AcceptedLaws.{within_counts}
 use Rattle.values.specs.inner_contracts.Puts.{Put}
 use Rattle.values.proofs.laws.FormLaws.{decimal_most}
 use Rattle.senders.specs.definitions.Follow.{fresh}
 use Rattle.senders.specs.definitions.Fingerprint.{fingerprint}
-use Rattle.senders.specs.inner_contracts.RowMemory.{FreshStatePut}
+use Rattle.senders.specs.definitions.StateImage.{state_of, with_state}
 use Rattle.senders.proofs.laws.SoundFollow.{fresh_sound}
 use Rattle.senders.proofs.laws.StateLaws.{state_written}
 use Rattle.senders.proofs.laws.StandsLaws.{fingerprint_below}
-use Rattle.engine.proofs.laws.ServingLaws.{accepted_says, refused_says}
+use Rattle.engine.specs.definitions.Calls.{AfterFresh, freshened}
 use Rattle.replay.specs.definitions.Replay.{bench_refusal}
-use Rattle.replay.specs.inner_contracts.Awaiting.{opening, awaited_first, bench_memory, Resolved}
-use Rattle.replay.specs.inner_contracts.Awaiting.StandsFor.{stands_for}
-use Rattle.replay.specs.inner_contracts.Feeding.{ROOM, Starts}
-use Rattle.replay.specs.declared.Stage.TheVariants.{Names, Closed}
-use Rattle.replay.proofs.steps.LineLaws.{appended, refusal_most}
+use Rattle.replay.specs.inner_contracts.Awaiting.{opening, awaited_first, AtNames, Memory, Stood}
+use Rattle.replay.specs.inner_contracts.Awaiting.Awaits.{names}
+use Rattle.replay.specs.inner_contracts.Feeding.{ROOM, Started, BenchRefused}
+use Rattle.replay.specs.declared.Stage.TheVariants.{Names}
+use Rattle.replay.proofs.steps.LineLaws.{printed, refusal_most}
 
 bench_refusal_most : (code at : ℕ) → length (bench_refusal code at ++ 10 ∷ []) ≤ 30
 unfolding bench_refusal
@@ -34,47 +32,50 @@ bench_refusal_most code at =
     let b = decimal_most at in
     simp length-append (omega arith)
 
-module _ {text d e classes offsets lengths literals : List ℕ} {t : TokenColumns} {r : Checked}
-    (checks : Checks text t (columns_of classes offsets lengths literals) d e r) (refs scopes : List ℕ) where
-  pub refused_starts : {code at : ℕ} → r ≡ checked_as.Refused code at → (state out : List ℕ) → ROOM ≤ length out → {new_out : List ℕ} {end : ℕ}
-      → Put (bench_refusal code at ++ 10 ∷ []) out 0 new_out end
-      → Starts text classes offsets lengths literals e refs scopes state new_out (record { rows = 0; stage = Closed; used = end })
-  unfolding opening awaited_first
-  refused_starts {code} {at} q state out room x =
-      let v = refused_says text e (columns_of classes offsets lengths literals) q checks.says in
-      let k = bench_refusal_most code at in
-      record {
-        few = omega arith;
-        fits = let z = x.end in omega arith;
-        opened = rw v (appended out 0 x (omega arith));
-        stands = λ columns. rw v tt;
-      }
+pub bench_refused : {text out o2 : List ℕ} {code at end : ℕ} → verdict text ≡ Verdict.refused_at code at → ROOM ≤ length out
+    → Put (bench_refusal code at ++ 10 ∷ []) out 0 o2 end → BenchRefused text o2 end
+unfolding opening awaited_first
+bench_refused {out = out} {code = code} {at = at} v room p =
+    let k = bench_refusal_most code at in
+    record { fits = let z = p.end in omega arith; opened = rw v (printed out p (omega arith)); closes = rw v }
 
-  -- the rows as code lends them
-  pub accepted_starts : {n : ℕ} → r ≡ checked_as.Accepted n → {old_refs old_scopes : List ℕ}
-      → RulesResolved text (take (n - 0) classes) offsets lengths e old_refs old_scopes refs scopes
-      → (state out : List ℕ) {new_state : List ℕ} {print : ℕ} → print ≡ fingerprint text
-      → FreshStatePut text (take (n - 0) classes) offsets lengths literals e print state new_state
-      → Starts text classes offsets lengths literals e refs scopes new_state out (record { rows = n; stage = Names; used = 0 })
+-- a state that is fresh stands in memory
+pub record FreshBench (text state : List ℕ) : Type 0 where
+  pub file : File
+  pub at_names : AtNames text file state
+
+pub fresh_bench : {text : List ℕ} (before : List ℕ) {state : List ℕ} → record { answer = 0; state = state } ≡ freshened (fingerprint text) (accepted_file text) before
+    → FreshBench text state
+unfolding freshened
+fresh_bench {text} before {state} e = go (accepted_file text) refl
+  where
+    go : (o : Option File) → accepted_file text ≡ o → FreshBench text state
+    go none i =
+        let w : record { answer = 0; state = state } ≡ freshened (fingerprint text) none before = rw i at e in
+        let z : 0 ≡ 32 = ap (λ (x : AfterFresh). x.answer) w in
+        absurd (omega (arith, z))
+    go (some f) i =
+        let w : record { answer = 0; state = state } ≡ freshened (fingerprint text) (some f) before = rw i at e in
+        let s : state ≡ with_state (fingerprint text) f (fresh f) before = ap (λ (x : AfterFresh). x.state) w in
+        let v = file_is_accepted text i in
+        let counts = within_counts f (accepted_verdict text v) in
+        record {
+          file = f;
+          at_names = record {
+            accepted = i;
+            state_is = rw s (state_written f counts (fingerprint text) (fingerprint_below text) (fresh f) (fresh_sound text f v) before);
+          };
+        }
+
+abbrev first : (text columns state : List ℕ) → Memory
+first text columns state = record { text = text; stage = Names; columns = columns; waiting = []; state = state }
+
+module _ {text resolved state : List ℕ} (same : resolved ≡ text) (b : FreshBench text state) (columns : List ℕ) where
+  pub first_stood : Stood (first resolved columns state)
+  first_stood = rw same (record { awaits = names b.file; stands = b.at_names; part = tt })
+
+  pub started : Started text (first resolved columns state)
   unfolding opening awaited_first
-  accepted_starts {n} q {old_refs} {old_scopes} resolves0 state out {new_state} {print} p fresh0 =
-      let z : n - 0 ≡ n = omega arith in
-      let resolves = subst (λ (x : ℕ). RulesResolved text (take x classes) offsets lengths e old_refs old_scopes refs scopes) z resolves0 in
-      let puts = subst (λ (x : ℕ). FreshStatePut text (take x classes) offsets lengths literals e print state new_state) z fresh0 in
-      let a = accepted_says {text = text} {d = e} {u = columns_of classes offsets lengths literals} q checks.says in
-      let c = a.stands in
-      let f = c.bench.file in
-      let b : Resolved (bench_memory text (take n classes) offsets lengths literals e refs scopes) =
-      record { checked = c; references = resolves.references; scopes_are = resolves.scopes_are; reads_are = resolves.reads_are } in
-      let counts = within_counts f (accepted_verdict text c.accepts) in
-      record {
-        few = a.rows.0;
-        fits = omega arith;
-        opened = rw c.accepts;
-        stands = λ columns. rw c.accepts (record {
-          file_stands = stands_for b;
-          state_is =
-              rw (puts.is c.bench c.few c.valued, p)
-              (state_written f counts (fingerprint text) (fingerprint_below text) (fresh f) (fresh_sound text f c.accepts) state);
-        });
-      }
+  started =
+      let v = file_is_accepted text b.at_names.accepted in
+      rw same (record { none_waits = refl; opened = rw v; stands = rw v b.at_names })

@@ -1,12 +1,11 @@
 -- A replay line by line: what is awaited, what a line prints then, and what is awaited after it. Nobody has to believe this: that all lines
 -- together print what `replay` says is proved (proofs/AwaitingLaws.antt).
-use Rattle.std.specs.Prelude.{ℕ, ◌≤◌, ◌<◌, ◌≡◌, List, [], ◌∷◌, ◌++◌, map, get_or}
+use Rattle.std.specs.Prelude.{ℕ, ◌≡◌, List, [], ◌∷◌, ◌++◌}
 use Rattle.std.proofs.Math.Option.{Option, none, some}
 use Rattle.text.specs.definitions.Syntax.{File}
-use Rattle.checking.specs.definitions.Verdict.{Verdict}
+use Rattle.checking.specs.definitions.Verdict.{Verdict, accepted_file}
 use Rattle.cycles.specs.definitions.Header.{Column, header}
-use Rattle.cycles.specs.inner_contracts.HeaderReads.{MOST_COLUMNS, NO_COLUMN, column_number, backwards}
-use Rattle.cycles.specs.definitions.Readings.{lines}
+use Rattle.cycles.specs.definitions.Readings.{PartOfLine, lines}
 use Rattle.cycles.specs.definitions.Row.{row_header}
 use Rattle.senders.specs.definitions.Sender.{State}
 use Rattle.senders.specs.definitions.Line.{line}
@@ -14,7 +13,7 @@ use Rattle.senders.specs.definitions.Follow.{fresh}
 use Rattle.senders.specs.definitions.Turns.{state_after}
 use Rattle.senders.specs.definitions.Fingerprint.{fingerprint}
 use Rattle.senders.specs.definitions.StateImage.{state_of}
-use Rattle.senders.specs.inner_contracts.Advancing.{ResolvedBench}
+use Rattle.engine.specs.inner_contracts.LineMemory.{HeaderRead}
 use Rattle.replay.specs.definitions.Replay.{refusal, bench_refusal, row_for}
 use Rattle.replay.specs.declared.Stage.{Stage}
 use Rattle.replay.specs.declared.Stage.TheVariants.{Names, Values, Closed}
@@ -91,58 +90,42 @@ awaited_first (Verdict.accepted f) = names f
 
 -- ---- in memory
 
--- a bench in columns, with its rules' names resolved
-pub record BenchMemory : Type 0 where
+-- what code keeps between two calls: the text of the bench, what is awaited, the numbers of the header's columns, the bytes of a line that wait for
+-- its end, and the state image
+pub record Memory : Type 0 where
   pub text : List ℕ
-  pub classes : List ℕ
-  pub offsets : List ℕ
-  pub lengths : List ℕ
-  pub literals : List ℕ
-  pub d : List ℕ
-  pub refs : List ℕ
-  pub scopes : List ℕ
+  pub stage : Stage
+  pub columns : List ℕ
+  pub waiting : List ℕ
+  pub state : List ℕ
 
-abbrev pub bench_memory : (text classes offsets lengths literals d refs scopes : List ℕ) → BenchMemory
-bench_memory text classes offsets lengths literals d refs scopes =
-    record { text = text; classes = classes; offsets = offsets; lengths = lengths; literals = literals; d = d; refs = refs; scopes = scopes }
-
-abbrev pub Resolved : BenchMemory → Type 0
-Resolved m = ResolvedBench m.text m.classes m.offsets m.lengths m.literals m.d m.refs m.scopes
-
-abbrev pub file_in : {m : BenchMemory} → Resolved m → File
-file_in b = b.checked.bench.file
-
--- the file that the columns stand for
-pub data StandsFor (m : BenchMemory) : File → Type 0 where
-  stands_for : (b : Resolved m) → StandsFor m (file_in b)
-
-pub record AtNames (m : BenchMemory) (f : File) (state : List ℕ) : Type 0 where
-  pub file_stands : StandsFor m f
-  pub state_is : state_of (fingerprint m.text) f state ≡ some (fresh f)
+pub record AtNames (text : List ℕ) (f : File) (state : List ℕ) : Type 0 where
+  pub accepted : accepted_file text ≡ some f
+  pub state_is : state_of (fingerprint text) f state ≡ some (fresh f)
 
 -- `columns` has the numbers of the header's columns
-pub record AtValues (m : BenchMemory) (f : File) (ns : List ℕ) (s : State) (count : ℕ) (columns state : List ℕ) : Type 0 where
-  pub file_stands : StandsFor m f
-  pub state_is : state_of (fingerprint m.text) f state ≡ some s
-  pub cs : List Column
-  pub header_is : header f ns ≡ some cs
-  pub columns_are : map column_number cs ≡ backwards count columns
-  pub few : count ≤ MOST_COLUMNS
-  pub known : (k : ℕ) → k < count → get_or columns k 0 < NO_COLUMN
+pub record AtValues (text : List ℕ) (f : File) (ns : List ℕ) (s : State) (count : ℕ) (columns state : List ℕ) : Type 0 where
+  pub accepted : accepted_file text ≡ some f
+  pub state_is : state_of (fingerprint text) f state ≡ some s
+  pub header_is : HeaderRead text ns columns count
 
--- memory, with the stage that code is at, stands for what is awaited
-abbrev pub Stands : BenchMemory → Awaits → Stage → List ℕ → List ℕ → Type 0
-Stands m (names f) Names columns state = AtNames m f state
-Stands m (names f) (Values count) columns state = ⊥
-Stands m (names f) Closed columns state = ⊥
-Stands m (values f ns s) Names columns state = ⊥
-Stands m (values f ns s) (Values count) columns state = AtValues m f ns s count columns state
-Stands m (values f ns s) Closed columns state = ⊥
-Stands m nothing Names columns state = ⊥
-Stands m nothing (Values count) columns state = ⊥
-Stands m nothing Closed columns state = Unit {0}
+abbrev pub StandsAt : List ℕ → Awaits → Stage → List ℕ → List ℕ → Type 0
+StandsAt text (names f) Names columns state = AtNames text f state
+StandsAt text (names f) (Values count) columns state = ⊥
+StandsAt text (names f) Closed columns state = ⊥
+StandsAt text (values f ns s) Names columns state = ⊥
+StandsAt text (values f ns s) (Values count) columns state = AtValues text f ns s count columns state
+StandsAt text (values f ns s) Closed columns state = ⊥
+StandsAt text nothing Names columns state = ⊥
+StandsAt text nothing (Values count) columns state = ⊥
+StandsAt text nothing Closed columns state = Unit {0}
 
--- .. for something
-pub record Stood (m : BenchMemory) (stage : Stage) (columns state : List ℕ) : Type 0 where
+-- memory stands for what is awaited
+abbrev pub Stands : Memory → Awaits → Type 0
+Stands m a = StandsAt m.text a m.stage m.columns m.state
+
+-- .. for something, and what waits is a part of a line
+pub record Stood (m : Memory) : Type 0 where
   pub awaits : Awaits
-  pub stands : Stands m awaits stage columns state
+  pub stands : Stands m awaits
+  pub part : PartOfLine m.waiting

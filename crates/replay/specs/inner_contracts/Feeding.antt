@@ -1,11 +1,16 @@
 -- What the parts of a replay over chunks of a text promise: contracts.
-use Rattle.std.specs.Prelude.{ℕ, ◌+◌, ◌≤◌, ◌<◌, ◌≡◌, Bool, true, false, List, ◌++◌, eqb, length, get_or, take, drop}
-use Rattle.checking.specs.definitions.Verdict.{verdict}
-use Rattle.cycles.specs.inner_contracts.HeaderReads.{MOST_COLUMNS}
+use Rattle.std.specs.Prelude.{ℕ, ◌+◌, ◌≤◌, ◌<◌, ◌≡◌, Bool, true, false, List, [], ◌∷◌, ◌++◌, Result, Ok, Err, eqb, length, get_or, take, drop}
+use Rattle.std.proofs.Math.Option.{some}
+use Rattle.text.specs.definitions.Syntax.{File}
+use Rattle.checking.specs.definitions.Verdict.{verdict, accepted_file}
 use Rattle.cycles.specs.definitions.Readings.{PartOfLine}
-use Rattle.senders.specs.definitions.StateImage.{STATE}
 use Rattle.cycles.specs.definitions.Header.{MOST_HEADER_BYTES}
-use Rattle.cycles.specs.definitions.Row.{MOST_ROW_BYTES}
+use Rattle.cycles.specs.definitions.Row.{MOST_ROW_BYTES, row_header}
+use Rattle.engine.specs.declared.refusal.Refusal.{Refusal}
+use Rattle.engine.specs.declared.refusal.Refusal.TheVariants.{Header}
+use Rattle.engine.specs.inner_contracts.LineMemory.{NoHeader, HeaderRead}
+use Rattle.engine.specs.inner_contracts.Refusals.{code_of}
+use Rattle.replay.specs.definitions.Replay.{refusal}
 use Rattle.replay.specs.inner_contracts.Awaiting.{
   Awaits,
   prints,
@@ -14,21 +19,20 @@ use Rattle.replay.specs.inner_contracts.Awaiting.{
   left_after,
   opening,
   awaited_first,
-  BenchMemory,
-  bench_memory,
+  Memory,
   Stands,
-  Stood,
 }
 use Rattle.replay.specs.declared.Stage.{Stage}
 use Rattle.replay.specs.declared.Stage.TheVariants.{Names, Values, Closed}
-use Rattle.replay.specs.declared.Begun.{Begun}
 use Rattle.replay.specs.declared.Progress.{Progress}
-use Rattle.replay.specs.declared.gathering.Gathered.{Gathered}
-use Rattle.replay.specs.declared.rows.Step.{Step}
 
 -- the most bytes of a line that is not refused for its length: those of a header
 abbrev pub LONGEST : ℕ
 LONGEST = MOST_HEADER_BYTES
+
+-- one byte more, so that a line that is too long shows
+abbrev pub LINE : ℕ
+LINE = LONGEST + 1
 
 -- the most bytes of a row with its line feed
 abbrev pub ROOM : ℕ
@@ -36,71 +40,84 @@ ROOM = MOST_ROW_BYTES + 1
 
 -- ---- a line over chunks
 
--- the chunk's bytes from `from` to `i` have no line feed, and wait with the bytes that were kept, as many as there is room for
-pub record Gathering (chunk : List ℕ) (from : ℕ) (line : List ℕ) (kept : ℕ) (new_line : List ℕ) (i at : ℕ) : Type 0 where
-  pub after : from ≤ i
-  pub inside : i ≤ length chunk
-  pub room : at ≤ length line
-  pub same : length new_line ≡ length line
-  pub piece : List ℕ
-  pub part : PartOfLine piece
-  pub split : drop from chunk ≡ piece ++ drop i chunk
-  pub is : take at new_line ≡ take (length line) (take kept line ++ piece)
+abbrev pub with_waiting : Memory → List ℕ → Memory
+with_waiting m waiting = record { text = m.text; stage = m.stage; columns = m.columns; waiting = waiting; state = m.state }
 
--- .. up to a line feed or the chunk's end
-pub record Gathers (chunk : List ℕ) (from : ℕ) (line : List ℕ) (kept : ℕ) (new_line : List ℕ) (r : Gathered) : Type 0 where
-  pub gathered : Gathering chunk from line kept new_line r.end r.kept
-  pub feeds : r.end < length chunk → get_or chunk r.end 0 ≡ 10
+-- more bytes of the line wait, as many as there is room for
+abbrev pub kept : Memory → List ℕ → Memory
+kept m bytes = with_waiting m (take LINE (m.waiting ++ bytes))
+
+pub record Kept (m : Memory) (bytes : List ℕ) (n : Memory) : Type 0 where
+  pub part : PartOfLine m.waiting
+  pub is : n ≡ kept m bytes
+
+-- the chunk's bytes up to `end` are kept: what is to be printed is the same, and so is what will be left, whatever bytes come after the chunk
+pub record Gathers (m : Memory) (chunk : List ℕ) (end : ℕ) (n : Memory) : Type 0 where
+  pub part : PartOfLine n.waiting
+  pub stands : (a : Awaits) → Stands m a → Stands n a
+  pub is : (a : Awaits) (rest : List ℕ) → to_print a (m.waiting ++ (chunk ++ rest)) ≡ to_print a (n.waiting ++ (drop end chunk ++ rest))
+  pub left : (a : Awaits) (rest : List ℕ) → left_after a (m.waiting ++ (chunk ++ rest)) ≡ left_after a (n.waiting ++ (drop end chunk ++ rest))
+
+-- .. up to the first line feed
+pub record LineGathered (m : Memory) (chunk : List ℕ) (n : Memory) (end : ℕ) : Type 0 where
+  pub inside : end < length chunk
+  pub feeds : get_or chunk end 0 ≡ 10
+  pub gathers : Gathers m chunk end n
 
 -- ---- a line
 
--- what a line prints is appended, and memory stands for what is awaited after it
-pub record Takes (m : BenchMemory) (a : Awaits) (line out : List ℕ) (used : ℕ) (new_columns new_state new_out : List ℕ) (stage : Stage) (r : ℕ) : Type 0 where
-  pub appended : take r new_out ≡ take used out ++ prints a line
-  pub stands : Stands m (awaited_after a line) stage new_columns new_state
+-- the line of names is read, with the row of names at the memory's front, or it is no header
+pub record HeaderTaken (text names : List ℕ) (stage : Stage) (columns row : List ℕ) (n : ℕ) : Type 0 where
+  pub count : ℕ
+  pub stage_is : stage ≡ Values count
+  pub header_is : HeaderRead text names columns count
+  pub short : n ≤ MOST_ROW_BYTES
+  pub row_is : (f : File) → accepted_file text ≡ some f → take n row ≡ row_header f
 
-pub record LinePut (m : BenchMemory) (stage : Stage) (line columns state out : List ℕ) (used : ℕ)
-    (new_columns new_state new_out : List ℕ) (r : Step) : Type 0 where
-  pub short : r.used ≤ used + ROOM
-  pub is : (a : Awaits) → Stands m a stage columns state → Takes m a line out used new_columns new_state new_out r.stage r.used
+pub record NamesRefused (text names : List ℕ) (stage : Stage) (why : Refusal) : Type 0 where
+  pub why_is : why ≡ Header
+  pub stage_is : stage ≡ Closed
+  pub no_header : NoHeader text names
+
+-- what the waiting line prints stands at the buffer's front, and memory stands for what is awaited after it
+pub record Takes (m : Memory) (a : Awaits) (n : Memory) (out : List ℕ) (r : ℕ) : Type 0 where
+  pub printed : take r out ≡ prints a m.waiting
+  pub stands : Stands n (awaited_after a m.waiting)
+
+pub record LinePut (m n : Memory) (out : List ℕ) (r : ℕ) : Type 0 where
+  pub short : r ≤ ROOM
+  pub part : PartOfLine m.waiting
+  pub none_waits : n.waiting ≡ []
+  pub is : (a : Awaits) → Stands m a → Takes m a n out r
+
+-- a row, or the refusal of its line, and a line feed
+abbrev pub ended_row : Result ℕ Refusal → List ℕ → List ℕ
+ended_row (Ok n) row = take n row ++ 10 ∷ []
+ended_row (Err why) row = refusal (code_of why) ++ 10 ∷ []
+
+pub record Ended (row : Result ℕ Refusal) (out new_out : List ℕ) (r : ℕ) : Type 0 where
+  pub short : r ≤ ROOM
+  pub is : take r new_out ≡ ended_row row out
 
 -- ---- chunks
 
--- memory that is lent to each step: a line's bytes wait in `line`
-pub record Lent (m : BenchMemory) (stage : Stage) (line : List ℕ) (kept : ℕ) (columns state : List ℕ) : Type 0 where
-  pub long : LONGEST < length line
-  pub fits : kept ≤ length line
-  pub columns_fit : MOST_COLUMNS ≤ length columns
-  pub state_fits : STATE ≤ length state
-  pub stood : Stood m stage columns state
-  pub part : PartOfLine (take kept line)
-
 -- the buffer has what was printed: with it what is to be printed is the same, and so is what will be left, whatever bytes come after the chunk
-pub record Goes (m : BenchMemory) (a : Awaits) (chunk : List ℕ) (from : ℕ) (line : List ℕ) (kept : ℕ)
-    (new_line new_columns new_state new_out : List ℕ) (stage : Stage) (now_from now_kept now_used : ℕ) : Type 0 where
+pub record Goes (m : Memory) (a : Awaits) (chunk : List ℕ) (n : Memory) (out : List ℕ) (taken used : ℕ) : Type 0 where
   pub later : Awaits
-  pub stands : Stands m later stage new_columns new_state
-  pub is : (rest : List ℕ)
-      → to_print a (take kept line ++ (drop from chunk ++ rest))
-      ≡ take now_used new_out ++ to_print later (take now_kept new_line ++ (drop now_from chunk ++ rest))
-  pub left : (rest : List ℕ)
-      → left_after a (take kept line ++ (drop from chunk ++ rest)) ≡ left_after later (take now_kept new_line ++ (drop now_from chunk ++ rest))
+  pub stands : Stands n later
+  pub is : (rest : List ℕ) → to_print a (m.waiting ++ (chunk ++ rest)) ≡ take used out ++ to_print later (n.waiting ++ (drop taken chunk ++ rest))
+  pub left : (rest : List ℕ) → left_after a (m.waiting ++ (chunk ++ rest)) ≡ left_after later (n.waiting ++ (drop taken chunk ++ rest))
 
-pub record Feeding (m : BenchMemory) (stage : Stage) (chunk : List ℕ) (from : ℕ) (line : List ℕ) (kept : ℕ) (columns state out : List ℕ)
-    (new_line new_columns new_state new_out : List ℕ) (now_stage : Stage) (now_from now_kept now_used : ℕ) : Type 0 where
-  pub after : from ≤ now_from
-  pub inside : now_from ≤ length chunk
-  pub fits : now_used ≤ length out
-  pub still : now_from ≡ from → now_used ≡ 0
-  pub lent : Lent m now_stage new_line now_kept new_columns new_state
-  pub goes : (a : Awaits) → Stands m a stage columns state
-      → Goes m a chunk from line kept new_line new_columns new_state new_out now_stage now_from now_kept now_used
+pub record Feeding (m : Memory) (chunk : List ℕ) (n : Memory) (out : List ℕ) (taken used : ℕ) : Type 0 where
+  pub inside : taken ≤ length chunk
+  pub fits : used ≤ length out
+  pub still : taken ≡ 0 → used ≡ 0
+  pub goes : (a : Awaits) → Stands m a → Goes m a chunk n out taken used
 
 -- .. up to the chunk's end, or to where the buffer has no room for a row
-pub record Fed (m : BenchMemory) (stage : Stage) (chunk : List ℕ) (from : ℕ) (line : List ℕ) (kept : ℕ) (columns state out : List ℕ)
-    (new_line new_columns new_state new_out : List ℕ) (r : Progress) : Type 0 where
-  pub fed : Feeding m stage chunk from line kept columns state out new_line new_columns new_state new_out r.stage r.from r.kept r.used
-  pub stops : r.from < length chunk → length out < r.used + ROOM
+pub record Fed (m : Memory) (chunk : List ℕ) (n : Memory) (out : List ℕ) (r : Progress) : Type 0 where
+  pub fed : Feeding m chunk n out r.taken r.used
+  pub stops : r.taken < length chunk → length out < r.used + ROOM
 
 -- is nothing more awaited?
 unfoldable pub is_closed : Stage → Bool
@@ -115,16 +132,19 @@ is_over (Values count) kept = eqb kept 0
 is_over Closed kept = true
 
 -- the text has ended: a last line without a line feed
-pub record Finished (m : BenchMemory) (stage : Stage) (line : List ℕ) (kept : ℕ) (columns state new_out : List ℕ) (r : ℕ) : Type 0 where
+pub record Finished (m : Memory) (out : List ℕ) (r : ℕ) : Type 0 where
   pub fits : r ≤ ROOM
-  pub is : (a : Awaits) → Stands m a stage columns state → take r new_out ≡ to_print a (take kept line)
+  pub is : (a : Awaits) → Stands m a → take r out ≡ to_print a m.waiting
 
 -- ---- the beginning
 
--- the columns have `rows` rows of tokens; the header's columns have no part in it yet
-pub record Starts (text classes offsets lengths literals d refs scopes state new_out : List ℕ) (r : Begun) : Type 0 where
-  pub few : r.rows ≤ length classes
-  pub fits : r.used ≤ ROOM
-  pub opened : take r.used new_out ≡ opening (verdict text)
-  pub stands : (columns : List ℕ)
-      → Stands (bench_memory text (take r.rows classes) offsets lengths literals d refs scopes) (awaited_first (verdict text)) r.stage columns state
+-- a bench that is accepted, and one that is refused
+pub record Started (text : List ℕ) (m : Memory) : Type 0 where
+  pub none_waits : m.waiting ≡ []
+  pub opened : opening (verdict text) ≡ []
+  pub stands : Stands m (awaited_first (verdict text))
+
+pub record BenchRefused (text out : List ℕ) (used : ℕ) : Type 0 where
+  pub fits : used ≤ ROOM
+  pub opened : take used out ≡ opening (verdict text)
+  pub closes : awaited_first (verdict text) ≡ Awaits.nothing

@@ -1,9 +1,0 @@
-use Rattle.std.proofs.Common.{sym, ◌∙◌}
-use Rattle.replay.proofs.steps.FeedingLaws.{none_finished, last_finished}
-use Rattle.replay.proofs.finish.Goals as goal
-
-pub returns-then-is_over : goal.returns-then-is_over
-returns-then-is_over c = none_finished _ _ _ _ _ _ _ (sym c.is_over.ensures ∙ c.if-is_over.true)
-
-pub returns : goal.returns
-returns c = last_finished _ _ _ _ _ _ _ c.requires.lent (sym c.is_over.ensures ∙ c.if-is_over.false) c.put_line-step.ensures
