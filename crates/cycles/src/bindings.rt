@@ -1,5 +1,5 @@
 // The rules that are tried, each for every binding of its variables.
-ghost use Rattle.std.specs.Prelude.{◌+◌, ◌*◌, ◌≤◌, ◌≡◌, length, get_or};
+ghost use Rattle.std.specs.Prelude.{◌+◌, ◌≤◌, ◌≡◌, length, get_or};
 ghost use Rattle.checking.specs.inner_contracts.Directory;
 ghost use Rattle.checking.specs.inner_contracts.Directory.{rule_row};
 ghost use Rattle.checking.specs.definitions.CountFaults;
@@ -12,43 +12,36 @@ use crate::calls::rule_at;
 use crate::evaluate::{Binding, with_entity};
 use crate::finding::find_guards;
 use crate::guards::{Candidates, Guards, narrow};
-use crate::layout::ALL_RANGE_ROWS;
 use crate::quiescence::tried_rules;
 use crate::rules::Rules;
 use crate::store::{Store, Stores};
 use crate::world::Worlds;
 use cell_sets::has_bit;
 use checking::layout::{
-    ENTITY_COUNT_ROW, ENTITY_INTERFACE_ROWS, MOST_ENTITIES, MOST_ENTITIES_8, MOST_INTERFACES_8,
-    MOST_RULES, MOST_VARIABLES, MOST_VARIABLES_8, RULE_COUNT_ROW, RULE_ROWS, SCOPE_ROWS,
+    ENTITY_COUNT_ROW, ENTITY_INTERFACE_ROWS, MOST_ENTITIES, MOST_ENTITIES_8, MOST_INTERFACES,
+    MOST_INTERFACES_8, MOST_RULES, MOST_VARIABLES, MOST_VARIABLES_8, RULE_COUNT_ROW, RULE_ROWS,
+    SCOPE_ROWS,
 };
-use text::walks::class_at;
 
 // Does each variable of rule number k have its entity, if the first `level` of them do?
 fn is_complete(rules: &Rules<'_>, k: u8, level: u8) -> bool
     ensures { result ≡ complete rules.now.scopes.now k level }
 {
-    if MOST_VARIABLES_8 <= level {
-        return true;
-    }
-    rules.scope(SCOPE_ROWS * (k as usize)) == level
+    MOST_VARIABLES_8 <= level || rules.scope(SCOPE_ROWS * (k as usize)) == level
 }
 
 // Is entity e present, and of the interface of this number?
 fn is_candidate(rules: &Rules<'_>, store: &Store<'_>, face: u8, e: u8) -> bool
     ensures { result ≡ candidate rules.now.columns.d.now store.now.flags face e }
 {
-    if !store.is_present(e) {
-        return false;
-    }
-    rules.row(ENTITY_INTERFACE_ROWS + (e as usize)) == face as usize
+    store.is_present(e) && rules.row(ENTITY_INTERFACE_ROWS + (e as usize)) == face as usize
 }
 
 // Where among the entities the candidates for an interface stand: from `first` on, below `end`.
 #[derive(Clone, Copy)]
-struct Range {
-    first: u8,
-    end: u8,
+pub struct Range {
+    pub first: u8,
+    pub end: u8,
 }
 
 #[tactic(auto, using(crate::proofs::steps::BindingPuts::range_turns))]
@@ -68,18 +61,16 @@ fn range_of(rules: &Rules<'_>, store: &Store<'_>, n: u8, face: u8) -> Range
     Range { first, end }
 }
 
-// The ranges of all interfaces, in two rows each.
+// The ranges of all interfaces.
 #[tactic(auto, using(crate::proofs::steps::BindingPuts::range_put))]
-fn find_ranges(rules: &Rules<'_>, store: &Store<'_>, n: u8, ranges: &mut [u8])
-    requires { 2 * CountFaults.MOST_INTERFACES ≤ length ranges.old }
-    ensures { Ranges rules.now.columns.d.now store.now.flags n ranges.new }
+fn find_ranges(rules: &Rules<'_>, store: &Store<'_>, n: u8) -> [Range; MOST_INTERFACES]
+    ensures { Ranges rules.now.columns.d.now store.now.flags n result }
 {
+    let mut ranges = [Range { first: 0, end: 0 }; MOST_INTERFACES];
     for face in 0..MOST_INTERFACES_8 {
-        let range = range_of(rules, store, n, face);
-        let row = 2 * (face as usize);
-        ranges[row] = range.first;
-        ranges[row + 1] = range.end;
+        ranges[face as usize] = range_of(rules, store, n, face);
     }
+    ranges
 }
 
 // Marks the candidates for an interface, from number `first` on, below `end`.
@@ -97,7 +88,7 @@ fn mark_candidates(rules: &Rules<'_>, store: &Store<'_>, face: u8, range: Range,
 #[derive(Drop)]
 struct Trial<'a> {
     k: u8,
-    ranges: &'a [u8],
+    ranges: &'a [Range; MOST_INTERFACES],
     guards: &'a Guards,
 }
 
@@ -115,20 +106,17 @@ fn bind(worlds: &Worlds<'_, '_>, trial: &Trial<'_>, level: u8, area: &mut [u8])
         return;
     }
     let face = rules.scope(SCOPE_ROWS * (trial.k as usize) + 1 + (level as usize));
-    let row = 2 * (face as usize);
-    let first = class_at(trial.ranges, row);
-    let end = class_at(trial.ranges, row + 1);
+    // a checked bench has no more interfaces and entities
+    if MOST_INTERFACES <= face as usize {
+        return;
+    }
+    let range = trial.ranges[face as usize];
+    let Range { first, end } = range;
     if MOST_ENTITIES_8 < end {
         return;
     }
     let mut marks = [false; MOST_ENTITIES];
-    mark_candidates(
-        rules,
-        &stores.current,
-        face,
-        Range { first, end },
-        &mut marks,
-    );
+    mark_candidates(rules, &stores.current, face, range, &mut marks);
     let candidates = Candidates { level, first, end };
     narrow(worlds, trial.guards, candidates, &mut marks);
     for e in first..end {
@@ -168,8 +156,7 @@ fn try_rules(rules: &Rules<'_>, stores: &Stores<'_>, set: u64, area: &mut [u8])
     if MOST_ENTITIES < entities {
         return;
     }
-    let mut ranges: [u8; ALL_RANGE_ROWS] = [0; ALL_RANGE_ROWS];
-    find_ranges(rules, &stores.current, entities as u8, &mut ranges);
+    let ranges = find_ranges(rules, &stores.current, entities as u8);
     let mut guards = Guards::new();
     for k in 0..n as u8 {
         if !has_bit(set, k) {

@@ -1,5 +1,5 @@
 // The memory of cells and planes, of columns, ranges and guards.
-use checking::layout::{ALL_SCOPE_ROWS, MOST_ENTITIES, MOST_INTERFACES, MOST_MEMBERS, MOST_RULES};
+use checking::layout::{ALL_SCOPE_ROWS, MOST_ENTITIES, MOST_MEMBERS, MOST_RULES};
 
 // ---- cells
 
@@ -71,9 +71,6 @@ pub const READ_SETS_AT: usize = ALL_SCOPE_ROWS;
 pub const READ_SET_BYTES: usize = MOST_CELLS / 8;
 
 pub const SCOPES_BYTES: usize = READ_SETS_AT + READ_SET_BYTES * MOST_RULES;
-
-// Where among the entities the candidates for each interface begin and end.
-pub const ALL_RANGE_ROWS: usize = 2 * MOST_INTERFACES;
 
 // A rule has room for so many guards.
 pub const MOST_GUARDS: usize = 16;

@@ -50,10 +50,7 @@ impl<'a> Store<'a> {
     pub fn is_present_at(&self, e: u8, m: u8) -> bool
         ensures { result ≡ (ltb m Directory.NO_MEMBER && eqb (get_or self.now.flags e 0) 1) }
     {
-        if NO_MEMBER_8 <= m {
-            return false;
-        }
-        self.is_present(e)
+        m < NO_MEMBER_8 && self.is_present(e)
     }
 
     /// Member m of entity e, unset where the entity is absent or has no such member.

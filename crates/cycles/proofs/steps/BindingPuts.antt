@@ -1,5 +1,5 @@
 -- All rules for all bindings in memory: what the walk over a rule's variables and, for each of them, over the entities puts.
-use Prim.Native.Nat.{ℕ, zero, suc, ◌+◌, ◌-◌, ◌*◌, ◌≤◌, ◌<◌}
+use Prim.Native.Nat.{ℕ, zero, suc, ◌+◌, ◌-◌, ◌≤◌, ◌<◌}
 use native.Mathlib.Numerals.{add-one}
 use native.Mathlib.Omega.{arith}
 use mathlib.Core.Path.{◌≡◌, refl, sym, ap, ◌∙◌}
@@ -8,7 +8,7 @@ use mathlib.Core.List.{List, [], ◌∷◌, ◌++◌}
 use mathlib.Core.Option.{some}
 use lib.Dec.{T, leb, ltb, eqb}
 use lib.Ieee.Fits.{and_r}
-use lib.ListN.{length, get_or, get_elem?, drop, set, length-set}
+use lib.ListN.{length, get_or, get_elem?, drop, set}
 use lib.Seq.{get_or-set_same, get_or-set_other}
 use borrow.Author.Tests.{leb-true, leb-false, ltb-true, ltb-false, eqb-true, eqb-false}
 use Rattle.std.proofs.lemmas.Bool.{le-ltb}
@@ -19,10 +19,11 @@ use Rattle.checking.specs.definitions.Scope.{Variable, variables}
 use Rattle.checking.specs.inner_contracts.Directory.{rule_row}
 use Rattle.checking.specs.inner_contracts.Resolution.{scope_row}
 use Rattle.checking.proofs.laws.DirectoryLaws.{number_inside}
+use Rattle.cycles.specs.declared.bindings.Range.{Range}
 use Rattle.cycles.specs.declared.evaluate.Binding.{Binding}
 use Rattle.cycles.specs.definitions.Bindings.{bindings}
 use Rattle.cycles.specs.inner_contracts.Evaluation.{bound, puts, RulePuts}
-use Rattle.cycles.specs.inner_contracts.AllRules.{Gives, complete, candidate, Ranged, Ranges, EntityAdded, BindingsPut}
+use Rattle.cycles.specs.inner_contracts.AllRules.{Gives, complete, candidate, Ranged, EntityAdded, BindingsPut}
 use Rattle.cycles.specs.inner_contracts.GuardKinds.{Needless, no_candidate, silent, Marked, MarksSet}
 use Rattle.cycles.proofs.steps.EvaluationLaws.{puts_append}
 use Rattle.cycles.proofs.steps.ResolvedLaws.{rule_puts_binding}
@@ -90,37 +91,22 @@ module _ {d flags : List ℕ} {face : ℕ} where
         go x l c false q = (omega (arith, ltb-false x e q), l)
 
 -- the ranges of the interfaces before number `face`
-abbrev pub RangesBefore : List ℕ → List ℕ → ℕ → List ℕ → ℕ → Type 0
-RangesBefore d flags n ranges face = (f : ℕ) → f < face → Ranged d flags n f (get_or ranges (2 * f) 0) (get_or ranges (2 * f + 1) 0)
+abbrev pub RangesBefore : List ℕ → List ℕ → ℕ → List Range → ℕ → Type 0
+RangesBefore d flags n ranges face =
+    (f : ℕ) (other : Range) → f < face → Ranged d flags n f (get_or ranges f other).first (get_or ranges f other).end
 
-module _ {d flags : List ℕ} {n face first end : ℕ} (rows : List ℕ) (before : RangesBefore d flags n rows face) (room : 2 * face + 1 < length rows)
-    (range : Ranged d flags n face first end) where
-  abbrev two : List ℕ
-  two = set (set rows (2 * face) first) (2 * face + 1) end
-
-  two_first : get_or two (2 * face) 0 ≡ first
-  two_first =
-      get_or-set_other (set rows (2 * face) first) (2 * face + 1) (2 * face) end 0 (λ z. omega arith)
-      ∙ get_or-set_same rows (2 * face) first 0 (omega arith)
-
-  two_second : get_or two (2 * face + 1) 0 ≡ end
-  two_second = get_or-set_same (set rows (2 * face) first) (2 * face + 1) end 0 (rw (length-set rows (2 * face) first) room)
-
-  two_below : (i : ℕ) → i < 2 * face → get_or two i 0 ≡ get_or rows i 0
-  two_below i h =
-      get_or-set_other (set rows (2 * face) first) (2 * face + 1) i end 0 (λ z. omega arith)
-      ∙ get_or-set_other rows (2 * face) i first 0 (λ z. omega arith)
-
-  pub range_put : RangesBefore d flags n two (face + 1)
-  range_put f h = go (ltb f face) refl
-    where
-      go : (t : Bool) → ltb f face ≡ t → Ranged d flags n f (get_or two (2 * f) 0) (get_or two (2 * f + 1) 0)
-      go true q =
-          let l = ltb-true f face q in
-          rw (two_below (2 * f) (omega arith), two_below (2 * f + 1) (omega arith)) (before f l)
-      go false q =
-          let e : face ≡ f = omega (arith, ltb-false f face q) in
-          rw (← e, two_first, two_second) range
+pub range_put : {d flags : List ℕ} {n face : ℕ} (ranges : List Range) {range : Range} → RangesBefore d flags n ranges face → face < length ranges
+    → Ranged d flags n face range.first range.end → RangesBefore d flags n (set ranges face range) (face + 1)
+range_put {d} {flags} {n} {face} ranges {range} before room is f other h = go (ltb f face) refl
+  where
+    go : (t : Bool) → ltb f face ≡ t
+        → Ranged d flags n f (get_or (set ranges face range) f other).first (get_or (set ranges face range) f other).end
+    go true q =
+        let l = ltb-true f face q in
+        rw (get_or-set_other ranges face f range other (λ z. omega arith)) (before f other l)
+    go false q =
+        let e : face ≡ f = omega (arith, ltb-false f face q) in
+        rw (← e, get_or-set_same ranges face range other room) is
 
 -- ---- one more entity
 
@@ -263,16 +249,24 @@ module _ {classes values d refs scopes flags cells previous_flags previous_cells
       go false q later =
           last_writes c declared (ltb-false e (get_or d 1 0) q) ∙ sym (last_writes c declared {e = e + suc m} (omega (arith, ltb-false e (get_or d 1 0) q)))
 
-module _ {classes values d refs scopes flags cells previous_flags previous_cells : List ℕ} {k level : ℕ} {b : Binding} (ranges : List ℕ)
-    (ranged : Ranges d flags (get_or d 1 0) ranges) {face : ℕ} (face_is : face ≡ get_or scopes (scope_row k + 1 + level) 0) where
+module _ {classes values d refs scopes flags cells previous_flags previous_cells : List ℕ} {k level : ℕ} {b : Binding} {face : ℕ}
+    (face_is : face ≡ get_or scopes (scope_row k + 1 + level) 0) where
+  -- no checked bench has so many interfaces
+  pub bindings_nowhere : 16 ≤ face → {t : Bool} → t ≡ complete scopes k level → t ≡ false
+      → {area after : List ℕ} → BindingsPut classes values d refs scopes flags cells previous_flags previous_cells k level b area after
+  bindings_nowhere l y n = in_each (λ c.
+      let (v, h) = next_variable c (incomplete_more scopes k level y n) in
+      absurd (omega (arith, face_is, face_below c h)))
+
+module _ {classes values d refs scopes flags cells previous_flags previous_cells : List ℕ} {k level : ℕ} {b : Binding} {face first end : ℕ}
+    (ranged : Ranged d flags (get_or d 1 0) face first end) (face_is : face ≡ get_or scopes (scope_row k + 1 + level) 0) where
   range_in : (c : Chosen classes values d refs scopes flags cells previous_flags previous_cells k level b) {v : Variable}
-      → get_elem? (variables c.rule) level ≡ some v
-      → Ranged d flags (get_or d 1 0) (get_or scopes (scope_row k + 1 + level) 0) (get_or ranges (2 * face) 0) (get_or ranges (2 * face + 1) 0)
-  range_in c h = rw face_is (ranged (get_or scopes (scope_row k + 1 + level) 0) (face_below c h))
+      → get_elem? (variables c.rule) level ≡ some v → Ranged d flags (get_or d 1 0) (get_or scopes (scope_row k + 1 + level) 0) first end
+  range_in c h = rw (← face_is) ranged
 
   module _ (c : Chosen classes values d refs scopes flags cells previous_flags previous_cells k level b) {v : Variable}
       (h : get_elem? (variables c.rule) level ≡ some v) where
-    outside : (x : ℕ) → x < get_or d 1 0 → ((get_or ranges (2 * face) 0 ≤ x) × (x < get_or ranges (2 * face + 1) 0) → ⊥)
+    outside : (x : ℕ) → x < get_or d 1 0 → ((first ≤ x) × (x < end) → ⊥)
         → candidate d flags (get_or scopes (scope_row k + 1 + level) 0) x ≡ false
     outside x i n = go (candidate d flags (get_or scopes (scope_row k + 1 + level) 0) x) refl
       where
@@ -281,23 +275,22 @@ module _ {classes values d refs scopes flags cells previous_flags previous_cells
         go false q = refl
 
   -- no checked bench has so many entities
-  pub bindings_impossible : {end : ℕ} → end ≡ get_or ranges (2 * face + 1) 0 → 32 < end → {t : Bool} → t ≡ complete scopes k level → t ≡ false
+  pub bindings_impossible : 32 < end → {t : Bool} → t ≡ complete scopes k level → t ≡ false
       → {area after : List ℕ} → BindingsPut classes values d refs scopes flags cells previous_flags previous_cells k level b area after
-  bindings_impossible e l y n = in_each (λ c.
+  bindings_impossible l y n = in_each (λ c.
       let (v, h) = next_variable c (incomplete_more scopes k level y n) in
       absurd (omega (arith, (range_in c h).most, entity_count c, c.given.checked.few.entities)))
 
   module _ {area : List ℕ} where
-    pub turns_begin : {first : ℕ} → first ≡ get_or ranges (2 * face) 0
-        → TurnsLeft classes values d refs scopes flags cells previous_flags previous_cells k level b area first area
-    turns_begin {first} e = record {
+    pub turns_begin : TurnsLeft classes values d refs scopes flags cells previous_flags previous_cells k level b area first area
+    turns_begin = record {
       left = λ c v h.
           let z : 0 + first ≡ first = omega arith in
           ap (puts area) (sym (first_writes c h ∙ writes_between c h first 0 (λ x l u i. outside c h x i (λ p. omega (arith, p.0)))
           ∙ ap (writes_from c v) z));
     }
 
-    module _ {end : ℕ} (end_is : end ≡ get_or ranges (2 * face + 1) 0) {e : ℕ} {after : List ℕ}
+    module _ {e : ℕ} {after : List ℕ}
         (turns : TurnsLeft classes values d refs scopes flags cells previous_flags previous_cells k level b area e after) where
       inside : e < end → (c : Chosen classes values d refs scopes flags cells previous_flags previous_cells k level b) {v : Variable}
           → get_elem? (variables c.rule) level ≡ some v → (x : Entity) × (get_elem? (file c).entities e ≡ some x)

@@ -1,5 +1,5 @@
 -- What the rules of a bench that are tried write, each for every binding of its variables: of a checked bench in columns, and two stores in memory.
-use Rattle.std.specs.Prelude.{ℕ, suc, ◌+◌, ◌*◌, ◌≤◌, ◌<◌, ◌≡◌, Bool, true, false, not, ◌&&◌, ◌||◌, cond, T, leb, eqb, length, get_or, drop}
+use Rattle.std.specs.Prelude.{ℕ, suc, ◌+◌, ◌≤◌, ◌<◌, ◌≡◌, Bool, true, false, not, ◌&&◌, ◌||◌, cond, T, leb, eqb, length, get_or, drop}
 use mathlib.Core.List.{List, [], ◌∷◌, ◌++◌, flat_map}
 use Rattle.std.proofs.Math.Option.{some}
 use Rattle.std.proofs.Math.ListN.{get_elem?}
@@ -10,6 +10,7 @@ use Rattle.checking.specs.inner_contracts.Directory.{entity_interface_row}
 use Rattle.checking.specs.inner_contracts.Resolution.{FIRST_VARIABLE, References, scope_row, Scopes}
 use Rattle.checking.specs.definitions.CountFaults.{MOST_INTERFACES, MOST_VARIABLES}
 use Rattle.cell_sets.specs.definitions.Sets.{has_bit}
+use Rattle.cycles.specs.declared.bindings.Range.{Range}
 use Rattle.cycles.specs.declared.evaluate.Binding.{Binding}
 use Rattle.cycles.specs.definitions.Store.{Store}
 use Rattle.cycles.specs.definitions.Spots.{spots}
@@ -71,9 +72,10 @@ pub record Ranged (d flags : List ℕ) (n face first end : ℕ) : Type 0 where
   pub most : end ≤ n
   pub among : (e : ℕ) → e < n → candidate d flags face e ≡ true → (first ≤ e) × (e < end)
 
--- the same for each interface, in two rows
-abbrev pub Ranges : List ℕ → List ℕ → ℕ → List ℕ → Type 0
-Ranges d flags n ranges = (face : ℕ) → face < MOST_INTERFACES → Ranged d flags n face (get_or ranges (2 * face) 0) (get_or ranges (2 * face + 1) 0)
+-- the same for each interface
+abbrev pub Ranges : List ℕ → List ℕ → ℕ → List Range → Type 0
+Ranges d flags n ranges =
+    (face : ℕ) (other : Range) → face < MOST_INTERFACES → Ranged d flags n face (get_or ranges face other).first (get_or ranges face other).end
 
 -- r is b with entity e for variable number `level`, the next one
 pub record EntityAdded (b : Binding) (level e : ℕ) (r : Binding) : Type 0 where

@@ -1,6 +1,6 @@
 -- What is left of `put_fresh_stores`.
 use Rattle.cycles.proofs.steps.FreshPlanes.{flags_run, unset_cells_run, fresh_put}
-use Rattle.std.proofs.Common.{◌*◌, arith}
+use Rattle.std.proofs.Common.{◌*◌}
 use Rattle.cycles.proofs.fresh.put_fresh_stores.Goals as goal
 
 pub returns : goal.returns
