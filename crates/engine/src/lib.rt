@@ -175,7 +175,7 @@ fn put_day_sheet(
 pub fn bench_byte_class(byte: u8) -> u64
     ensures { ClassContract byte result }
 {
-    class_of_byte(byte) as u64
+    u64::from(class_of_byte(byte).number())
 }
 
 // Where the name of an entity stands in a bench text: 256 times its length and 65536 times its offset; 0 if the text has no entity with that number,

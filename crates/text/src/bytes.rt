@@ -1,328 +1,368 @@
 // The class of each byte of a bench file, in one table: whatever the lexer asks of a byte's class it takes from there (document 02, order 4).
-ghost use Rattle.std.specs.Prelude.{◌≡◌, ℕ, length};
+ghost use Rattle.std.specs.Prelude.{◌≡◌};
+ghost use Rattle.text.specs.definitions.Bytes.{is_name_byte, is_digit, is_comment_byte};
 ghost use Rattle.text.specs.definitions.ByteClass.{byte_class};
-ghost use Rattle.text.specs.inner_contracts.ByteTables.{BYTES, at_bytes, mark_class};
+ghost use Rattle.text.specs.inner_contracts.ByteTables.{mark_class, number_of};
 
-use crate::classes;
+use crate::bytes::ByteClass::{
+    Blank, CommentOnly, Digit, Hash, Letter, Mark, NotAllowed, Underscore,
+};
+use crate::classes::{
+    BRACE_CLOSE, BRACE_OPEN, COLON, COMMA, DIVIDE, DOT, EQUALS, MINUS, NAME, PLUS, ROUND_CLOSE,
+    ROUND_OPEN, TIMES,
+};
 
-// The classes, numbered as document 02 lists them.
-pub const LETTER: u8 = 0;
+/// What a byte is in a bench file, as document 02 lists it.
+#[repr(u8)]
+#[derive(Clone, Copy, Debug, PartialEq, Eq)]
+pub enum ByteClass {
+    Letter,
+    Digit,
+    Underscore,
+    Mark,
+    Blank,
+    Hash,
+    CommentOnly,
+    NotAllowed,
+}
 
-pub const DIGIT: u8 = 1;
-
-pub const UNDERSCORE: u8 = 2;
-
-pub const MARK: u8 = 3;
-
-pub const BLANK: u8 = 4;
-
-pub const HASH: u8 = 5;
-
-pub const COMMENT_ONLY: u8 = 6;
-
-pub const NOT_ALLOWED: u8 = 7;
+impl ByteClass {
+    /// Its number in that list, from 0.
+    pub fn number(self) -> u8
+        ensures { result ≡ number_of self }
+    {
+        self as u8
+    }
+}
 
 // An entry for each byte, in their order.
-const CLASSES: [u8; 256] = [
-    NOT_ALLOWED, // 0
-    NOT_ALLOWED, // 1
-    NOT_ALLOWED, // 2
-    NOT_ALLOWED, // 3
-    NOT_ALLOWED, // 4
-    NOT_ALLOWED, // 5
-    NOT_ALLOWED, // 6
-    NOT_ALLOWED, // 7
-    NOT_ALLOWED, // 8
-    BLANK, // 9 tab
-    BLANK, // 10 line feed
-    NOT_ALLOWED, // 11
-    NOT_ALLOWED, // 12
-    NOT_ALLOWED, // 13
-    NOT_ALLOWED, // 14
-    NOT_ALLOWED, // 15
-    NOT_ALLOWED, // 16
-    NOT_ALLOWED, // 17
-    NOT_ALLOWED, // 18
-    NOT_ALLOWED, // 19
-    NOT_ALLOWED, // 20
-    NOT_ALLOWED, // 21
-    NOT_ALLOWED, // 22
-    NOT_ALLOWED, // 23
-    NOT_ALLOWED, // 24
-    NOT_ALLOWED, // 25
-    NOT_ALLOWED, // 26
-    NOT_ALLOWED, // 27
-    NOT_ALLOWED, // 28
-    NOT_ALLOWED, // 29
-    NOT_ALLOWED, // 30
-    NOT_ALLOWED, // 31
-    BLANK, // 32 space
-    COMMENT_ONLY, // 33 !
-    COMMENT_ONLY, // 34 "
-    HASH, // 35 #
-    COMMENT_ONLY, // 36 $
-    COMMENT_ONLY, // 37 %
-    COMMENT_ONLY, // 38 &
-    COMMENT_ONLY, // 39 '
-    MARK, // 40 (
-    MARK, // 41 )
-    MARK, // 42 *
-    MARK, // 43 +
-    MARK, // 44 ,
-    MARK, // 45 -
-    MARK, // 46 .
-    MARK, // 47 /
-    DIGIT, // 48 0
-    DIGIT, // 49 1
-    DIGIT, // 50 2
-    DIGIT, // 51 3
-    DIGIT, // 52 4
-    DIGIT, // 53 5
-    DIGIT, // 54 6
-    DIGIT, // 55 7
-    DIGIT, // 56 8
-    DIGIT, // 57 9
-    MARK, // 58 :
-    COMMENT_ONLY, // 59 ;
-    COMMENT_ONLY, // 60 <
-    MARK, // 61 =
-    COMMENT_ONLY, // 62 >
-    COMMENT_ONLY, // 63 ?
-    COMMENT_ONLY, // 64 @
-    LETTER, // 65 A
-    LETTER, // 66 B
-    LETTER, // 67 C
-    LETTER, // 68 D
-    LETTER, // 69 E
-    LETTER, // 70 F
-    LETTER, // 71 G
-    LETTER, // 72 H
-    LETTER, // 73 I
-    LETTER, // 74 J
-    LETTER, // 75 K
-    LETTER, // 76 L
-    LETTER, // 77 M
-    LETTER, // 78 N
-    LETTER, // 79 O
-    LETTER, // 80 P
-    LETTER, // 81 Q
-    LETTER, // 82 R
-    LETTER, // 83 S
-    LETTER, // 84 T
-    LETTER, // 85 U
-    LETTER, // 86 V
-    LETTER, // 87 W
-    LETTER, // 88 X
-    LETTER, // 89 Y
-    LETTER, // 90 Z
-    COMMENT_ONLY, // 91 [
-    COMMENT_ONLY, // 92 \
-    COMMENT_ONLY, // 93 ]
-    COMMENT_ONLY, // 94 ^
-    UNDERSCORE, // 95 _
-    COMMENT_ONLY, // 96 `
-    LETTER, // 97 a
-    LETTER, // 98 b
-    LETTER, // 99 c
-    LETTER, // 100 d
-    LETTER, // 101 e
-    LETTER, // 102 f
-    LETTER, // 103 g
-    LETTER, // 104 h
-    LETTER, // 105 i
-    LETTER, // 106 j
-    LETTER, // 107 k
-    LETTER, // 108 l
-    LETTER, // 109 m
-    LETTER, // 110 n
-    LETTER, // 111 o
-    LETTER, // 112 p
-    LETTER, // 113 q
-    LETTER, // 114 r
-    LETTER, // 115 s
-    LETTER, // 116 t
-    LETTER, // 117 u
-    LETTER, // 118 v
-    LETTER, // 119 w
-    LETTER, // 120 x
-    LETTER, // 121 y
-    LETTER, // 122 z
-    MARK, // 123 {
-    COMMENT_ONLY, // 124 |
-    MARK, // 125 }
-    COMMENT_ONLY, // 126 ~
-    NOT_ALLOWED, // 127
-    NOT_ALLOWED, // 128
-    NOT_ALLOWED, // 129
-    NOT_ALLOWED, // 130
-    NOT_ALLOWED, // 131
-    NOT_ALLOWED, // 132
-    NOT_ALLOWED, // 133
-    NOT_ALLOWED, // 134
-    NOT_ALLOWED, // 135
-    NOT_ALLOWED, // 136
-    NOT_ALLOWED, // 137
-    NOT_ALLOWED, // 138
-    NOT_ALLOWED, // 139
-    NOT_ALLOWED, // 140
-    NOT_ALLOWED, // 141
-    NOT_ALLOWED, // 142
-    NOT_ALLOWED, // 143
-    NOT_ALLOWED, // 144
-    NOT_ALLOWED, // 145
-    NOT_ALLOWED, // 146
-    NOT_ALLOWED, // 147
-    NOT_ALLOWED, // 148
-    NOT_ALLOWED, // 149
-    NOT_ALLOWED, // 150
-    NOT_ALLOWED, // 151
-    NOT_ALLOWED, // 152
-    NOT_ALLOWED, // 153
-    NOT_ALLOWED, // 154
-    NOT_ALLOWED, // 155
-    NOT_ALLOWED, // 156
-    NOT_ALLOWED, // 157
-    NOT_ALLOWED, // 158
-    NOT_ALLOWED, // 159
-    NOT_ALLOWED, // 160
-    NOT_ALLOWED, // 161
-    NOT_ALLOWED, // 162
-    NOT_ALLOWED, // 163
-    NOT_ALLOWED, // 164
-    NOT_ALLOWED, // 165
-    NOT_ALLOWED, // 166
-    NOT_ALLOWED, // 167
-    NOT_ALLOWED, // 168
-    NOT_ALLOWED, // 169
-    NOT_ALLOWED, // 170
-    NOT_ALLOWED, // 171
-    NOT_ALLOWED, // 172
-    NOT_ALLOWED, // 173
-    NOT_ALLOWED, // 174
-    NOT_ALLOWED, // 175
-    NOT_ALLOWED, // 176
-    NOT_ALLOWED, // 177
-    NOT_ALLOWED, // 178
-    NOT_ALLOWED, // 179
-    NOT_ALLOWED, // 180
-    NOT_ALLOWED, // 181
-    NOT_ALLOWED, // 182
-    NOT_ALLOWED, // 183
-    NOT_ALLOWED, // 184
-    NOT_ALLOWED, // 185
-    NOT_ALLOWED, // 186
-    NOT_ALLOWED, // 187
-    NOT_ALLOWED, // 188
-    NOT_ALLOWED, // 189
-    NOT_ALLOWED, // 190
-    NOT_ALLOWED, // 191
-    NOT_ALLOWED, // 192
-    NOT_ALLOWED, // 193
-    NOT_ALLOWED, // 194
-    NOT_ALLOWED, // 195
-    NOT_ALLOWED, // 196
-    NOT_ALLOWED, // 197
-    NOT_ALLOWED, // 198
-    NOT_ALLOWED, // 199
-    NOT_ALLOWED, // 200
-    NOT_ALLOWED, // 201
-    NOT_ALLOWED, // 202
-    NOT_ALLOWED, // 203
-    NOT_ALLOWED, // 204
-    NOT_ALLOWED, // 205
-    NOT_ALLOWED, // 206
-    NOT_ALLOWED, // 207
-    NOT_ALLOWED, // 208
-    NOT_ALLOWED, // 209
-    NOT_ALLOWED, // 210
-    NOT_ALLOWED, // 211
-    NOT_ALLOWED, // 212
-    NOT_ALLOWED, // 213
-    NOT_ALLOWED, // 214
-    NOT_ALLOWED, // 215
-    NOT_ALLOWED, // 216
-    NOT_ALLOWED, // 217
-    NOT_ALLOWED, // 218
-    NOT_ALLOWED, // 219
-    NOT_ALLOWED, // 220
-    NOT_ALLOWED, // 221
-    NOT_ALLOWED, // 222
-    NOT_ALLOWED, // 223
-    NOT_ALLOWED, // 224
-    NOT_ALLOWED, // 225
-    NOT_ALLOWED, // 226
-    NOT_ALLOWED, // 227
-    NOT_ALLOWED, // 228
-    NOT_ALLOWED, // 229
-    NOT_ALLOWED, // 230
-    NOT_ALLOWED, // 231
-    NOT_ALLOWED, // 232
-    NOT_ALLOWED, // 233
-    NOT_ALLOWED, // 234
-    NOT_ALLOWED, // 235
-    NOT_ALLOWED, // 236
-    NOT_ALLOWED, // 237
-    NOT_ALLOWED, // 238
-    NOT_ALLOWED, // 239
-    NOT_ALLOWED, // 240
-    NOT_ALLOWED, // 241
-    NOT_ALLOWED, // 242
-    NOT_ALLOWED, // 243
-    NOT_ALLOWED, // 244
-    NOT_ALLOWED, // 245
-    NOT_ALLOWED, // 246
-    NOT_ALLOWED, // 247
-    NOT_ALLOWED, // 248
-    NOT_ALLOWED, // 249
-    NOT_ALLOWED, // 250
-    NOT_ALLOWED, // 251
-    NOT_ALLOWED, // 252
-    NOT_ALLOWED, // 253
-    NOT_ALLOWED, // 254
-    NOT_ALLOWED, // 255
+static CLASSES: [ByteClass; 256] = [
+    NotAllowed, // 0
+    NotAllowed, // 1
+    NotAllowed, // 2
+    NotAllowed, // 3
+    NotAllowed, // 4
+    NotAllowed, // 5
+    NotAllowed, // 6
+    NotAllowed, // 7
+    NotAllowed, // 8
+    Blank, // 9 tab
+    Blank, // 10 line feed
+    NotAllowed, // 11
+    NotAllowed, // 12
+    NotAllowed, // 13
+    NotAllowed, // 14
+    NotAllowed, // 15
+    NotAllowed, // 16
+    NotAllowed, // 17
+    NotAllowed, // 18
+    NotAllowed, // 19
+    NotAllowed, // 20
+    NotAllowed, // 21
+    NotAllowed, // 22
+    NotAllowed, // 23
+    NotAllowed, // 24
+    NotAllowed, // 25
+    NotAllowed, // 26
+    NotAllowed, // 27
+    NotAllowed, // 28
+    NotAllowed, // 29
+    NotAllowed, // 30
+    NotAllowed, // 31
+    Blank, // 32 space
+    CommentOnly, // 33 !
+    CommentOnly, // 34 "
+    Hash, // 35 #
+    CommentOnly, // 36 $
+    CommentOnly, // 37 %
+    CommentOnly, // 38 &
+    CommentOnly, // 39 '
+    Mark, // 40 (
+    Mark, // 41 )
+    Mark, // 42 *
+    Mark, // 43 +
+    Mark, // 44 ,
+    Mark, // 45 -
+    Mark, // 46 .
+    Mark, // 47 /
+    Digit, // 48 0
+    Digit, // 49 1
+    Digit, // 50 2
+    Digit, // 51 3
+    Digit, // 52 4
+    Digit, // 53 5
+    Digit, // 54 6
+    Digit, // 55 7
+    Digit, // 56 8
+    Digit, // 57 9
+    Mark, // 58 :
+    CommentOnly, // 59 ;
+    CommentOnly, // 60 <
+    Mark, // 61 =
+    CommentOnly, // 62 >
+    CommentOnly, // 63 ?
+    CommentOnly, // 64 @
+    Letter, // 65 A
+    Letter, // 66 B
+    Letter, // 67 C
+    Letter, // 68 D
+    Letter, // 69 E
+    Letter, // 70 F
+    Letter, // 71 G
+    Letter, // 72 H
+    Letter, // 73 I
+    Letter, // 74 J
+    Letter, // 75 K
+    Letter, // 76 L
+    Letter, // 77 M
+    Letter, // 78 N
+    Letter, // 79 O
+    Letter, // 80 P
+    Letter, // 81 Q
+    Letter, // 82 R
+    Letter, // 83 S
+    Letter, // 84 T
+    Letter, // 85 U
+    Letter, // 86 V
+    Letter, // 87 W
+    Letter, // 88 X
+    Letter, // 89 Y
+    Letter, // 90 Z
+    CommentOnly, // 91 [
+    CommentOnly, // 92 \
+    CommentOnly, // 93 ]
+    CommentOnly, // 94 ^
+    Underscore, // 95 _
+    CommentOnly, // 96 `
+    Letter, // 97 a
+    Letter, // 98 b
+    Letter, // 99 c
+    Letter, // 100 d
+    Letter, // 101 e
+    Letter, // 102 f
+    Letter, // 103 g
+    Letter, // 104 h
+    Letter, // 105 i
+    Letter, // 106 j
+    Letter, // 107 k
+    Letter, // 108 l
+    Letter, // 109 m
+    Letter, // 110 n
+    Letter, // 111 o
+    Letter, // 112 p
+    Letter, // 113 q
+    Letter, // 114 r
+    Letter, // 115 s
+    Letter, // 116 t
+    Letter, // 117 u
+    Letter, // 118 v
+    Letter, // 119 w
+    Letter, // 120 x
+    Letter, // 121 y
+    Letter, // 122 z
+    Mark, // 123 {
+    CommentOnly, // 124 |
+    Mark, // 125 }
+    CommentOnly, // 126 ~
+    NotAllowed, // 127
+    NotAllowed, // 128
+    NotAllowed, // 129
+    NotAllowed, // 130
+    NotAllowed, // 131
+    NotAllowed, // 132
+    NotAllowed, // 133
+    NotAllowed, // 134
+    NotAllowed, // 135
+    NotAllowed, // 136
+    NotAllowed, // 137
+    NotAllowed, // 138
+    NotAllowed, // 139
+    NotAllowed, // 140
+    NotAllowed, // 141
+    NotAllowed, // 142
+    NotAllowed, // 143
+    NotAllowed, // 144
+    NotAllowed, // 145
+    NotAllowed, // 146
+    NotAllowed, // 147
+    NotAllowed, // 148
+    NotAllowed, // 149
+    NotAllowed, // 150
+    NotAllowed, // 151
+    NotAllowed, // 152
+    NotAllowed, // 153
+    NotAllowed, // 154
+    NotAllowed, // 155
+    NotAllowed, // 156
+    NotAllowed, // 157
+    NotAllowed, // 158
+    NotAllowed, // 159
+    NotAllowed, // 160
+    NotAllowed, // 161
+    NotAllowed, // 162
+    NotAllowed, // 163
+    NotAllowed, // 164
+    NotAllowed, // 165
+    NotAllowed, // 166
+    NotAllowed, // 167
+    NotAllowed, // 168
+    NotAllowed, // 169
+    NotAllowed, // 170
+    NotAllowed, // 171
+    NotAllowed, // 172
+    NotAllowed, // 173
+    NotAllowed, // 174
+    NotAllowed, // 175
+    NotAllowed, // 176
+    NotAllowed, // 177
+    NotAllowed, // 178
+    NotAllowed, // 179
+    NotAllowed, // 180
+    NotAllowed, // 181
+    NotAllowed, // 182
+    NotAllowed, // 183
+    NotAllowed, // 184
+    NotAllowed, // 185
+    NotAllowed, // 186
+    NotAllowed, // 187
+    NotAllowed, // 188
+    NotAllowed, // 189
+    NotAllowed, // 190
+    NotAllowed, // 191
+    NotAllowed, // 192
+    NotAllowed, // 193
+    NotAllowed, // 194
+    NotAllowed, // 195
+    NotAllowed, // 196
+    NotAllowed, // 197
+    NotAllowed, // 198
+    NotAllowed, // 199
+    NotAllowed, // 200
+    NotAllowed, // 201
+    NotAllowed, // 202
+    NotAllowed, // 203
+    NotAllowed, // 204
+    NotAllowed, // 205
+    NotAllowed, // 206
+    NotAllowed, // 207
+    NotAllowed, // 208
+    NotAllowed, // 209
+    NotAllowed, // 210
+    NotAllowed, // 211
+    NotAllowed, // 212
+    NotAllowed, // 213
+    NotAllowed, // 214
+    NotAllowed, // 215
+    NotAllowed, // 216
+    NotAllowed, // 217
+    NotAllowed, // 218
+    NotAllowed, // 219
+    NotAllowed, // 220
+    NotAllowed, // 221
+    NotAllowed, // 222
+    NotAllowed, // 223
+    NotAllowed, // 224
+    NotAllowed, // 225
+    NotAllowed, // 226
+    NotAllowed, // 227
+    NotAllowed, // 228
+    NotAllowed, // 229
+    NotAllowed, // 230
+    NotAllowed, // 231
+    NotAllowed, // 232
+    NotAllowed, // 233
+    NotAllowed, // 234
+    NotAllowed, // 235
+    NotAllowed, // 236
+    NotAllowed, // 237
+    NotAllowed, // 238
+    NotAllowed, // 239
+    NotAllowed, // 240
+    NotAllowed, // 241
+    NotAllowed, // 242
+    NotAllowed, // 243
+    NotAllowed, // 244
+    NotAllowed, // 245
+    NotAllowed, // 246
+    NotAllowed, // 247
+    NotAllowed, // 248
+    NotAllowed, // 249
+    NotAllowed, // 250
+    NotAllowed, // 251
+    NotAllowed, // 252
+    NotAllowed, // 253
+    NotAllowed, // 254
+    NotAllowed, // 255
 ];
 
-// The table of classes. A function that names a `const` array builds it anew, so who looks up many bytes asks for the table once and lends it.
-pub fn class_table() -> [u8; 256]
-    ensures { result ≡ at_bytes byte_class }
+// The class of the token that each mark from `(` to `=` is; NAME for what is none. A table, since a `match` of so many arms is a jump at each mark.
+static MARKS: [u8; 22] = [
+    ROUND_OPEN, // (
+    ROUND_CLOSE, // )
+    TIMES, // *
+    PLUS, // +
+    COMMA, // ,
+    MINUS, // -
+    DOT, // .
+    DIVIDE, // /
+    NAME, // 0
+    NAME, // 1
+    NAME, // 2
+    NAME, // 3
+    NAME, // 4
+    NAME, // 5
+    NAME, // 6
+    NAME, // 7
+    NAME, // 8
+    NAME, // 9
+    COLON, // :
+    NAME, // ;
+    NAME, // <
+    EQUALS, // =
+];
+
+/// The class of a byte.
+pub fn class_of_byte(b: u8) -> ByteClass
+    ensures { number_of result ≡ byte_class b }
 {
-    CLASSES
+    CLASSES[usize::from(b)]
 }
 
-// For each mark the class of the token that it is; NAME, which no mark has, for other bytes.
-pub fn mark_table() -> [u8; 256]
-    ensures { result ≡ at_bytes mark_class }
+/// "Letters, digits or `_`".
+pub fn is_name_byte(b: u8) -> bool
+    ensures { result ≡ is_name_byte b }
 {
-    let mut marks = [classes::NAME; 256];
-    marks[123] = classes::BRACE_OPEN; // {
-    marks[125] = classes::BRACE_CLOSE; // }
-    marks[40] = classes::ROUND_OPEN; // (
-    marks[41] = classes::ROUND_CLOSE; // )
-    marks[58] = classes::COLON; // :
-    marks[61] = classes::EQUALS; // =
-    marks[44] = classes::COMMA; // ,
-    marks[46] = classes::DOT; // .
-    marks[43] = classes::PLUS; // +
-    marks[45] = classes::MINUS; // -
-    marks[42] = classes::TIMES; // *
-    marks[47] = classes::DIVIDE; // /
-    marks
+    matches!(class_of_byte(b), Letter | Digit | Underscore)
 }
 
-// The entry of a byte in either table: what the table's function gives for it.
-#[tactic(auto, using(crate::proofs::laws::ByteTableLaws::entry_at))]
-pub fn entry(table: &[u8], b: u8) -> u8
-    requires { length table.now ≡ BYTES }
-    ensures { (f : ℕ → ℕ) → table.now ≡ at_bytes f → result ≡ f b }
+/// "Digits".
+#[tactic(auto, using(crate::proofs::laws::ClassLaws::digit_byte))]
+pub fn is_digit(b: u8) -> bool
+    ensures { result ≡ is_digit b }
 {
-    table[b as usize]
+    matches!(class_of_byte(b), Digit)
 }
 
-// The class of one byte.
-#[tactic(auto, using(crate::proofs::laws::ByteTableLaws::length_at_bytes))]
-pub fn class_of_byte(b: u8) -> u8
-    ensures { result ≡ byte_class b }
+/// What a comment goes on with. Of the blanks, the line feed ends it.
+#[tactic(auto, using(crate::proofs::laws::ClassLaws::no_comment))]
+pub fn is_comment_byte(b: u8) -> bool
+    ensures { result ≡ is_comment_byte b }
 {
-    let table = class_table();
-    entry(&table, b)
+    match class_of_byte(b) {
+        NotAllowed => false,
+        _ => b != b'\n',
+    }
+}
+
+/// The class of the token that a mark is; NAME, which no mark has, for other bytes.
+#[tactic(auto, unfolding(crate::specs::inner_contracts::ByteTables::mark_class))]
+pub fn mark_class(b: u8) -> u8
+    ensures { result ≡ mark_class b }
+{
+    match b {
+        b'('..=b'=' => MARKS[usize::from(b - b'(')],
+        b'{' => BRACE_OPEN,
+        b'}' => BRACE_CLOSE,
+        _ => NAME,
+    }
 }

@@ -12,7 +12,7 @@ pub mod reading; // a text into columns of tokens that are a file
 pub mod tokens; // what begins at an offset, and all tokens as columns
 pub mod walks; // steps over a column, and where a reading ends
 
-pub use bytes::class_of_byte;
+pub use bytes::{ByteClass, class_of_byte};
 pub use grammar::{Unfit, parse};
 pub use reader::item_at;
 pub use reading::read;
@@ -65,12 +65,4 @@ impl SyntaxError {
             SyntaxError::NoRoom => 0,
         }
     }
-}
-
-// What a run of bytes belongs to.
-#[derive(Clone, Copy)]
-pub enum Run {
-    Comment,
-    Name,
-    Digits,
 }

@@ -1,95 +1,47 @@
 // The tokens of a bench file: what begins at an offset, and the whole text's tokens as columns.
 ghost use Rattle.std.specs.Prelude.{◌≡◌, List, [], ◌∷◌, true, ◌+◌, ◌-◌, ◌≤◌, ◌<◌, length, drop};
 ghost use Rattle.std.proofs.Math.Option.{get_or};
-ghost use Rattle.text.specs.definitions.Bytes.{run, is_digit, is_comment_byte};
-ghost use Rattle.text.specs.definitions.ByteClass.{byte_class};
+ghost use Rattle.text.specs.definitions.Bytes.{run, is_digit};
 ghost use Rattle.text.specs.definitions.Tokens;
 ghost use Rattle.text.specs.definitions.Tokens.{Fixed, spelled, reserved, class_in, name_item, number_item, digits_value};
-ghost use Rattle.text.specs.inner_contracts.ByteTables.{at_bytes, mark_class};
-ghost use Rattle.text.specs.inner_contracts.TokenTable.{goes_on, of_length, part, located, token_at, offset_after, columns_of, Lexes};
+ghost use Rattle.text.specs.inner_contracts.TokenTable.{RunTo, of_length, part, located, token_at, offset_after, columns_of, Lexes};
 
-use crate::bytes::{
-    BLANK, DIGIT, HASH, LETTER, MARK, NOT_ALLOWED, UNDERSCORE, class_table, entry, mark_table,
-};
-use crate::reader::item_in;
-use crate::{Item, Run, SyntaxError, classes};
+use crate::bytes::{ByteClass, class_of_byte, is_comment_byte, is_digit, is_name_byte, mark_class};
+use crate::reader::item_at;
+use crate::{Item, SyntaxError, classes};
 use values::slices::same_bytes;
 
 // ---- runs
 
-// Does a comment go on with the byte, which has this class? Of the blanks, the line feed ends it.
-#[tactic(auto, using(crate::proofs::laws::ClassLaws::early_in_comment, crate::proofs::laws::ClassLaws::not_in_comment, crate::proofs::laws::ClassLaws::late_in_comment))]
-fn is_in_comment(class: u8, b: u8) -> bool
-    requires { class ≡ byte_class b }
-    ensures { result ≡ is_comment_byte b }
-{
-    if class < BLANK {
-        return true;
-    }
-    if class == NOT_ALLOWED {
-        return false;
-    }
-    b != b'\n'
-}
-
-// Does a run go on with the byte?
-#[tactic(auto, using(crate::proofs::laws::ByteTableLaws::length_at_bytes, crate::proofs::laws::ClassLaws::in_name_by, crate::proofs::laws::ClassLaws::digit_by))]
-fn runs_on(table: &[u8], which: Run, b: u8) -> bool
-    requires { table.now ≡ at_bytes byte_class }
-    ensures { result ≡ goes_on which b }
-{
-    let class = entry(table, b);
-    match which {
-        Run::Comment => is_in_comment(class, b),
-        Run::Name => class <= UNDERSCORE,
-        Run::Digits => class == DIGIT,
-    }
-}
-
-// Where the longest run from an offset on ends, byte by byte.
-#[tactic(auto, using(crate::proofs::steps::RunSteps::running_start, crate::proofs::steps::RunSteps::runs_further, crate::proofs::steps::RunSteps::run_ends, crate::proofs::laws::RunLaws::run_past))]
-fn short_run_end(table: &[u8], text: &[u8], at: usize, which: Run) -> usize
-    requires table_value { table.now ≡ at_bytes byte_class }
+// Where the longest run of bytes that pass a test ends, from an offset on: four bytes a turn while so many are left, since one test for the text's
+// end then serves all four (by single bytes the lexer is a tenth slower).
+fn run_end<F: Fn(u8) -> bool>(text: &[u8], at: usize, passes: F) -> usize
+    requires callable { F.IsAlwaysCallable passes }
     requires at_in_bounds { at ≤ length text.now }
-    ensures { (result ≡ at + length (run (goes_on which) (drop at text.now))) × (result ≤ length text.now) }
+    ensures { RunTo text.now (F.post passes) at result }
 {
-    let mut i = at;
-    while i < text.len() {
-        if !runs_on(table, which, text[i]) {
-            return i;
+    let mut end = at;
+    while 4 <= text.len() - end {
+        if !passes(text[end]) {
+            return end;
         }
-        i += 1;
+        if !passes(text[end + 1]) {
+            return end + 1;
+        }
+        if !passes(text[end + 2]) {
+            return end + 2;
+        }
+        if !passes(text[end + 3]) {
+            return end + 3;
+        }
+        end += 4;
     }
-    i
-}
-
-// The same, four bytes a turn while so many are left: one test for the text's end serves all four.
-#[tactic(auto, using(crate::proofs::steps::RunSteps::running_start, crate::proofs::steps::RunSteps::runs_further, crate::proofs::steps::RunSteps::run_ends))]
-fn run_end(table: &[u8], text: &[u8], at: usize, which: Run) -> usize
-    requires table_value { table.now ≡ at_bytes byte_class }
-    requires at_in_bounds { at ≤ length text.now }
-    ensures { (result ≡ at + length (run (goes_on which) (drop at text.now))) × (result ≤ length text.now) }
-{
-    let mut i = at;
-    while 4 <= text.len() - i {
-        let second = i + 1;
-        let third = second + 1;
-        let fourth = third + 1;
-        if !runs_on(table, which, text[i]) {
-            return i;
+    for last in end..text.len() {
+        if !passes(text[last]) {
+            return last;
         }
-        if !runs_on(table, which, text[second]) {
-            return second;
-        }
-        if !runs_on(table, which, text[third]) {
-            return third;
-        }
-        if !runs_on(table, which, text[fourth]) {
-            return fourth;
-        }
-        i = fourth + 1;
     }
-    short_run_end(table, text, i, which)
+    text.len()
 }
 
 // ---- names and reserved words
@@ -239,10 +191,9 @@ fn number_at(text: &[u8], at: usize, end: usize) -> Item
     }
 }
 
-// What begins at an offset, by the tables of byte classes and of marks.
-#[tactic(auto, using(crate::proofs::laws::ByteTableLaws::length_at_bytes, crate::proofs::steps::StepLaws::at_end, crate::proofs::steps::StepLaws::blank_at, crate::proofs::steps::StepLaws::comment_at, crate::proofs::steps::StepLaws::name_at, crate::proofs::steps::StepLaws::digits_at, crate::proofs::steps::StepLaws::number_at, crate::proofs::steps::StepLaws::mark_at, crate::proofs::steps::StepLaws::nothing_at))]
-pub(crate) fn token_by(table: &[u8], marks: &[u8], text: &[u8], at: usize) -> Item
-    requires { (table.now ≡ at_bytes byte_class) × (marks.now ≡ at_bytes mark_class) }
+// What begins at an offset.
+#[tactic(auto, using(crate::proofs::steps::StepLaws::at_end, crate::proofs::steps::StepLaws::blank_at, crate::proofs::steps::StepLaws::comment_at, crate::proofs::steps::StepLaws::name_at, crate::proofs::steps::StepLaws::digits_at, crate::proofs::steps::StepLaws::number_at, crate::proofs::steps::StepLaws::mark_at, crate::proofs::steps::StepLaws::nothing_at))]
+pub(crate) fn token_at(text: &[u8], at: usize) -> Item
     ensures { result ≡ token_at text.now at }
 {
     if text.len() <= at {
@@ -250,28 +201,18 @@ pub(crate) fn token_by(table: &[u8], marks: &[u8], text: &[u8], at: usize) -> It
     }
     let b = text[at];
     let next = at + 1;
-    let class = entry(table, b);
-    match class {
-        LETTER => name_at(text, at, run_end(table, text, next, Run::Name)),
-        DIGIT => number_at(text, at, run_end(table, text, next, Run::Digits)),
-        MARK => Item::Found {
-            class: entry(marks, b),
+    match class_of_byte(b) {
+        ByteClass::Letter => name_at(text, at, run_end(text, next, is_name_byte)),
+        ByteClass::Digit => number_at(text, at, run_end(text, next, is_digit)),
+        ByteClass::Mark => Item::Found {
+            class: mark_class(b),
             value: 0,
-            next: next,
+            next,
         },
-        BLANK => Item::Gap(next),
-        HASH => Item::Gap(run_end(table, text, next, Run::Comment)),
-        _ => Item::Bad,
+        ByteClass::Blank => Item::Gap(next),
+        ByteClass::Hash => Item::Gap(run_end(text, next, is_comment_byte)),
+        ByteClass::Underscore | ByteClass::CommentOnly | ByteClass::NotAllowed => Item::Bad,
     }
-}
-
-// What begins at an offset.
-pub(crate) fn token_at(text: &[u8], at: usize) -> Item
-    ensures { result ≡ token_at text.now at }
-{
-    let table = class_table();
-    let marks = mark_table();
-    token_by(&table, &marks, text, at)
 }
 
 // The offset after what begins at an offset; the same where nothing does.
@@ -279,51 +220,42 @@ pub(crate) fn token_at(text: &[u8], at: usize) -> Item
 pub(crate) fn offset_after(text: &[u8], at: usize) -> usize
     ensures { result ≡ offset_after text.now at }
 {
-    let item = token_at(text, at);
-    match item {
+    match token_at(text, at) {
         Item::Gap(next) => next,
         Item::Found { next, .. } => next,
-        Item::Bad => at,
-        Item::End => at,
+        Item::Bad | Item::End => at,
     }
 }
 
 // ---- all tokens
 
-// The tokens of a text into columns, by the tables.
-fn lex_by(
-    table: &[u8],
-    marks: &[u8],
+/// The tokens of a text into columns, a row for each: its class, offset, length and value. Answers their count. Rows after the last may hold
+/// anything.
+pub fn lex(
     text: &[u8],
     classes: &mut [u8],
     offsets: &mut [u16],
     lengths: &mut [u8],
     values: &mut [u32],
 ) -> Result<usize, SyntaxError>
-    requires { (table.now ≡ at_bytes byte_class) × (marks.now ≡ at_bytes mark_class) }
     ensures { Lexes text.now (columns_of classes.old offsets.old lengths.old values.old)
         (columns_of classes.new offsets.new lengths.new values.new) result }
 {
     if 32768 < text.len() {
         return Err(SyntaxError::TooLong);
     }
-    if classes.len() < text.len() {
+    let rows = classes
+        .len()
+        .min(offsets.len())
+        .min(lengths.len())
+        .min(values.len());
+    if rows < text.len() {
         return Err(SyntaxError::NoRoom);
     }
-    if offsets.len() < text.len() {
-        return Err(SyntaxError::NoRoom);
-    }
-    if lengths.len() < text.len() {
-        return Err(SyntaxError::NoRoom);
-    }
-    if values.len() < text.len() {
-        return Err(SyntaxError::NoRoom);
-    }
-    let mut at: usize = 0;
-    let mut n: usize = 0;
+    let mut at = 0;
+    let mut n = 0;
     loop {
-        let item = item_in(table, marks, text, at);
-        match item {
+        match item_at(text, at) {
             Item::Gap(next) => {
                 at = next;
             }
@@ -343,20 +275,4 @@ fn lex_by(
             }
         }
     }
-}
-
-// The tokens of a text into columns, a row for each: class, offset, length and value. Rows after the last may hold anything.
-pub fn lex(
-    text: &[u8],
-    classes: &mut [u8],
-    offsets: &mut [u16],
-    lengths: &mut [u8],
-    values: &mut [u32],
-) -> Result<usize, SyntaxError>
-    ensures { Lexes text.now (columns_of classes.old offsets.old lengths.old values.old)
-        (columns_of classes.new offsets.new lengths.new values.new) result }
-{
-    let table = class_table();
-    let marks = mark_table();
-    lex_by(&table, &marks, text, classes, offsets, lengths, values)
 }

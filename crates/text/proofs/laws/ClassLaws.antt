@@ -2,17 +2,21 @@
 use Prim.Native.Nat.{ℕ, ◌<◌, ◌≤◌}
 use mathlib.Core.Path.{◌≡◌, refl, sym, ap, ◌∙◌}
 use mathlib.Core.List.{List, [], ◌∷◌}
-use mathlib.Core.Bool.{Bool, true, false, not, true≢false, false≢true}
+use mathlib.Core.Bool.{Bool, true, false, not, cond, ◌||◌, true≢false, false≢true}
 use mathlib.Core.Option.{Option, none, some, get_or}
 use lib.Dec.{leb, eqb}
 use lib.ListN.{length, drop}
-use borrow.Author.Tests.{lt-ltb, le-ltb, eq-eqb, ne_eqb}
+use borrow.Author.Tests.{ne_eqb}
+use mathlib.Core.Logic.{◌⊎◌, inl, inr}
+use Rattle.text.specs.declared.bytes.ByteClass.{ByteClass}
+use Rattle.text.specs.declared.bytes.ByteClass.TheVariants.{Letter, Digit, Underscore, Mark, Blank, Hash, CommentOnly, NotAllowed}
 use Rattle.text.specs.definitions.Bytes.{is_letter, is_digit, is_name_byte, is_blank, is_comment_byte, run}
 use Rattle.text.specs.definitions.Tokens.{NAME, gap, found, bad, name_item, number_item, mark_item, item, class_in, marks}
 use Rattle.text.specs.definitions.ByteClass.{LETTER, DIGIT, UNDERSCORE, MARK, BLANK, HASH, NOT_ALLOWED, is_mark, byte_class, Classified}
-use Rattle.text.specs.inner_contracts.ByteTables.{BYTES, mark_class}
+use Rattle.text.specs.inner_contracts.ByteTables.{BYTES, tabulate, mark_class, number_of}
+use Rattle.text.proofs.laws.ByteTableLaws.{agree}
 use Rattle.text.proofs.laws.ItemLaws.{item_blank, item_comment, item_name, item_number, item_mark}
-use Rattle.text.proofs.theorems.ByteClasses.{byte_classified, class_in_name, class_in_comment}
+use Rattle.text.proofs.theorems.ByteClasses.{byte_classified, class_in_name}
 
 -- a mark is a token of its own class, and what is no mark begins nothing
 module _ (b : ℕ) where
@@ -71,19 +75,71 @@ module _ (b : ℕ) (bs : List ℕ) (h : b < BYTES) where
       (letter_is refl (ne_eqb (byte_class b) LETTER l)) (digit_is refl (ne_eqb (byte_class b) DIGIT d))
       ∙ unmarked b (class_in marks (b ∷ [])) refl (mark_is refl (ne_eqb (byte_class b) MARK m))
 
--- the tests by which code tells a byte of a comment, a name or a number from its class
-module _ {b class : ℕ} (h : b < BYTES) (e : class ≡ byte_class b) where
-  pub early_in_comment : class < BLANK → true ≡ is_comment_byte b
-  early_in_comment l = sym (rw (← e, lt-ltb class BLANK l)) ∙ class_in_comment b h
+-- ---- the tests by which code tells a byte of a comment, a name or a number from its class
 
-  pub not_in_comment : BLANK ≤ class → class ≡ NOT_ALLOWED → false ≡ is_comment_byte b
-  not_in_comment l n = sym (rw (← e, le-ltb class BLANK l, eq-eqb class NOT_ALLOWED n)) ∙ class_in_comment b h
+comment_by_class : (b : ℕ) → b < BYTES → cond (eqb (byte_class b) NOT_ALLOWED) false (not (eqb b 10)) ≡ is_comment_byte b
+unfolding tabulate byte_class is_letter is_digit is_mark is_blank is_comment_byte
+comment_by_class b h = agree (λ b. cond (eqb (byte_class b) NOT_ALLOWED) false (not (eqb b 10))) is_comment_byte refl b h
 
-  pub late_in_comment : BLANK ≤ class → (class ≡ NOT_ALLOWED → ⊥) → not (eqb b 10) ≡ is_comment_byte b
-  late_in_comment l n = sym (rw (← e, le-ltb class BLANK l, ne_eqb class NOT_ALLOWED n)) ∙ class_in_comment b h
+module _ {b : ℕ} (h : b < BYTES) (k : ByteClass) (e : number_of k ≡ byte_class b) where
+  in_name : leb (number_of k) UNDERSCORE ≡ is_name_byte b
+  in_name = ap (λ c. leb c UNDERSCORE) e ∙ class_in_name b h
 
-  pub in_name_by : leb class UNDERSCORE ≡ is_name_byte b
-  in_name_by = ap (λ c. leb c UNDERSCORE) e ∙ class_in_name b h
+  pub name_byte : (k ≡ Letter) ⊎ (k ≡ Digit) ⊎ (k ≡ Underscore) → true ≡ is_name_byte b
+  name_byte q = sym (yes q) ∙ in_name
+    where
+      yes : (k ≡ Letter) ⊎ (k ≡ Digit) ⊎ (k ≡ Underscore) → leb (number_of k) UNDERSCORE ≡ true
+      yes (inl q) = rw q
+      yes (inr (inl q)) = rw q
+      yes (inr (inr q)) = rw q
 
-  pub digit_by : eqb class DIGIT ≡ is_digit b
-  digit_by = ap (λ c. eqb c DIGIT) e ∙ (byte_classified b h).digit
+  pub other_byte : (k ≡ Letter → ⊥) → (k ≡ Digit → ⊥) → (k ≡ Underscore → ⊥) → false ≡ is_name_byte b
+  other_byte l d u = sym (no k l d u) ∙ in_name
+    where
+      no : (j : ByteClass) → (j ≡ Letter → ⊥) → (j ≡ Digit → ⊥) → (j ≡ Underscore → ⊥) → leb (number_of j) UNDERSCORE ≡ false
+      no Letter l d u = absurd (l refl)
+      no Digit l d u = absurd (d refl)
+      no Underscore l d u = absurd (u refl)
+      no Mark l d u = refl
+      no Blank l d u = refl
+      no Hash l d u = refl
+      no CommentOnly l d u = refl
+      no NotAllowed l d u = refl
+
+  in_digits : eqb (number_of k) DIGIT ≡ is_digit b
+  in_digits = ap (λ c. eqb c DIGIT) e ∙ (byte_classified b h).digit
+
+  pub digit_byte : k ≡ Digit → true ≡ is_digit b
+  digit_byte q = sym (rw q) ∙ in_digits
+
+  pub no_digit : (k ≡ Digit → ⊥) → false ≡ is_digit b
+  no_digit n = sym (no k n) ∙ in_digits
+    where
+      no : (j : ByteClass) → (j ≡ Digit → ⊥) → eqb (number_of j) DIGIT ≡ false
+      no Letter n = refl
+      no Digit n = absurd (n refl)
+      no Underscore n = refl
+      no Mark n = refl
+      no Blank n = refl
+      no Hash n = refl
+      no CommentOnly n = refl
+      no NotAllowed n = refl
+
+  in_comment : cond (eqb (number_of k) NOT_ALLOWED) false (not (eqb b 10)) ≡ is_comment_byte b
+  in_comment = ap (λ c. cond (eqb c NOT_ALLOWED) false (not (eqb b 10))) e ∙ comment_by_class b h
+
+  pub no_comment : k ≡ NotAllowed → false ≡ is_comment_byte b
+  no_comment q = sym (rw q) ∙ in_comment
+
+  pub comment_byte : (k ≡ NotAllowed → ⊥) → not (eqb b 10) ≡ is_comment_byte b
+  comment_byte n = sym (no k n) ∙ in_comment
+    where
+      no : (j : ByteClass) → (j ≡ NotAllowed → ⊥) → cond (eqb (number_of j) NOT_ALLOWED) false (not (eqb b 10)) ≡ not (eqb b 10)
+      no Letter n = refl
+      no Digit n = refl
+      no Underscore n = refl
+      no Mark n = refl
+      no Blank n = refl
+      no Hash n = refl
+      no CommentOnly n = refl
+      no NotAllowed n = absurd (n refl)

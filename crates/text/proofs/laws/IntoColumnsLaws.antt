@@ -3,10 +3,11 @@ use mathlib.Core.Path.{◌≡◌, refl, sym, ap, ◌∙◌}
 use mathlib.Core.List.{List}
 use mathlib.Core.Bool.{Bool, true, false}
 use Prim.Native.Nat.{ℕ, ◌<◌, ◌≤◌}
+use native.Mathlib.Omega.{arith}
 use lib.Dec.{ltb}
 use lib.ListN.{length}
 use borrow.Author.Tests.{lt-ltb, le-ltb, ltb-true, ltb-false}
-use Rattle.std.specs.Prelude.{Result, Ok, Err}
+use Rattle.std.specs.Prelude.{Result, Ok, Err, min}
 use Rattle.text.specs.declared.SyntaxError.{SyntaxError}
 use Rattle.text.specs.declared.SyntaxError.TheVariants.{TooLong, NoTokenAt, UnfitAt, NoRoom}
 use Rattle.text.specs.definitions.Tokens.{tokens, no_token_at, tokens_of}
@@ -63,6 +64,20 @@ module _ (m : ℕ) (t : TokenColumns) where
               le-ltb (length t.lengths) m l,
               le-ltb (length t.values) m v,
             )
+
+-- the fewest rows decide
+pub lacks_fewest : (m n : ℕ) (t : TokenColumns) → n ≡ min (min (min (length t.classes) (length t.offsets)) (length t.lengths)) (length t.values) → n < m → lacks_rows m t ≡ true
+lacks_fewest m n t e h = go (ltb (length t.classes) m) refl (ltb (length t.offsets) m) refl (ltb (length t.lengths) m) refl
+  where
+    go : (a : Bool) → ltb (length t.classes) m ≡ a → (b : Bool) → ltb (length t.offsets) m ≡ b → (d : Bool) → ltb (length t.lengths) m ≡ d → lacks_rows m t ≡ true
+    go true a b f d g = lacks_classes m t (ltb-true _ m a)
+    go false a true f d g = lacks_offsets m t (ltb-false _ m a) (ltb-true _ m f)
+    go false a false f true g = lacks_lengths m t (ltb-false _ m a) (ltb-false _ m f) (ltb-true _ m g)
+    go false a false f false g =
+        let c = ltb-false _ m a in
+        let o = ltb-false _ m f in
+        let l = ltb-false _ m g in
+        lacks_values m t c o l (omega arith)
 
 -- ---- the outcome by the two tests
 

@@ -4,18 +4,21 @@ use Rattle.text.specs.declared.Item.{Item as Answer}
 use Rattle.text.specs.declared.Item.TheVariants.{Gap, Found, Bad, End}
 use Rattle.text.specs.declared.SyntaxError.{SyntaxError}
 use Rattle.text.specs.declared.SyntaxError.TheVariants.{TooLong, NoTokenAt, UnfitAt, NoRoom}
-use Rattle.text.specs.declared.Run.{Run}
-use Rattle.text.specs.declared.Run.TheVariants.{Comment, Name, Digits}
-use Rattle.text.specs.definitions.Bytes.{is_digit, is_name_byte, is_comment_byte}
+use Rattle.text.specs.definitions.Bytes.{run}
 use Rattle.text.specs.definitions.Answers.{refusal_answer}
 use Rattle.text.specs.inner_contracts.EnumAnswers.{syntax_answer}
 use Rattle.text.specs.definitions.Tokens.{Fixed, Token, Lexeme, gap, found, bad, item, Lexing, tokens, no_token_at, tokens_of}
 
--- which bytes a run goes on with
-abbrev pub goes_on : Run → ℕ → Bool
-goes_on Comment = is_comment_byte
-goes_on Name = is_name_byte
-goes_on Digits = is_digit
+-- from one offset of a text to another the bytes pass a test, and the next one does not: `passes` says what the test may answer
+pub record RunTo (text : List ℕ) (passes : ℕ → Bool → Type 0) (at end : ℕ) : Type 0 where
+  pub onward : at ≤ end
+  pub within : end ≤ length text
+  pub all : (i : ℕ) → at ≤ i → i < end → passes (get_or text i 0) true
+  pub stops : end < length text → passes (get_or text end 0) false
+
+-- the longest run from an offset on ends so
+abbrev pub EndsRun : (ℕ → Bool) → List ℕ → ℕ → ℕ → Type 0
+EndsRun test text at end = (end ≡ at + length (run test (drop at text))) × (end ≤ length text)
 
 -- the fixed tokens of n bytes
 unfoldable pub of_length : ℕ → List Fixed → List Fixed

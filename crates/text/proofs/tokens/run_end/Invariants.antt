@@ -1,11 +1,13 @@
--- The run goes on as far as the loop has come.
-use Rattle.std.proofs.Common.{◌-◌, length}
-use Rattle.text.specs.inner_contracts.TokenTable.{goes_on}
+-- Where the loops have come, all bytes pass.
+use Rattle.std.proofs.Common.{length, ◌-◌}
 use Rattle.text.proofs.steps.RunSteps.{Running}
 use Rattle.text.proofs.tokens.run_end.Given as goal
 
-abbrev pub invariant-loop-i : goal.invariant-loop-i
-invariant-loop-i l = Running (goes_on l.which) l.text l.at l.i
+abbrev pub invariant-loop-end : goal.invariant-loop-end
+invariant-loop-end g l = Running l.text (goal.F-post g l.passes) l.at l.end
 
-abbrev pub decreases-loop-i : goal.decreases-loop-i
-decreases-loop-i l = length l.text - l.i
+abbrev pub decreases-loop-end : goal.decreases-loop-end
+decreases-loop-end g l = length l.text - l.end
+
+abbrev pub invariant-loop-last : goal.invariant-loop-last
+invariant-loop-last g l = Running l.text (goal.F-post g l.passes) l.at l.last

@@ -2,7 +2,7 @@
 use Rattle.std.proofs.Common.{◌-◌, length}
 use Rattle.text.specs.inner_contracts.TokenTable.{columns_of}
 use Rattle.text.proofs.steps.LexLaws.{Going}
-use Rattle.text.proofs.tokens.lex_by.Given as goal
+use Rattle.text.proofs.tokens.lex.Given as goal
 
 abbrev pub invariant-loop-next : goal.invariant-loop-next
 invariant-loop-next l =

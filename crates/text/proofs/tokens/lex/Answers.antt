@@ -1,31 +1,17 @@
--- `lex_by` meets its contract: the rows so far and the tokens from the offset on are the tokens of the text.
+-- `lex` meets its contract: the rows so far and the tokens from the offset on are the tokens of the text.
 use Rattle.std.proofs.Common.{sym, arith}
-use Rattle.text.proofs.laws.IntoColumnsLaws.{lacks_classes, lacks_offsets, lacks_lengths, lacks_values, too_long_lexes, no_room_lexes}
+use Rattle.text.proofs.laws.IntoColumnsLaws.{lacks_fewest, too_long_lexes, no_room_lexes}
 use Rattle.text.proofs.steps.LexLaws.{going_start, going_gap, found_storable, going_found, going_bad, going_end}
-use Rattle.text.proofs.tokens.lex_by.Goals as goal
+use Rattle.text.proofs.tokens.lex.Goals as goal
 
 pub returns-then-text-gt32768 : goal.returns-then-text-gt32768
 returns-then-text-gt32768 c = too_long_lexes _ _ c.if-text-gt32768.true
 
-pub returns-then-classes-text : goal.returns-then-classes-text
-returns-then-classes-text c = no_room_lexes _ _ c.if-text-gt32768.false (lacks_classes _ _ c.if-classes-text.true)
-
-pub returns-then-offsets-text : goal.returns-then-offsets-text
-returns-then-offsets-text c = no_room_lexes _ _ c.if-text-gt32768.false (lacks_offsets _ _ c.if-classes-text.false c.if-offsets-text.true)
-
-pub returns-then-lengths-text : goal.returns-then-lengths-text
-returns-then-lengths-text c =
-    let lacks = lacks_lengths _ _ c.if-classes-text.false c.if-offsets-text.false c.if-lengths-text.true in
-    no_room_lexes _ _ c.if-text-gt32768.false lacks
-
-pub returns-then-values-text : goal.returns-then-values-text
-returns-then-values-text c =
-    let lacks = lacks_values _ _ c.if-classes-text.false c.if-offsets-text.false c.if-lengths-text.false c.if-values-text.true in
-    no_room_lexes _ _ c.if-text-gt32768.false lacks
+pub returns-then-rows-text : goal.returns-then-rows-text
+returns-then-rows-text c = no_room_lexes _ _ c.if-text-gt32768.false (lacks_fewest _ _ _ (omega arith) c.if-rows-text.true)
 
 pub loop-next-init : goal.loop-next-init
-loop-next-init c =
-    going_start _ _ _ _ _ c.if-text-gt32768.false c.if-classes-text.false c.if-offsets-text.false c.if-lengths-text.false c.if-values-text.false
+loop-next-init c = going_start _ _ _ _ _ c.if-text-gt32768.false (omega arith) (omega arith) (omega arith) (omega arith)
 
 pub loop-next-smaller-in-Gap : goal.loop-next-smaller-in-Gap
 loop-next-smaller-in-Gap c = let g = going_gap c.loop-next.invariant c.in-Gap.next (sym c.in-Gap.ensures) in omega (arith, g.0, g.1)
