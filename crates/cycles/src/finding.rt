@@ -21,6 +21,13 @@ struct Part {
     next: usize,
 }
 
+// A walk over a rule's condition that puts the guards which are dear to try, or the others.
+#[derive(Clone, Copy)]
+struct Pass<'a> {
+    rules: &'a Rules<'a>,
+    dear: bool,
+}
+
 // ---- levels
 
 // One more than the variable that token number i refers to, 0 if to none.
@@ -74,28 +81,28 @@ fn is_dear(at: usize, next: usize) -> bool {
 
 // The same, if it is one of this pass: the guards that are dear to try stand after the others.
 #[tactic(auto, using(crate::proofs::steps::GuardPuts::nothing_put))]
-fn put_in_pass(rules: &Rules<'_>, part: &Part, guards: &mut Guards, dear: bool)
-    ensures { PartPut rules.now.references.now part.now.kind part.now.name part.now.member part.now.at part.now.next
+fn put_in_pass(pass: &Pass<'_>, part: &Part, guards: &mut Guards)
+    ensures { PartPut pass.now.rules.now.references.now part.now.kind part.now.name part.now.member part.now.at part.now.next
         (record { before = guards.old.items; after = guards.new.items }) }
 {
-    if is_dear(part.at, part.next) == dear {
-        put_part(rules, part, guards);
+    if is_dear(part.at, part.next) == pass.dear {
+        put_part(pass.rules, part, guards);
     }
 }
 
 // ---- conditions
 
 // After a clause's target, whose name is token number n: nothing, or `with attribute = expression`.
-fn filter_guard(rules: &Rules<'_>, n: usize, at: usize, guards: &mut Guards, dear: bool) -> usize
-    ensures { FilterGuardsWalk rules.now.columns.classes.now rules.now.references.now n at
+fn filter_guard(pass: &Pass<'_>, n: usize, at: usize, guards: &mut Guards) -> usize
+    ensures { FilterGuardsWalk pass.now.rules.now.columns.classes.now pass.now.rules.now.references.now n at
         (record { before = guards.old.items; after = guards.new.items }) result }
 {
-    if rules.class_at(at) != WITH {
+    if pass.rules.class_at(at) != WITH {
         return at;
     }
-    let name = rules.skip(at);
-    let inside = rules.skip(rules.skip(name));
-    let next = rules.expression_end(inside);
+    let name = pass.rules.skip(at);
+    let inside = pass.rules.skip(pass.rules.skip(name));
+    let next = pass.rules.expression_end(inside);
     let part = Part {
         kind: GuardKind::EqualNow,
         name: n,
@@ -103,24 +110,17 @@ fn filter_guard(rules: &Rules<'_>, n: usize, at: usize, guards: &mut Guards, dea
         at: inside,
         next,
     };
-    put_in_pass(rules, &part, guards, dear);
+    put_in_pass(pass, &part, guards);
     next
 }
 
 // After `value`: what is asked of the event that tokens number n and m name.
-fn test_guards(
-    rules: &Rules<'_>,
-    n: usize,
-    m: usize,
-    at: usize,
-    guards: &mut Guards,
-    dear: bool,
-) -> usize
-    ensures { TestGuardsWalk rules.now.columns.classes.now rules.now.references.now n m at
+fn test_guards(pass: &Pass<'_>, n: usize, m: usize, at: usize, guards: &mut Guards) -> usize
+    ensures { TestGuardsWalk pass.now.rules.now.columns.classes.now pass.now.rules.now.references.now n m at
         (record { before = guards.old.items; after = guards.new.items }) result }
 {
-    let inside = rules.skip(at);
-    if rules.class_at(at) == CHANGED {
+    let inside = pass.rules.skip(at);
+    if pass.rules.class_at(at) == CHANGED {
         let part = Part {
             kind: GuardKind::Changes,
             name: n,
@@ -128,10 +128,10 @@ fn test_guards(
             at: inside,
             next: inside,
         };
-        put_in_pass(rules, &part, guards, dear);
+        put_in_pass(pass, &part, guards);
         return inside;
     }
-    let next = rules.expression_end(inside);
+    let next = pass.rules.expression_end(inside);
     let now = Part {
         kind: GuardKind::EqualNow,
         name: n,
@@ -139,7 +139,7 @@ fn test_guards(
         at: inside,
         next,
     };
-    put_in_pass(rules, &now, guards, dear);
+    put_in_pass(pass, &now, guards);
     let before = Part {
         kind: GuardKind::UnequalBefore,
         name: n,
@@ -147,28 +147,28 @@ fn test_guards(
         at: inside,
         next,
     };
-    put_in_pass(rules, &before, guards, dear);
+    put_in_pass(pass, &before, guards);
     next
 }
 
-fn clause_guards(rules: &Rules<'_>, at: usize, guards: &mut Guards, dear: bool) -> usize
-    ensures { ConditionGuardsWalk rules.now.columns.classes.now rules.now.references.now (clause_reader Syntax.OPENERS) at
+fn clause_guards(pass: &Pass<'_>, at: usize, guards: &mut Guards) -> usize
+    ensures { ConditionGuardsWalk pass.now.rules.now.columns.classes.now pass.now.rules.now.references.now (clause_reader Syntax.OPENERS) at
         (record { before = guards.old.items; after = guards.new.items }) result }
 {
-    let name = rules.skip(at);
-    let target = rules.skip(rules.skip(name));
-    let next = filter_guard(rules, target, target_end(rules, target), guards, dear);
-    test_guards(rules, target, name, rules.skip(next), guards, dear)
+    let name = pass.rules.skip(at);
+    let target = pass.rules.skip(pass.rules.skip(name));
+    let next = filter_guard(pass, target, target_end(pass.rules, target), guards);
+    test_guards(pass, target, name, pass.rules.skip(next), guards)
 }
 
-fn atom_guards(rules: &Rules<'_>, at: usize, guards: &mut Guards, dear: bool) -> usize
-    ensures { ConditionGuardsWalk rules.now.columns.classes.now rules.now.references.now (atom_reader Syntax.OPENERS) at
+fn atom_guards(pass: &Pass<'_>, at: usize, guards: &mut Guards) -> usize
+    ensures { ConditionGuardsWalk pass.now.rules.now.columns.classes.now pass.now.rules.now.references.now (atom_reader Syntax.OPENERS) at
         (record { before = guards.old.items; after = guards.new.items }) result }
 {
-    if rules.class_at(at) != ROUND_OPEN {
-        return clause_guards(rules, at, guards, dear);
+    if pass.rules.class_at(at) != ROUND_OPEN {
+        return clause_guards(pass, at, guards);
     }
-    let next = rules.atom_end(at);
+    let next = pass.rules.atom_end(at);
     let part = Part {
         kind: GuardKind::Holds,
         name: at,
@@ -176,18 +176,18 @@ fn atom_guards(rules: &Rules<'_>, at: usize, guards: &mut Guards, dear: bool) ->
         at,
         next,
     };
-    put_in_pass(rules, &part, guards, dear);
+    put_in_pass(pass, &part, guards);
     next
 }
 
 // The conditions at number `at` with `and` between them.
-fn conjuncts(rules: &Rules<'_>, at: usize, guards: &mut Guards, dear: bool) -> usize
-    ensures { ConditionGuardsWalk rules.now.columns.classes.now rules.now.references.now (conjunction_reader Syntax.OPENERS) at
+fn conjuncts(pass: &Pass<'_>, at: usize, guards: &mut Guards) -> usize
+    ensures { ConditionGuardsWalk pass.now.rules.now.columns.classes.now pass.now.rules.now.references.now (conjunction_reader Syntax.OPENERS) at
         (record { before = guards.old.items; after = guards.new.items }) result }
 {
-    let mut i = atom_guards(rules, at, guards, dear);
-    while rules.class_at(i) == AND {
-        i = atom_guards(rules, rules.skip(i), guards, dear);
+    let mut i = atom_guards(pass, at, guards);
+    while pass.rules.class_at(i) == AND {
+        i = atom_guards(pass, pass.rules.skip(i), guards);
     }
     i
 }
@@ -228,11 +228,19 @@ pub fn find_guards(rules: &Rules<'_>, at: usize, guards: &mut Guards)
 {
     guards.clear();
     let start = rules.priority_end(at);
-    let next = conjuncts(rules, start, guards, false);
+    let cheap = Pass {
+        rules: &*rules,
+        dear: false,
+    };
+    let next = conjuncts(&cheap, start, guards);
     if rules.class_at(next) == OR {
         guards.clear();
         return;
     }
     call_guard(rules, rules.skip(next), guards);
-    conjuncts(rules, start, guards, true);
+    let dear = Pass {
+        rules: &*rules,
+        dear: true,
+    };
+    conjuncts(&dear, start, guards);
 }
