@@ -37,7 +37,7 @@ fn is_candidate(rules: &Rules<'_>, store: &Store<'_>, face: u8, e: u8) -> bool
     store.is_present(e) && rules.row(ENTITY_INTERFACE_ROWS + (e as usize)) == face as usize
 }
 
-// Where among the entities the candidates for an interface stand: from `first` on, below `end`.
+/// Where among the entities the candidates for an interface stand: from `first` on, below `end`.
 #[derive(Clone, Copy)]
 pub struct Range {
     pub first: u8,
@@ -179,8 +179,8 @@ fn try_rules(rules: &Rules<'_>, stores: &Stores<'_>, set: u64, area: &mut [u8])
     }
 }
 
-// What all rules write goes into the area. A rule that reads no cell that moved would write nothing: it is passed over. Answers the set of the rules
-// that are tried.
+/// What all rules write goes into the area. A rule that reads no cell that moved would write nothing: it is passed over. Answers the set of the rules
+/// that are tried.
 #[tactic(auto, using(crate::proofs::steps::RulePuts::none_tried))]
 pub fn all_rules(rules: &Rules<'_>, stores: &Stores<'_>, area: &mut [u8]) -> u64
     requires in_bounds { Evaluation.MOST_PENDING_BYTES ≤ length area.old }

@@ -67,7 +67,7 @@ fn priority_at(rules: &Rules<'_>, at: usize) -> u8
     n as u8
 }
 
-// The rule whose tokens after `when` begin at number `at`.
+/// The rule whose tokens after `when` begin at number `at`.
 pub fn rule_at(worlds: &Worlds<'_, '_>, at: usize, area: &mut [u8])
     requires { Evaluation.MOST_PENDING_BYTES ≤ length area.old }
     ensures { Writes worlds.now.rules.now worlds.now.b worlds.now.stores.now.current worlds.now.stores.now.previous at area.old area.new }

@@ -8,7 +8,7 @@ use crate::rules::Rules;
 use crate::world::{Walked, World, Worlds};
 use text::classes::{AND, CHANGED, COLON, OR, ROUND_OPEN, WITH};
 
-// The number of the token after a target.
+/// The number of the token after a target.
 pub fn target_end(rules: &Rules<'_>, at: usize) -> usize
     ensures { TargetWalk rules.now.columns.classes.now at result }
 {
@@ -19,7 +19,7 @@ pub fn target_end(rules: &Rules<'_>, at: usize) -> usize
     rules.skip(rules.skip(colon))
 }
 
-// After a target, which is entity e: nothing, or `with attribute = expression`.
+/// After a target, which is entity e: nothing, or `with attribute = expression`.
 pub fn filter(world: &World<'_, '_>, e: u8, at: usize, depth: u32) -> Walked<bool>
     ensures { Filters world.now.rules.now world.now.b world.now.store.now e
         (filter_reader depth) at result.value result.next }
@@ -99,7 +99,7 @@ fn clause(worlds: &Worlds<'_, '_>, at: usize, depth: u32) -> Walked<bool>
     }
 }
 
-// `depth` openers may still come.
+/// `depth` openers may still come.
 #[cycle(atom_condition_conjunction)]
 pub fn atom(worlds: &Worlds<'_, '_>, at: usize, depth: u32) -> Walked<bool>
     ensures { Holds worlds.now.rules.now worlds.now.b worlds.now.stores.now.current worlds.now.stores.now.previous (atom_reader depth) at result.value result.next }

@@ -19,7 +19,7 @@ use values::{Value, cell, put_cell};
 
 // ---- what the rules see
 
-// Is an entity present after the line? By its flags: present, and the presence that was read.
+/// Is an entity present after the line? By its flags: present, and the presence that was read.
 pub fn present_after(present: u8, flag: u8) -> bool
     ensures { result ≡ present_by present flag }
 {
@@ -120,7 +120,7 @@ fn put_next(rules: &Rules<'_>, n: usize, cells: &[u8], area: &mut [u8])
     }
 }
 
-// The cycle of a line. The area of writes begins as unset cells to which nothing was written: bytes of 0.
+/// The cycle of a line. The area of writes begins as unset cells to which nothing was written: bytes of 0.
 #[tactic(auto, using(crate::proofs::steps::CycleMemoryLaws::cycle_impossible))]
 pub fn cycle(rules: &Rules<'_>, inputs: &Inputs<'_>, stores: &mut [u8])
     requires in_bounds { (CountFaults.MOST_ENTITIES ≤ length inputs.now.flags.now) × (Planes.MOST_CELL_BYTES ≤ length inputs.now.cells.now) }

@@ -51,7 +51,7 @@ fn term_operator(class: u8) -> Option<Operator>
     }
 }
 
-// The member that token number `name` names, of the entity that token number `at` means.
+/// The member that token number `name` names, of the entity that token number `at` means.
 pub fn member_value(world: &World<'_, '_>, at: usize, name: usize) -> Value
     ensures { CellRead world.now.store.now.flags world.now.store.now.cells (bound world.now.b (get_or world.now.rules.now.references.now at 0 % 256)) (get_or world.now.rules.now.references.now name 0 / 256) result }
 {
@@ -172,7 +172,7 @@ fn sum(world: &World<'_, '_>, at: usize, depth: u32) -> Walked<Value>
     left
 }
 
-// Most expressions are one leaf. No opener has a class below that of `real`, and no operator one below that of `+`.
+/// Most expressions are one leaf. No opener has a class below that of `real`, and no operator one below that of `+`.
 pub fn expression(world: &World<'_, '_>, at: usize, depth: u32) -> Walked<Value>
     ensures { Expresses world.now.rules.now world.now.b world.now.store.now
         (expression_reader depth) at result.value result.next }

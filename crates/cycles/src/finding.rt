@@ -142,10 +142,7 @@ fn test_guards(pass: &Pass<'_>, n: usize, m: usize, at: usize, guards: &mut Guar
     put_in_pass(pass, &now, guards);
     let before = Part {
         kind: GuardKind::UnequalBefore,
-        name: n,
-        member: m,
-        at: inside,
-        next,
+        ..now
     };
     put_in_pass(pass, &before, guards);
     next
@@ -222,7 +219,7 @@ fn call_guard(rules: &Rules<'_>, at: usize, guards: &mut Guards)
     put_part(rules, &part, guards);
 }
 
-// Finds the guards of the rule whose tokens after `when` begin at number `at`.
+/// Finds the guards of the rule whose tokens after `when` begin at number `at`.
 pub fn find_guards(rules: &Rules<'_>, at: usize, guards: &mut Guards)
     ensures { GuardsFound rules.now.columns.classes.now rules.now.references.now at guards.new.items }
 {

@@ -10,7 +10,7 @@ use crate::store::Stores;
 use cell_sets::{Pair, find_moved, rows_met};
 use checking::layout::{ENTITY_COUNT_ROW, MOST_ENTITIES, MOST_RULES, RULE_COUNT_ROW};
 
-// The set of the rules that are tried, by their numbers. No bench has more rules or entities, and its sets have room.
+/// The set of the rules that are tried, by their numbers. No bench has more rules or entities, and its sets have room.
 #[tactic(auto, using(crate::proofs::steps::TriedLaws::tried_sets))]
 pub fn tried_rules(rules: &Rules<'_>, stores: &Stores<'_>) -> u64
     requires in_bounds { (CountFaults.MOST_ENTITIES ≤ length stores.now.current.flags) × (CountFaults.MOST_ENTITIES ≤ length stores.now.previous.flags) }
