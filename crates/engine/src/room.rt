@@ -131,15 +131,7 @@ impl<'a> AcceptedBench<'a> {
             references,
             scopes,
         } = self;
-        reads::resolve(
-            columns.text,
-            columns.classes,
-            columns.offsets,
-            columns.lengths,
-            columns.d,
-            references,
-            scopes,
-        );
+        reads::resolve(&columns, references, scopes);
         ResolvedBench {
             rules: Rules {
                 columns,

@@ -99,7 +99,7 @@ fn put_tried(
     if !is_state(&columns, print, after) {
         return 33;
     }
-    resolve(text, classes, offsets, lengths, d, refs, scopes);
+    resolve(&columns, refs, scopes);
     let set = tried_between(d, scopes, before, after);
     put_word(tried, 0, set);
     0

@@ -33,21 +33,18 @@ fn add_cells_of(d: &[u16], scopes: &mut [u8], k: usize, face: usize, m: usize)
     ensures { CellsAdded k (λ a b. has_face d.now face a && eqb m b) scopes.old scopes.new }
 {
     let count = row(d, ENTITY_COUNT_ROW);
-    let mut e = 0;
-    while e < MOST_ENTITIES {
+    for e in 0..MOST_ENTITIES {
         if count <= e {
             return;
         }
-        let here = e;
-        e += 1;
-        if row(d, ENTITY_INTERFACE_ROWS + here) != face {
+        if row(d, ENTITY_INTERFACE_ROWS + e) != face {
             continue;
         }
-        add_cell(scopes, k, here, m);
+        add_cell(scopes, k, e, m);
     }
 }
 
-// Puts member number m of what reference r can mean into the set of rule number k.
+/// Puts member number m of what reference r can mean into the set of rule number k.
 #[tactic(auto, using(crate::proofs::steps::SetSteps::no_member_added))]
 pub fn add_reads(d: &[u16], scopes: &mut [u8], k: usize, r: usize, m: usize)
     requires { (k < CountFaults.MOST_RULES) × (ReadSets.SCOPES_BYTES ≤ length scopes.old) }
@@ -64,6 +61,6 @@ pub fn add_reads(d: &[u16], scopes: &mut [u8], k: usize, r: usize, m: usize)
     if MOST_VARIABLES <= v {
         return;
     }
-    let face = class_at(scopes, SCOPE_ROWS * k + 1 + v) as usize;
+    let face = usize::from(class_at(scopes, SCOPE_ROWS * k + 1 + v));
     add_cells_of(d, scopes, k, face, m);
 }

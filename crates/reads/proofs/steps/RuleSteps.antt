@@ -1,12 +1,15 @@
 -- The sets of all rules, emptied and then filled rule by rule.
-use Prim.Native.Nat.{ℕ, ◌+◌, ◌*◌, ◌/◌, ◌≤◌, ◌<◌}
+use Prim.Native.Nat.{ℕ, ◌+◌, ◌*◌, ◌/◌, ◌-◌, ◌≤◌, ◌<◌}
 use native.Mathlib.Omega.{arith}
 use mathlib.Core.Path.{◌≡◌, refl, sym, ap, ◌∙◌, subst}
 use mathlib.Core.Bool.{Bool, true, false, ◌||◌}
-use mathlib.Core.List.{List}
+use mathlib.Core.List.{List, ◌++◌, append_assoc}
 use lib.Dec.{eqb}
-use lib.ListN.{length, get_or, set, length-set}
-use lib.Seq.{get_or-set_same, get_or-set_other}
+use lib.ListN.{length, get_or, take, drop, replicate, get_or-append, length-replicate, get_or-replicate}
+use lib.Seq.{drop_at, get_or-drop, length-take-le}
+use borrow.Rule.Slice.PartMut.{put_mid}
+use Rattle.values.proofs.laws.ByteLaws.{overwritten_below, overwritten_parts}
+use Rattle.values.proofs.laws.PutLaws.{put_filled, put_length}
 use borrow.Author.Tests.{eqb-true, eqb-false}
 use Rattle.cell_sets.specs.inner_contracts.Meeting.{row_has}
 use Rattle.cell_sets.proofs.laws.BitLaws.{has_bit_zero}
@@ -20,33 +23,25 @@ use Rattle.reads.proofs.steps.ScanSteps.{scopes_stay, world_in}
 
 -- ---- empty sets
 
--- the bytes of sets before number i are 0
-pub record Clearing (scopes : List ℕ) (i : ℕ) (new : List ℕ) : Type 0 where
-  pub kept : length new ≡ length scopes
-  pub from : 256 ≤ i
-  pub before : (p : ℕ) → p < 256 → get_or new p 0 ≡ get_or scopes p 0
-  pub empty : (p : ℕ) → 256 ≤ p → p < i → get_or new p 0 ≡ 0
-
-module _ {scopes : List ℕ} where
-  pub clearing_starts : Clearing scopes 256 scopes
-  clearing_starts = record { kept = refl; from = omega arith; before = λ p h. refl; empty = λ p h l. absurd (omega arith) }
-
-  pub clearing_turns : {i : ℕ} {new : List ℕ} → Clearing scopes i new → i < length new → Clearing scopes (i + 1) (set new i 0)
-  clearing_turns {i} {new} c l = record {
-    kept = length-set new i 0 ∙ c.kept;
-    from = omega (arith, c.from);
-    before = λ p h. get_or-set_other new i p 0 0 (λ q. omega (arith, c.from)) ∙ c.before p h;
-    empty = λ p h j. go p h j (eqb p i) refl;
-  }
-    where
-      go : (p : ℕ) → 256 ≤ p → p < i + 1 → (t : Bool) → eqb p i ≡ t → get_or (set new i 0) p 0 ≡ 0
-      go p h j true e = rw (eqb-true p i e) (get_or-set_same new i 0 0 l)
-      go p h j false e =
-          let n = eqb-false p i e in
-          get_or-set_other new i p 0 0 n ∙ c.empty p h (omega (arith, n))
-
-  pub clearing_ends : {i : ℕ} {new : List ℕ} → Clearing scopes i new → SCOPES_BYTES ≤ i → Cleared scopes new
-  clearing_ends c l = record { kept = c.kept; before = c.before; empty = λ p h j. c.empty p h (omega arith) }
+-- what `fill` leaves of them
+pub sets_cleared : (l new : List ℕ) (k n : ℕ) → SCOPES_BYTES ≤ length l → n ≡ 3072 → k ≡ n → new ≡ replicate k 0 → Cleared l (put_mid 256 k l new)
+sets_cleared l new k n room all e f =
+    let p = put_filled l 256 n 0 new k (omega arith) e f in
+    let size : length (replicate {A = ℕ} n 0) ≡ n = length-replicate {A = ℕ} n 0 in
+    record {
+      kept = put_length p;
+      before = λ i h. ap (λ (t : List ℕ). get_or t i 0) p.is ∙ overwritten_below l 256 (replicate n 0) i h;
+      empty = λ i h j.
+          let z : 256 + (i - 256) ≡ i = omega arith in
+          let parts = overwritten_parts l 256 (replicate n 0) (omega arith) in
+          let front : length (take 256 l) ≡ 256 = length-take-le 256 l (omega arith) in
+          ap (λ (m : ℕ). get_or (put_mid 256 k l new) m 0) (sym z)
+          ∙ sym (get_or-drop 256 (put_mid 256 k l new) (i - 256) 0)
+          ∙ ap (λ (t : List ℕ). get_or (drop 256 t) (i - 256) 0) (p.is ∙ parts ∙ append_assoc (take 256 l) (replicate n 0) (drop (256 + length (replicate n 0)) l))
+          ∙ ap (λ (t : List ℕ). get_or t (i - 256) 0) (drop_at (take 256 l) (replicate n 0 ++ drop (256 + length (replicate n 0)) l) 256 front)
+          ∙ get_or-append (replicate n 0) (drop (256 + length (replicate n 0)) l) 0 (i - 256) (omega arith)
+          ∙ get_or-replicate n (i - 256) 0 0 (omega arith);
+    }
 
 -- ---- rule by rule
 

@@ -4,7 +4,7 @@ use Rattle.reads.proofs.steps.ScanSteps.{scanning_starts, scanning_passes, scann
 use Rattle.reads.proofs.conditions.find_in_rule.Goals as goal
 
 pub loop-i-init : goal.loop-i-init
-loop-i-init c = scanning_starts c.row-i.ensures.0
+loop-i-init c = scanning_starts c.row-first.ensures.0
 
 pub returns-then-class-eq-ACTION : goal.returns-then-class-eq-ACTION
 returns-then-class-eq-ACTION c = scanning_ends c.loop-i.invariant c.class_at-class.ensures c.if-class-eq-ACTION.true
