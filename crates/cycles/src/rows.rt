@@ -43,17 +43,15 @@ pub fn put_fields(classes: &[u8], d: &[u16], cells: &[u8], row: &mut [u8], at: u
     if MOST_ENTITIES < n {
         return at;
     }
-    let end = ENTITY_CELLS * n;
     let mut next = at;
-    let mut i = 0;
-    while i < end {
-        let token = cell_token(d, i);
-        if NO_TOKEN <= token {
-            // its entity has no further member
-            i = i - i % ENTITY_CELLS + ENTITY_CELLS;
-        } else {
+    for e in 0..n {
+        for m in 0..ENTITY_CELLS {
+            let i = ENTITY_CELLS * e + m;
+            let token = cell_token(d, i);
+            if NO_TOKEN <= token {
+                break; // the entity has no further member
+            }
             next = put_fired(classes, token, cells, i, row, next);
-            i += 1;
         }
     }
     next

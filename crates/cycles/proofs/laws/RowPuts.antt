@@ -1,7 +1,7 @@
 -- Fields put into a row or into its header one by one, and all of them.
 use Prim.Native.Nat.{ℕ, zero, suc, ◌+◌, ◌-◌, ◌*◌, ◌/◌, ◌%◌, ◌≤◌, ◌<◌}
 use native.Mathlib.Omega.{arith}
-use mathlib.Core.Path.{◌≡◌, refl, sym, ap, ap₂, ◌∙◌}
+use mathlib.Core.Path.{◌≡◌, refl, sym, ap, ap₂, ◌∙◌, subst}
 use mathlib.Core.Bool.{Bool, true, false, true≢false, cond}
 use mathlib.Core.List.{List, [], ◌∷◌, ◌++◌}
 use mathlib.Core.Option.{Option, none, some}
@@ -111,6 +111,9 @@ module _ {classes d cells : List ℕ} where
     short = omega arith;
     is = λ text offsets lengths w c. put_no_piece (field_at w.file (fired_field cells)) l at;
   }
+
+  pub fired_at : {l m : List ℕ} {from i j at : ℕ} → FiredSoFar classes d cells l from i m at → i ≡ j → FiredSoFar classes d cells l from j m at
+  fired_at {l} {m} {from} {i} {j} {at} p e = subst (λ (k : ℕ). FiredSoFar classes d cells l from k m at) e p
 
   module _ {l m : List ℕ} {from i at token : ℕ} (p : FiredSoFar classes d cells l from i m at) (t : CellToken d i token) where
     pub fired_next : {k : List ℕ} {r : ℕ} → length k ≡ length m → FiredPut classes token cells i m at k r → FiredSoFar classes d cells l from (i + 1) k r

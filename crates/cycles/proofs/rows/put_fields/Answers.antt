@@ -1,24 +1,20 @@
 -- What is left of `put_fields`.
-use Rattle.cycles.proofs.laws.RowPuts.{fields_end, fired_begin, fired_next, fired_rest}
+use Rattle.cycles.proofs.laws.RowPuts.{fields_end, fired_at, fired_begin, fired_next, fired_rest}
 use Rattle.std.proofs.Common.{arith, refl}
 use Rattle.cycles.proofs.rows.put_fields.Goals as goal
+use Rattle.cycles.proofs.rows.put_fields.Goals.{else-loop-m-test, then-loop-m-test+then-token-ge-NO_TOKEN}
 
-pub loop-i-init : goal.loop-i-init
-loop-i-init c = record { within = omega arith; so_far = fired_begin _ _ }
+pub loop-e-init : goal.loop-e-init
+loop-e-init c = fired_begin _ _
 
-pub loop-i-preserved-then-token-ge-NO_TOKEN : goal.loop-i-preserved-then-token-ge-NO_TOKEN
-loop-i-preserved-then-token-ge-NO_TOKEN c =
-    record {
-      within = omega arith;
-      so_far = fired_rest c.loop-i.invariant.so_far c.cell_token-token.ensures c.if-token-ge-NO_TOKEN.true refl;
-    }
+pub loop-m-preserved : goal.loop-m-preserved
+loop-m-preserved c = fired_at (fired_next c.loop-m.invariant c.cell_token-token.ensures c.put_fired-next.auto.row c.put_fired-next.ensures) (omega arith)
 
-pub loop-i-preserved : goal.loop-i-preserved
-loop-i-preserved c =
-    record {
-      within = omega arith;
-      so_far = fired_next c.loop-i.invariant.so_far c.cell_token-token.ensures c.put_fired-next.auto.row c.put_fired-next.ensures;
-    }
+pub loop-e-preserved : goal.loop-e-preserved
+loop-e-preserved c = elim c.loop-m-test.branch [
+  | else-loop-m-test w ↦ fired_at c.loop-m.invariant (omega (arith, w.loop-m-test.false, c.loop-m.auto.m-end))
+  | then-loop-m-test+then-token-ge-NO_TOKEN w ↦ fired_rest c.loop-m.invariant w.cell_token-token.ensures w.if-token-ge-NO_TOKEN.true (omega (arith, w.loop-m-test.true))
+]
 
 pub returns : goal.returns
-returns c = fields_end c.row-n.ensures.0 c.loop-i.invariant.so_far c.loop-i.invariant.within c.loop-i-test.false c.if-n-gt-MOST_ENTITIES.false
+returns c = fields_end c.row-n.ensures.0 c.loop-e.invariant (omega arith) (omega arith) c.if-n-gt-MOST_ENTITIES.false
