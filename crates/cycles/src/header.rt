@@ -1,5 +1,5 @@
 // A header: the numbers of its columns, read into lent memory from the last to the first.
-ghost use Rattle.std.specs.Prelude.{ℕ, ◌≡◌, ◌≤◌, ◌<◌, length, get_or};
+ghost use Rattle.std.specs.Prelude.{ℕ, ◌≡◌, ◌≤◌, ◌<◌, [], length, get_or, unwrap_or, IfSome, MatchOption};
 ghost use Rattle.checking.specs.definitions.Scope.{entity_named};
 ghost use Rattle.cycles.specs.definitions.Fields.{split};
 ghost use Rattle.cycles.specs.definitions.Header.{column_of_entity, column};
@@ -8,9 +8,7 @@ ghost use Rattle.cycles.specs.inner_contracts.HeaderReads.{ColumnRead, backwards
 ghost use Rattle.checking.specs.inner_contracts.OfColumns.{of_file};
 
 use crate::fields::field_start;
-use crate::layout::{
-    BY_BYTES, ENTITY_COLUMNS, MOST_HEADER_BYTES, NO_COLUMN, NO_HEADER, PRESENCE_COLUMN,
-};
+use crate::layout::{BY_BYTES, ENTITY_COLUMNS, MOST_HEADER_BYTES, PRESENCE_COLUMN};
 use checking::Columns;
 use checking::layout::ENTITY_INTERFACE_ROWS;
 use text::classes::EVENT;
@@ -35,42 +33,48 @@ impl<'a> Header<'a> {
             columns: &columns[..count],
         }
     }
-}
 
-// The column of an event by the names of its entity and of itself; NO_COLUMN if there is none.
-fn event_column(columns: &Columns<'_>, owner: &[u8], member: &[u8]) -> usize
-    ensures { of_file ColumnRead columns.now
-        (λ f. column_of_entity f (entity_named f owner.now) member.now) result }
-{
-    let Some(e) = columns.entity(owner) else {
-        return NO_COLUMN;
-    };
-    let face = columns.row(ENTITY_INTERFACE_ROWS + e);
-    let Some(m) = columns.member(face, member) else {
-        return NO_COLUMN;
-    };
-    if columns.member_sort(face, m) != EVENT {
-        return NO_COLUMN;
+    /// The header that a line of names is, read into lent memory; none, where it is no header.
+    pub fn read(bench: &Columns<'_>, names: &[u8], columns: &'a mut [u16]) -> Option<Self>
+        requires { HeaderReads.MOST_COLUMNS ≤ length columns.old }
+        ensures { MatchOption result (of_file HeaderRead bench.now names.now [] HeaderReads.NO_HEADER)
+            (λ header. (length header.columns.now ≤ HeaderReads.MOST_COLUMNS) × of_file HeaderRead bench.now names.now header.columns.now (length header.columns.now)) }
+    {
+        let count = read_header(bench, names, columns)?;
+        Some(Header::new(columns, count))
     }
-    e * ENTITY_COLUMNS + m
 }
 
-// The column that a field of a header names; NO_COLUMN if there is none.
-fn column_called(columns: &Columns<'_>, field: &[u8]) -> usize
-    ensures { of_file ColumnRead columns.now
-        (λ f. column f (split 46 field.now)) result }
+// The column of an event by the names of its entity and of itself.
+fn event_column(columns: &Columns<'_>, owner: &[u8], member: &[u8]) -> Option<usize>
+    ensures read { of_file ColumnRead columns.now
+        (λ f. column_of_entity f (entity_named f owner.now) member.now) (unwrap_or result HeaderReads.NO_COLUMN) }
+    ensures below { IfSome result (λ column. column < HeaderReads.NO_COLUMN) }
+{
+    let e = columns.entity(owner)?;
+    let face = columns.row(ENTITY_INTERFACE_ROWS + e);
+    let m = columns.member(face, member)?;
+    if columns.member_sort(face, m) != EVENT {
+        return None;
+    }
+    Some(e * ENTITY_COLUMNS + m)
+}
+
+// The column that a field of a header names.
+fn column_called(columns: &Columns<'_>, field: &[u8]) -> Option<usize>
+    ensures read { of_file ColumnRead columns.now
+        (λ f. column f (split 46 field.now)) (unwrap_or result HeaderReads.NO_COLUMN) }
+    ensures below { IfSome result (λ column. column < HeaderReads.NO_COLUMN) }
 {
     let size = field.len();
     let last = field_start(field, size, 46);
     if last == 0 {
-        let Some(e) = columns.entity(field) else {
-            return NO_COLUMN;
-        };
-        return e * ENTITY_COLUMNS + PRESENCE_COLUMN;
+        let e = columns.entity(field)?;
+        return Some(e * ENTITY_COLUMNS + PRESENCE_COLUMN);
     }
     let end = last - 1;
     if field_start(field, end, 46) != 0 {
-        return NO_COLUMN;
+        return None;
     }
     event_column(columns, &field[0..end], &field[last..size])
 }
@@ -92,12 +96,12 @@ fn is_read(columns: &[u16], count: usize, column: u16) -> bool
     false
 }
 
-// Reads the columns after `n`, the last one first, and answers their number; NO_HEADER for none.
+// Reads the columns after `n`, the last one first: how many they are.
 #[tactic(auto, using(crate::proofs::steps::HeaderLaws::columns_next))]
-fn read_columns(bench: &Columns<'_>, names: &[u8], columns: &mut [u16]) -> usize
+fn read_columns(bench: &Columns<'_>, names: &[u8], columns: &mut [u16]) -> Option<usize>
     requires { HeaderReads.MOST_COLUMNS ≤ length columns.old }
-    ensures { of_file ColumnsRead bench.now names.now
-        columns.new result }
+    ensures read { of_file ColumnsRead bench.now names.now columns.new (unwrap_or result HeaderReads.NO_HEADER) }
+    ensures few { IfSome result (λ count. count ≤ HeaderReads.MOST_COLUMNS) }
 {
     let mut end = names.len();
     let mut count: usize = 0;
@@ -105,17 +109,14 @@ fn read_columns(bench: &Columns<'_>, names: &[u8], columns: &mut [u16]) -> usize
         let start = field_start(names, end, 32);
         if start == 0 {
             if same_bytes(&names[0..end], b"n") {
-                return count;
+                return Some(count);
             }
-            return NO_HEADER;
+            return None;
         }
-        let column = column_called(bench, &names[start..end]);
-        if column == NO_COLUMN {
-            return NO_HEADER;
-        }
+        let column = column_called(bench, &names[start..end])?;
         let number = column as u16;
         if is_read(columns, count, number) {
-            return NO_HEADER;
+            return None;
         }
         columns[count] = number;
         count += 1;
@@ -123,20 +124,20 @@ fn read_columns(bench: &Columns<'_>, names: &[u8], columns: &mut [u16]) -> usize
     }
 }
 
-// Reads a header: the columns after `by n`. Answers their number; NO_HEADER for no header.
-pub fn read_header(bench: &Columns<'_>, names: &[u8], columns: &mut [u16]) -> usize
+/// Reads a header, `by n` and its columns, into lent memory: how many columns it has; none, where it is no header.
+pub fn read_header(bench: &Columns<'_>, names: &[u8], columns: &mut [u16]) -> Option<usize>
     requires { HeaderReads.MOST_COLUMNS ≤ length columns.old }
-    ensures { of_file HeaderRead bench.now names.now
-        columns.new result }
+    ensures read { of_file HeaderRead bench.now names.now columns.new (unwrap_or result HeaderReads.NO_HEADER) }
+    ensures few { IfSome result (λ count. count ≤ HeaderReads.MOST_COLUMNS) }
 {
     if MOST_HEADER_BYTES < names.len() {
-        return NO_HEADER;
+        return None;
     }
     if names.len() < BY_BYTES {
-        return NO_HEADER;
+        return None;
     }
     if !same_bytes(&names[0..BY_BYTES], b"by ") {
-        return NO_HEADER;
+        return None;
     }
     read_columns(bench, &names[BY_BYTES..], columns)
 }

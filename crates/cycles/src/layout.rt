@@ -58,11 +58,6 @@ pub const ENTITY_COLUMNS: usize = PRESENCE_COLUMN + 1;
 
 pub const MOST_COLUMNS: usize = MOST_ENTITIES * ENTITY_COLUMNS;
 
-// The number for no column, and the count for no header.
-pub const NO_COLUMN: usize = MOST_COLUMNS;
-
-pub const NO_HEADER: usize = MOST_COLUMNS + 1;
-
 // ---- rules
 
 // Behind the rows of scopes each rule has the set of the cells that it reads, eight to a byte.

@@ -1,24 +1,24 @@
 // The day sheet of a text of readings, run on from a state that stays.
-ghost use Rattle.std.specs.Prelude.{◌≡◌, ℕ, ◌+◌, ◌*◌, ◌≤◌, ◌<◌, ltb, length, get_or, take, drop};
+ghost use Rattle.std.specs.List.{count_by};
+ghost use Rattle.std.specs.Prelude.{eqb, position, ◌≡◌, ℕ, ◌+◌, ◌*◌, ◌≤◌, ◌<◌, ltb, length, get_or, take, drop};
 ghost use Rattle.sheets.specs.definitions.Layout;
 ghost use Rattle.sheets.specs.definitions.Sizes;
 ghost use Rattle.cycles.specs.definitions.Readings.{lines};
 ghost use Rattle.senders.specs.definitions.StateImage;
 ghost use Rattle.cycles.specs.inner_contracts.Bundles.{of_bench, of_rules};
-ghost use Rattle.days.specs.definitions.DaySheet.{line_feeds, sheet_size};
+ghost use Rattle.days.specs.definitions.DaySheet.{sheet_size};
 ghost use Rattle.days.specs.inner_contracts.Choosing;
 ghost use Rattle.days.specs.inner_contracts.SheetMemory.{code_of, sheeted_as, LineEnd, Stepped, DayPut, SheetPut};
 
-use crate::choosing::{choose, read_chosen, real_cells};
+use crate::choosing::{Chosen, choose, read_chosen, real_cells};
 use cycles::Rules;
-use cycles::header::{Header, read_header};
+use cycles::header::Header;
 use cycles::layout::MOST_COLUMNS;
 use senders::fingerprint::fingerprint;
 use senders::layout::STATE;
 use senders::{Turn, advance, is_state};
 use sheets::layout::{MOST_CHOSEN, MOST_CLOSING_BYTES, MOST_LINE_BYTES};
 use sheets::{folded_values, no_folds, put_closings, put_line};
-use values::put_bytes;
 
 // The stated size of a sheet for readings without a line feed.
 const LEAST_SIZE: usize = MOST_CHOSEN * MOST_CLOSING_BYTES;
@@ -44,20 +44,10 @@ impl SheetError {
     }
 }
 
-#[tactic(auto, using(crate::proofs::steps::LineSteps::feeds_counted))]
 fn line_feeds(readings: &[u8]) -> usize
-    ensures { (result ≡ line_feeds readings.now) × (result ≤ length readings.now) }
+    ensures { result ≡ count_by (λ b. eqb b 10) readings.now }
 {
-    let mut count: usize = 0;
-    let mut i = readings.len();
-    while 0 < i {
-        let j = i - 1;
-        if readings[j] == 10 {
-            count += 1;
-        }
-        i = j;
-    }
-    count
+    readings.iter().filter(|&&b| b == b'\n').count()
 }
 
 // Is memory of so many bytes shorter than the stated size? A product that could overflow is not formed.
@@ -71,20 +61,22 @@ pub fn is_short(readings: &[u8], size: usize) -> bool
     (size - LEAST_SIZE) / MOST_LINE_BYTES < line_feeds(readings)
 }
 
+// How many bytes stand before the first line feed, if there is one.
+fn first_feed(line: &[u8]) -> Option<usize>
+    ensures { result ≡ position (λ b. eqb b 10) line.now }
+{
+    line.iter().position(|&b| b == b'\n')
+}
+
 // Where the line that starts at `at` ends: at its line feed, or at the text's end.
-#[tactic(auto, using(crate::proofs::steps::LineSteps::line_ended))]
 fn line_end(readings: &[u8], at: usize) -> usize
     requires { at ≤ length readings.now }
     ensures { LineEnd readings.now at result }
 {
-    let mut i = at;
-    while i < readings.len() {
-        if readings[i] == 10 {
-            return i;
-        }
-        i += 1;
+    match first_feed(&readings[at..]) {
+        Some(size) => at + size,
+        None => readings.len(),
     }
-    i
 }
 
 // Takes a record: the number of a new line; any other leaves the state.
@@ -103,18 +95,17 @@ fn step(rules: &Rules<'_>, header: &Header<'_>, values: &[u8], state: &mut [u8])
 fn put_day(
     rules: &Rules<'_>,
     header: &Header<'_>,
-    spots: &[u16],
-    count: usize,
+    chosen: &Chosen<'_>,
     readings: &[u8],
     from: usize,
     state: &mut [u8],
     sheet: &mut [u8],
 ) -> usize
-    requires count_bound { (count ≤ Layout.MOST_CHOSEN) × (count ≤ length spots.now) × ((k : ℕ) → k < count → get_or spots.now k 0 < Choosing.NO_SPOT) }
     requires in_bounds { StateImage.STATE ≤ length state.old }
     requires readings_in_bounds { Layout.MOST_CHOSEN * Sizes.MOST_CLOSING_BYTES + Sizes.MOST_LINE_BYTES * length (lines (drop from readings.now)) ≤ length sheet.old }
-    ensures { of_rules DayPut rules.now header.now.columns.now (length header.now.columns.now) spots.now count readings.now from state.old sheet.old sheet.new result }
+    ensures { of_rules DayPut rules.now header.now.columns.now (length header.now.columns.now) chosen.now.spots.now (length chosen.now.spots.now) readings.now from state.old sheet.old sheet.new result }
 {
+    let count = chosen.spots.len();
     let mut folds = no_folds();
     let mut end: usize = 0;
     let mut at = from;
@@ -122,7 +113,7 @@ fn put_day(
         let stop = line_end(readings, at);
         if let Some(number) = step(rules, header, &readings[at..stop], state) {
             // by second names: the borrow checker does not cover a call's result that is laid in an array
-            let read = read_chosen(rules.columns.d, state, spots, count);
+            let read = read_chosen(&rules.columns, state, chosen);
             let values = read;
             end = put_line(sheet, end, number as u64, &values[..count]);
             let more = folded_values(folds, &values[..count]);
@@ -130,18 +121,17 @@ fn put_day(
         }
         at = stop + 1;
     }
-    let told = real_cells(rules.columns.classes, rules.columns.d, spots, count);
+    let told = real_cells(&rules.columns, chosen);
     let reals = told;
     put_closings(sheet, end, &reals[..count], folds)
 }
 
 // The run works on a copy: the state that is lent stays.
-#[tactic(auto, using(crate::proofs::steps::SheetSteps::copy_made))]
 fn copy_state(state: &[u8], copy: &mut [u8])
     requires { (StateImage.STATE ≤ length state.now) × (length copy.old ≡ StateImage.STATE) }
     ensures { copy.new ≡ take StateImage.STATE state.now }
 {
-    put_bytes(copy, 0, &state[0..STATE]);
+    copy.copy_from_slice(&state[..STATE]);
 }
 
 // The sheet on a bench in columns, whose rules' names are resolved.
@@ -161,27 +151,15 @@ pub fn put_sheet(
         return Err(SheetError::NoState);
     }
     let mut spots = [0u16; MOST_CHOSEN];
-    let count = choose(bench, cells, &mut spots);
-    if MOST_CHOSEN < count {
+    let Some(chosen) = choose(bench, cells, &mut spots) else {
         return Err(SheetError::Chosen);
-    }
+    };
     let end = line_end(readings, 0);
     let mut columns = [0u16; MOST_COLUMNS];
-    let width = read_header(bench, &readings[0..end], &mut columns);
-    if MOST_COLUMNS < width {
+    let Some(header) = Header::read(bench, &readings[0..end], &mut columns) else {
         return Err(SheetError::Header);
-    }
-    let header = Header::new(&columns, width);
+    };
     let mut copy = [0u8; STATE];
     copy_state(state, &mut copy);
-    Ok(put_day(
-        rules,
-        &header,
-        &spots,
-        count,
-        readings,
-        end + 1,
-        &mut copy,
-        sheet,
-    ))
+    Ok(put_day(rules, &header, &chosen, readings, end + 1, &mut copy, sheet))
 }

@@ -158,11 +158,10 @@ impl<'a> ResolvedBench<'a> {
         requires { HeaderReads.MOST_COLUMNS ≤ length columns.old }
         ensures { MatchResult result (HeaderRead self.now names.now columns.new) (λ e. (e ≡ refused.Header) × NoHeader self.now names.now) }
     {
-        let count = read_header(&self.rules.columns, names, columns);
-        if MOST_COLUMNS < count {
-            return Err(Refusal::Header);
+        match read_header(&self.rules.columns, names, columns) {
+            Some(count) => Ok(count),
+            None => Err(Refusal::Header),
         }
-        Ok(count)
     }
 
     /// Takes a record under a header that is read, `columns` with the numbers of its `count` columns, on memory that is a state: the length of its

@@ -6,7 +6,7 @@ use mathlib.Core.Bool.{Bool, true, false, cond, true≢false}
 use mathlib.Core.List.{List, [], ◌∷◌, ◌++◌, append_assoc, map}
 use mathlib.Core.Option.{Option, none, some}
 use lib.Dec.{T}
-use lib.ListN.{length, set, take, drop, length-take, take-append-drop}
+use lib.ListN.{length, get_or, set, take, drop, length-take, take-append-drop}
 use borrow.Author.Tests.{le-leb, lt-leb}
 use Rattle.values.specs.definitions.Bytes.{same_bytes}
 use Rattle.text.specs.definitions.Syntax.{File}
@@ -280,3 +280,32 @@ module _ (text classes offsets lengths d names memory : List ℕ) where
 
           after : (f : File) → columns_after_by f (fields names) ≡ columns_after_n f (fields (drop 3 names))
           after f = ap (columns_after_by f) (ap fields begins ∙ fields_by (drop 3 names))
+
+-- ---- a header's columns, those that stand among more
+
+module _ {text classes offsets lengths d names : List ℕ} where
+  -- what is no header says nothing of memory
+  pub no_header_taken : {memory other : List ℕ} → HeaderRead text classes offsets lengths d names memory 417
+      → HeaderRead text classes offsets lengths d names other 417
+  no_header_taken {memory} {other} r = record {
+    within = r.within;
+    known = λ k h few. absurd (omega arith);
+    is = λ w c. go (header w.file names) (r.is w c);
+  }
+    where
+      go : (o : Option (List Column)) → HeaderIs o 417 memory → HeaderIs o 417 other
+      go none e = e
+      go (some cs) e = absurd (omega (arith, e.0))
+
+  pub header_taken : {memory taken : List ℕ} {count : ℕ} → length taken ≡ count → backwards count taken ≡ backwards count memory
+      → ((k : ℕ) → k < length taken → get_or taken k 0 < 416)
+      → HeaderRead text classes offsets lengths d names memory count → HeaderRead text classes offsets lengths d names taken (length taken)
+  header_taken {memory} {taken} {count} size same known r = record {
+    within = let w = r.within in omega arith;
+    known = λ k h few. known k h;
+    is = λ w c. rw size (go (header w.file names) (r.is w c));
+  }
+    where
+      go : (o : Option (List Column)) → HeaderIs o count memory → HeaderIs o count taken
+      go none e = e
+      go (some cs) e = (e.0, e.1 ∙ sym same)

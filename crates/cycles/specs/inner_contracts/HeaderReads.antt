@@ -53,9 +53,13 @@ unfoldable pub is_number_among : ℕ → List ℕ → Bool
 is_number_among n [] = false
 is_number_among n (m ∷ ms) = eqb n m || is_number_among n ms
 
--- what r numbers of columns say of a header; r is one more than the most for none
+-- the number for no header
+abbrev pub NO_HEADER : ℕ
+NO_HEADER = MOST_COLUMNS + 1
+
+-- what r numbers of columns say of a header
 abbrev pub HeaderIs : Option (List Column) → ℕ → List ℕ → Type 0
-HeaderIs none r l = r ≡ MOST_COLUMNS + 1
+HeaderIs none r l = r ≡ NO_HEADER
 HeaderIs (some cs) r l = (r ≤ MOST_COLUMNS) × (map column_number cs ≡ backwards r l)
 
 -- the fields after `by`

@@ -21,7 +21,7 @@ use Rattle.cycles.proofs.laws.SpotLaws.{Stands}
 use Rattle.cycles.proofs.laws.FieldLaws.{split_end, split_last}
 use Rattle.cycles.proofs.laws.ColumnLaws.{backwards_set}
 use Rattle.days.specs.definitions.Chosen.{spot_named, spot_before, spots_named, chosen}
-use Rattle.days.specs.inner_contracts.Choosing.{spot_number, number_if_spot, SpotRead, ChosenRead}
+use Rattle.days.specs.inner_contracts.Choosing.{spot_number, number_if_spot, SpotRead, ChosenAre, ChosenRead}
 use Rattle.days.proofs.laws.SpotNumbers.{named_stands, spot_below}
 
 -- ---- the cells of a list
@@ -205,3 +205,31 @@ module _ (text offsets lengths d cells memory : List ℕ) where
                 stands = more_names z;
                 going = next_going;
               }
+
+-- ---- the numbers of a list, those that stand among more
+
+module _ {text offsets lengths d cells : List ℕ} where
+  -- what is no list says nothing of memory
+  pub no_list_taken : {memory other : List ℕ} → ChosenRead text offsets lengths d cells memory 6 → ChosenRead text offsets lengths d cells other 6
+  no_list_taken {memory} {other} r = record {
+    within = r.within;
+    known = λ k h few. absurd (omega arith);
+    is = λ classes w c. go (chosen w.file cells) (r.is classes w c);
+  }
+    where
+      go : (o : Option (List Spot)) → ChosenAre o 6 memory → ChosenAre o 6 other
+      go none e = e
+      go (some ps) e = absurd (omega (arith, e.0))
+
+  pub chosen_taken : {memory taken : List ℕ} {count : ℕ} → length taken ≡ count → backwards count taken ≡ backwards count memory
+      → ((k : ℕ) → k < length taken → get_or taken k 0 < 384)
+      → ChosenRead text offsets lengths d cells memory count → ChosenRead text offsets lengths d cells taken (length taken)
+  chosen_taken {memory} {taken} {count} size same known r = record {
+    within = let w = r.within in omega arith;
+    known = λ k h few. known k h;
+    is = λ classes w c. rw size (go (chosen w.file cells) (r.is classes w c));
+  }
+    where
+      go : (o : Option (List Spot)) → ChosenAre o count memory → ChosenAre o count taken
+      go none e = e
+      go (some ps) e = (e.0, e.1 ∙ sym same)

@@ -1,15 +1,19 @@
 -- Where a line ends, how many line feeds a text has, and the numbers of new lines.
-use Prim.Native.Nat.{ℕ, suc, ◌+◌, ◌-◌, ◌*◌, ◌/◌, ◌≤◌, ◌<◌}
+use Prim.Native.Nat.{ℕ, zero, suc, ◌+◌, ◌-◌, ◌*◌, ◌/◌, ◌≤◌, ◌<◌}
 use native.Mathlib.Numerals.{add-one}
 use native.Mathlib.Omega.{arith}
 use mathlib.Core.Path.{◌≡◌, refl, sym, ap, ◌∙◌}
-use mathlib.Core.Bool.{Bool, true, false}
+use mathlib.Core.Bool.{Bool, true, false, cond}
 use mathlib.Core.List.{List, [], ◌∷◌}
-use Rattle.std.specs.Prelude.{Option, Some, None}
-use lib.Dec.{ltb}
+use Rattle.std.specs.Prelude.{Option, Some, None, position}
+use Rattle.std.specs.List.{count_by, position_or_len}
+use Rattle.std.proofs.lemmas.List.Quantifiers.{position-Some}
+use Rattle.std.proofs.lemmas.List.Sums.{fails_before_first, sum_by-cons}
+use Rattle.std.proofs.lemmas.Option.{none-some}
+use lib.Dec.{eqb, ltb}
 use lib.ListN.{length, get_or, take, drop, length-drop}
 use lib.Seq.{drop-cons, drop-length, take-suc, get_or-drop}
-use borrow.Author.Tests.{lt-ltb, le-ltb, ltb-true, ltb-false, ne_eqb}
+use borrow.Author.Tests.{lt-ltb, le-ltb, ltb-true, ltb-false, eqb-true}
 use Rattle.cycles.specs.definitions.Readings.{PartOfLine}
 use Rattle.cycles.proofs.laws.ReadingsLaws.{part_append}
 use Rattle.senders.specs.inner_contracts.Judging.{Judged}
@@ -26,79 +30,55 @@ use Rattle.days.specs.inner_contracts.SheetMemory.{LineEnd, new_number, Stepped}
 
 -- ---- a line's end
 
--- no line feed stands before `i`
-pub record LineSoFar (s : List ℕ) (at i : ℕ) : Type 0 where
-  pub after : at ≤ i
-  pub inside : i ≤ length s
-  pub part : PartOfLine (take (i - at) (drop at s))
+part_by : (l : List ℕ) (k : ℕ) → k ≤ length l → ((j : ℕ) → j < k → eqb (get_or l j 0) 10 ≡ false) → PartOfLine (take k l)
+part_by l zero h e = tt
+part_by [] (suc k) h e = tt
+part_by (b ∷ l) (suc k) h e = (e 0 (omega arith), part_by l k (omega arith) (λ j p. e (suc j) (omega arith)))
 
-module _ (s : List ℕ) (at : ℕ) where
-  pub line_starts : at ≤ length s → LineSoFar s at at
-  line_starts h = record { after = omega arith; inside = h; part = let z : at - at ≡ 0 = omega arith in rw z tt }
-
-  pub line_goes_on : {i : ℕ} → LineSoFar s at i → i < length s → (get_or s i 0 ≡ 10 → ⊥) → LineSoFar s at (i + 1)
-  line_goes_on {i} w h other =
-      let a = w.after in
-      let n : i + 1 - at ≡ suc (i - at) = omega arith in
+module _ (s : List ℕ) (at : ℕ) (h : at ≤ length s) {o : Option ℕ} (q : o ≡ position (λ b. eqb b 10) (drop at s)) where
+  pub line_fed : {size : ℕ} → o ≡ Some size → LineEnd s at (at + size)
+  line_fed {size} e =
+      let (below, here, before) = position-Some (λ (b : ℕ). eqb b 10) (drop at s) size 0 (sym q ∙ e) in
       let l = length-drop at s in
-      let k : at + (i - at) ≡ i = omega arith in
-      let byte : get_or (drop at s) (i - at) 0 ≡ get_or s i 0 = get_or-drop at s (i - at) 0 ∙ ap (λ (j : ℕ). get_or s j 0) k in
+      let n : at + size - at ≡ size = omega arith in
       record {
         after = omega arith;
         inside = omega arith;
-        part =
-            rw (n, take-suc (drop at s) (i - at) 0 (omega arith), byte)
-            (part_append (take (i - at) (drop at s)) (get_or s i 0 ∷ []) w.part (ne_eqb (get_or s i 0) 10 other, tt));
+        part = rw n (part_by (drop at s) size (omega arith) before);
+        fed = λ inside. sym (get_or-drop at s size 0) ∙ eqb-true (get_or (drop at s) size 0) 10 here;
       }
 
-  pub line_fed : {i : ℕ} → LineSoFar s at i → get_or s i 0 ≡ 10 → LineEnd s at i
-  line_fed w e = record { after = w.after; inside = w.inside; part = w.part; fed = λ h. e }
-
-  pub line_over : {i : ℕ} → LineSoFar s at i → length s ≤ i → LineEnd s at i
-  line_over w h = record { after = w.after; inside = w.inside; part = w.part; fed = λ l. absurd (omega arith) }
-
--- what `line_end` needs
-pub ruleset line_ended = (line_starts, line_goes_on, line_fed, line_over)
+  pub line_over : o ≡ None → LineEnd s at (length s)
+  line_over e =
+      let most : length (drop at s) ≤ position_or_len (λ b. eqb b 10) (drop at s) =
+      none_long (ltb (position_or_len (λ b. eqb b 10) (drop at s)) (length (drop at s))) refl (sym q ∙ e) in
+      let l = length-drop at s in
+      record {
+        after = h;
+        inside = omega arith;
+        part =
+            part_by (drop at s) (length s - at) (omega arith)
+            (λ k p. fails_before_first (λ (b : ℕ). eqb b 10) (drop at s) k 0 (omega arith));
+        fed = λ inside. absurd (omega arith);
+      }
+    where
+      none_long : (t : Bool) → ltb (position_or_len (λ b. eqb b 10) (drop at s)) (length (drop at s)) ≡ t
+          → cond t (Some (position_or_len (λ b. eqb b 10) (drop at s))) None ≡ None → length (drop at s) ≤ position_or_len (λ b. eqb b 10) (drop at s)
+      none_long true e g = absurd (none-some (position_or_len (λ b. eqb b 10) (drop at s)) (sym g))
+      none_long false e g = ltb-false (position_or_len (λ b. eqb b 10) (drop at s)) (length (drop at s)) e
 
 -- ---- line feeds
 
+feeds_by_count : (s : List ℕ) → count_by (λ b. eqb b 10) s ≡ line_feeds s
+unfolding line_feeds
+feeds_by_count [] = refl
+feeds_by_count (b ∷ s) = sum_by-cons (λ x. cond (eqb x 10) 1 0) b s ∙ go (eqb b 10) (feeds_by_count s)
+  where
+    go : (t : Bool) → count_by (λ b. eqb b 10) s ≡ line_feeds s → cond t 1 0 + count_by (λ b. eqb b 10) s ≡ cond t (suc (line_feeds s)) (line_feeds s)
+    go true e = omega arith
+    go false e = omega arith
+
 module _ (s : List ℕ) where
-  -- those from `i` on are counted
-  pub record FeedsSoFar (count i : ℕ) : Type 0 where
-    pub is : count ≡ line_feeds (drop i s)
-    pub few : count + i ≤ length s
-
-  pub feeds_begin : FeedsSoFar 0 (length s)
-  unfolding line_feeds
-  feeds_begin = record { is = sym (ap line_feeds (drop-length s)); few = omega arith }
-
-  module _ {count i : ℕ} (w : FeedsSoFar count i) (h : 0 < i) where
-    back : drop (i - 1) s ≡ get_or s (i - 1) 0 ∷ drop i s
-    back =
-        let f = w.few in
-        let n : suc (i - 1) ≡ i = omega arith in
-        drop-cons s (i - 1) 0 (omega arith) ∙ ap (λ (k : ℕ). get_or s (i - 1) 0 ∷ drop k s) n
-
-    pub feeds_one : get_or s (i - 1) 0 ≡ 10 → FeedsSoFar (count + 1) (i - 1)
-    unfolding line_feeds
-    feeds_one e = record {
-      is = sym (ap line_feeds back ∙ rw e (ap suc (sym w.is) ∙ sym (add-one count)));
-      few = let f = w.few in omega arith;
-    }
-
-    pub feeds_other : (get_or s (i - 1) 0 ≡ 10 → ⊥) → FeedsSoFar count (i - 1)
-    unfolding line_feeds
-    feeds_other other = record {
-      is = sym (ap line_feeds back ∙ rw (ne_eqb (get_or s (i - 1) 0) 10 other) (sym w.is));
-      few = let f = w.few in omega arith;
-    }
-
-  pub feeds_end : {count i : ℕ} → FeedsSoFar count i → i ≤ 0 → (count ≡ line_feeds s) × (count ≤ length s)
-  feeds_end {count} {i} w h =
-      let z : i ≡ 0 = omega arith in
-      let f = w.few in
-      (w.is ∙ ap (λ (k : ℕ). line_feeds (drop k s)) z, omega arith)
-
   -- ---- the stated size
 
   -- by how many lines there is room for
@@ -112,16 +92,16 @@ module _ (s : List ℕ) where
   unfolding sheet_size
   size_short size h = sym (lt-ltb size stated (omega arith))
 
-  pub size_told : (size feeds : ℕ) → least ≤ size → feeds ≡ line_feeds s → ltb ((size - least) / MOST_LINE_BYTES) feeds ≡ ltb size (sheet_size s)
+  pub size_told : (size feeds : ℕ) → least ≤ size → feeds ≡ count_by (λ b. eqb b 10) s → ltb ((size - least) / MOST_LINE_BYTES) feeds ≡ ltb size (sheet_size s)
   unfolding sheet_size
   size_told size feeds h e = go (ltb ((size - least) / MOST_LINE_BYTES) feeds) refl
     where
-      go : (t : Bool) → ltb ((size - least) / MOST_LINE_BYTES) feeds ≡ t → t ≡ ltb size stated
-      go true q = let l = ltb-true ((size - least) / MOST_LINE_BYTES) feeds q in sym (lt-ltb size stated (omega arith))
-      go false q = let l = ltb-false ((size - least) / MOST_LINE_BYTES) feeds q in sym (le-ltb size stated (omega arith))
+      told : feeds ≡ line_feeds s
+      told = e ∙ feeds_by_count s
 
--- what `line_feeds` needs
-pub ruleset feeds_counted = (feeds_begin, feeds_one, feeds_other, feeds_end)
+      go : (t : Bool) → ltb ((size - least) / MOST_LINE_BYTES) feeds ≡ t → t ≡ ltb size stated
+      go true q = let n = told in let l = ltb-true ((size - least) / MOST_LINE_BYTES) feeds q in sym (lt-ltb size stated (omega arith))
+      go false q = let n = told in let l = ltb-false ((size - least) / MOST_LINE_BYTES) feeds q in sym (le-ltb size stated (omega arith))
 
 -- ---- a record
 

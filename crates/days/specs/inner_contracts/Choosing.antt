@@ -35,9 +35,13 @@ pub record SpotRead (text offsets lengths d : List ℕ) (spot_in : File → Opti
   pub within : r ≤ NO_SPOT
   pub is : (classes : List ℕ) (w : Bench text classes offsets lengths d) → Few w.file → r ≡ number_if_spot (spot_in w.file)
 
--- what r numbers of cells, the last one first, say of a list; r is one more than the most for none
+-- the count for no list
+abbrev pub NO_LIST : ℕ
+NO_LIST = MOST_CHOSEN + 1
+
+-- what r numbers of cells, the last one first, say of a list
 abbrev pub ChosenAre : Option (List Spot) → ℕ → List ℕ → Type 0
-ChosenAre none r l = r ≡ MOST_CHOSEN + 1
+ChosenAre none r l = r ≡ NO_LIST
 ChosenAre (some ps) r l = (r ≤ MOST_CHOSEN) × (map spot_number ps ≡ backwards r l)
 
 pub record ChosenRead (text offsets lengths d cells spots : List ℕ) (r : ℕ) : Type 0 where

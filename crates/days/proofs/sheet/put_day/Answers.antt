@@ -12,7 +12,7 @@ loop-at-preserved c =
       | in-Some w ↦
           rw (w.end-is, w.sheet-is, w.folds-is)
           (going_prints _ _ _ _ _ _ _ _ _ _ _ _ _ c.loop-at.invariant c.loop-at-test.true c.line_end-stop.ensures c.step.auto.state c.step.ensures
-          w.in-Some.is w.read_chosen-read.ensures c.requires.count_bound.0 w.put_line-end.ensures w.folded_values-more.ensures)
+          w.in-Some.is w.read_chosen-read.ensures c.args.chosen.now.few w.put_line-end.ensures w.folded_values-more.ensures)
       | in_default w ↦
           rw (w.end-is, w.sheet-is, w.folds-is)
           (going_passes _ _ _ _ _ _ _ _ _ _ _ _ _ c.loop-at.invariant c.loop-at-test.true c.line_end-stop.ensures c.step.auto.state c.step.ensures

@@ -1,10 +1,9 @@
-use Rattle.std.proofs.Common.{refl}
+use Rattle.std.proofs.Common.{arith, refl}
 use Rattle.engine.proofs.laws.LineLaws.{no_header, header_read}
 use Rattle.engine.proofs.room.ResolvedBench.read_header.Goals as goal
 
-pub returns-then-count-gt-MOST_COLUMNS : goal.returns-then-count-gt-MOST_COLUMNS
-returns-then-count-gt-MOST_COLUMNS c =
-    (refl, rw (← c.self.view_is) (no_header c.self.invariant c.read_header-count.ensures c.if-count-gt-MOST_COLUMNS.true))
+pub returns-in-Some : goal.returns-in-Some
+returns-in-Some c = rw (← c.self.view_is) (header_read c.self.invariant c.in-Some.ensures.read c.in-Some.ensures.few)
 
-pub returns : goal.returns
-returns c = rw (← c.self.view_is) (header_read c.self.invariant c.read_header-count.ensures c.if-count-gt-MOST_COLUMNS.false)
+pub returns-in-None : goal.returns-in-None
+returns-in-None c = (refl, rw (← c.self.view_is) (no_header c.self.invariant c.in-None.ensures.read (omega arith)))
