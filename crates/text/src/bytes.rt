@@ -344,13 +344,14 @@ pub fn is_digit(b: u8) -> bool
 }
 
 /// What a comment goes on with. Of the blanks, the line feed ends it.
-#[tactic(auto, using(crate::proofs::laws::ClassLaws::no_comment))]
+#[tactic(auto, using(crate::proofs::laws::ClassLaws::no_comment, crate::proofs::laws::ClassLaws::early_in_comment, crate::proofs::laws::ClassLaws::late_in_comment))]
 pub fn is_comment_byte(b: u8) -> bool
     ensures { result ≡ is_comment_byte b }
 {
     match class_of_byte(b) {
+        Letter | Digit | Underscore | Mark => true,
+        Blank | Hash | CommentOnly => b != b'\n',
         NotAllowed => false,
-        _ => b != b'\n',
     }
 }
 

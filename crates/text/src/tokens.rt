@@ -1,6 +1,7 @@
 // The tokens of a bench file: what begins at an offset, and the whole text's tokens as columns.
 ghost use Rattle.std.specs.Prelude.{◌≡◌, List, [], ◌∷◌, true, ◌+◌, ◌-◌, ◌≤◌, ◌<◌, length, drop};
 ghost use Rattle.std.proofs.Math.Option.{get_or};
+ghost use Rattle.values.specs.definitions.Bytes.{same_bytes};
 ghost use Rattle.text.specs.definitions.Bytes.{run, is_digit};
 ghost use Rattle.text.specs.definitions.Tokens;
 ghost use Rattle.text.specs.definitions.Tokens.{Fixed, spelled, reserved, class_in, name_item, number_item, digits_value};
@@ -9,7 +10,6 @@ ghost use Rattle.text.specs.inner_contracts.TokenTable.{RunTo, of_length, part, 
 use crate::bytes::{ByteClass, class_of_byte, is_comment_byte, is_digit, is_name_byte, mark_class};
 use crate::reader::item_at;
 use crate::{Item, SyntaxError, classes};
-use values::slices::same_bytes;
 
 // ---- runs
 
@@ -46,13 +46,30 @@ fn run_end<F: Fn(u8) -> bool>(text: &[u8], at: usize, passes: F) -> usize
 
 // ---- names and reserved words
 
+// Is the name this word? Mostly the first byte decides: with a constant word the loop is a test for each byte, where `==` compares them all at once
+// (with `==` a usual file takes a seventh more time).
+#[tactic(auto, using(crate::proofs::laws::FixedLaws::words_same, crate::proofs::laws::FixedLaws::words_differ, crate::proofs::laws::FixedLaws::lengths_differ))]
+fn is_word(name: &[u8], word: &[u8]) -> bool
+    ensures { result ≡ same_bytes name.now word.now }
+{
+    if name.len() != word.len() {
+        return false;
+    }
+    for i in 0..word.len() {
+        if name[i] != word[i] {
+            return false;
+        }
+    }
+    true
+}
+
 // The class of `word` if it is the name, else `other`: one word more before those that gave `other`.
 #[tactic(auto, using(crate::proofs::laws::FixedLaws::class_first, crate::proofs::laws::FixedLaws::class_later))]
 fn class_if(name: &[u8], word: &[u8], class: u8, other: u8) -> u8
     ensures { (fs : List Fixed) → other ≡ get_or (class_in fs name.now) Tokens.NAME
         → result ≡ get_or (class_in (spelled word.now class ∷ fs) name.now) Tokens.NAME }
 {
-    if same_bytes(name, word) {
+    if is_word(name, word) {
         return class;
     }
     other

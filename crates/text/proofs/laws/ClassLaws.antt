@@ -4,7 +4,7 @@ use mathlib.Core.Path.{◌≡◌, refl, sym, ap, ◌∙◌}
 use mathlib.Core.List.{List, [], ◌∷◌}
 use mathlib.Core.Bool.{Bool, true, false, not, cond, ◌||◌, true≢false, false≢true}
 use mathlib.Core.Option.{Option, none, some, get_or}
-use lib.Dec.{leb, eqb}
+use lib.Dec.{leb, ltb, eqb}
 use lib.ListN.{length, drop}
 use borrow.Author.Tests.{ne_eqb}
 use mathlib.Core.Logic.{◌⊎◌, inl, inr}
@@ -16,7 +16,7 @@ use Rattle.text.specs.definitions.ByteClass.{LETTER, DIGIT, UNDERSCORE, MARK, BL
 use Rattle.text.specs.inner_contracts.ByteTables.{BYTES, tabulate, mark_class, number_of}
 use Rattle.text.proofs.laws.ByteTableLaws.{agree}
 use Rattle.text.proofs.laws.ItemLaws.{item_blank, item_comment, item_name, item_number, item_mark}
-use Rattle.text.proofs.theorems.ByteClasses.{byte_classified, class_in_name}
+use Rattle.text.proofs.theorems.ByteClasses.{byte_classified, class_in_name, class_in_comment}
 
 -- a mark is a token of its own class, and what is no mark begins nothing
 module _ (b : ℕ) where
@@ -131,15 +131,23 @@ module _ {b : ℕ} (h : b < BYTES) (k : ByteClass) (e : number_of k ≡ byte_cla
   pub no_comment : k ≡ NotAllowed → false ≡ is_comment_byte b
   no_comment q = sym (rw q) ∙ in_comment
 
-  pub comment_byte : (k ≡ NotAllowed → ⊥) → not (eqb b 10) ≡ is_comment_byte b
-  comment_byte n = sym (no k n) ∙ in_comment
+  pub early_in_comment : (k ≡ Letter) ⊎ (k ≡ Digit) ⊎ (k ≡ Underscore) ⊎ (k ≡ Mark) → true ≡ is_comment_byte b
+  early_in_comment q = sym (yes q) ∙ in_comment_early
     where
-      no : (j : ByteClass) → (j ≡ NotAllowed → ⊥) → cond (eqb (number_of j) NOT_ALLOWED) false (not (eqb b 10)) ≡ not (eqb b 10)
-      no Letter n = refl
-      no Digit n = refl
-      no Underscore n = refl
-      no Mark n = refl
-      no Blank n = refl
-      no Hash n = refl
-      no CommentOnly n = refl
-      no NotAllowed n = absurd (n refl)
+      in_comment_early : cond (ltb (number_of k) BLANK) true (cond (eqb (number_of k) NOT_ALLOWED) false (not (eqb b 10))) ≡ is_comment_byte b
+      in_comment_early = ap (λ c. cond (ltb c BLANK) true (cond (eqb c NOT_ALLOWED) false (not (eqb b 10)))) e ∙ class_in_comment b h
+
+      yes : (k ≡ Letter) ⊎ (k ≡ Digit) ⊎ (k ≡ Underscore) ⊎ (k ≡ Mark)
+          → cond (ltb (number_of k) BLANK) true (cond (eqb (number_of k) NOT_ALLOWED) false (not (eqb b 10))) ≡ true
+      yes (inl q) = rw q
+      yes (inr (inl q)) = rw q
+      yes (inr (inr (inl q))) = rw q
+      yes (inr (inr (inr q))) = rw q
+
+  pub late_in_comment : (k ≡ Blank) ⊎ (k ≡ Hash) ⊎ (k ≡ CommentOnly) → not (eqb b 10) ≡ is_comment_byte b
+  late_in_comment q = sym (yes q) ∙ in_comment
+    where
+      yes : (k ≡ Blank) ⊎ (k ≡ Hash) ⊎ (k ≡ CommentOnly) → cond (eqb (number_of k) NOT_ALLOWED) false (not (eqb b 10)) ≡ not (eqb b 10)
+      yes (inl q) = rw q
+      yes (inr (inl q)) = rw q
+      yes (inr (inr q)) = rw q

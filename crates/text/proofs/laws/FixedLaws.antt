@@ -3,10 +3,10 @@ use mathlib.Core.Path.{◌≡◌, refl, sym, ap, ◌∙◌}
 use mathlib.Core.List.{List, [], ◌∷◌}
 use mathlib.Core.Bool.{Bool, true, false, ◌&&◌, ◌||◌, true≢false, false≢true}
 use mathlib.Core.Option.{none, some, get_or}
-use Prim.Native.Nat.{ℕ, ◌≤◌}
+use Prim.Native.Nat.{ℕ, suc, ◌<◌, ◌≤◌}
 use native.Mathlib.Omega.{arith}
 use lib.Dec.{leb, eqb}
-use lib.ListN.{length}
+use lib.ListN.{length, get_or as byte_of}
 use borrow.Author.Tests.{leb-true, eqb-false, eq-eqb, ne_eqb}
 use Rattle.values.specs.definitions.Bytes.{same_bytes}
 use Rattle.values.proofs.laws.ByteLaws.{same_bytes_equal}
@@ -56,6 +56,22 @@ unlike bs s h = go (same_bytes bs s) refl
 unfoldable some_passes : (List ℕ → Bool) → List Fixed → Bool
 some_passes test [] = false
 some_passes test (f ∷ fs) = test f.spelling || some_passes test fs
+
+-- the comparison byte by byte
+pub words_same : (bs s : List ℕ) → length bs ≡ length s → ((k : ℕ) → k < length s → byte_of bs k 0 ≡ byte_of s k 0) → true ≡ same_bytes bs s
+unfolding same_bytes
+words_same [] [] l h = refl
+words_same [] (y ∷ ys) l h = absurd (omega arith)
+words_same (x ∷ xs) [] l h = absurd (omega arith)
+words_same (x ∷ xs) (y ∷ ys) l h =
+    let e : x ≡ y = h 0 (omega arith) in
+    rw (eq-eqb x y e) (words_same xs ys (omega arith) (λ k b. h (suc k) (omega arith)))
+
+pub words_differ : (bs s : List ℕ) (i : ℕ) → (byte_of bs i 0 ≡ byte_of s i 0 → ⊥) → false ≡ same_bytes bs s
+words_differ bs s i n = sym (unlike bs s (λ e. n (ap (λ l. byte_of l i 0) e)))
+
+pub lengths_differ : (bs s : List ℕ) → (length bs ≡ length s → ⊥) → false ≡ same_bytes bs s
+lengths_differ bs s n = sym (unlike bs s (λ e. n (ap length e)))
 
 -- bs is none of them if it passes a test that no spelling passes
 class_none : (test : List ℕ → Bool) (fs : List Fixed) (bs : List ℕ) → test bs ≡ true → some_passes test fs ≡ false → class_in fs bs ≡ none
