@@ -1,5 +1,5 @@
 -- References, cells and writes in memory: what the evaluator's small functions give, and what a world's facts say of given tokens.
-use Prim.Native.Nat.{ℕ, ◌+◌, ◌-◌, ◌*◌, ◌/◌, ◌%◌, ◌<◌, ◌≤◌}
+use Prim.Native.Nat.{ℕ, ◌+◌, ◌*◌, ◌/◌, ◌%◌, ◌<◌, ◌≤◌}
 use mathlib.Core.Path.{◌≡◌, refl, sym, ◌∙◌}
 use mathlib.Core.List.{List, [], ◌∷◌, ◌++◌}
 use mathlib.Core.Bool.{Bool, true, false, ◌&&◌}
@@ -8,13 +8,13 @@ use mathlib.Core.Logic.{◌⊎◌}
 use native.Mathlib.Omega.{arith}
 use lib.Dec.{ltb, eqb}
 use lib.ListN.{length, get_or}
-use borrow.Author.Tests.{lt-ltb, le-ltb, eq-eqb, ne_eqb}
+use borrow.Author.Tests.{lt-ltb, le-ltb}
 use Rattle.values.specs.declared.Value.{Value}
 use Rattle.values.specs.declared.Value.TheVariants.{Unset}
 use Rattle.values.specs.definitions.Cells.{cell_at}
 use Rattle.text.specs.definitions.Tokens.{NAME, EVENT, ACTION, FROM, WITH, ON, DOT}
 use Rattle.text.specs.inner_contracts.Walks.{nth_token, Rows, Stands, Steps}
-use Rattle.text.proofs.laws.WalkLaws.{turn_less, getElem?_inside}
+use Rattle.text.proofs.laws.WalkLaws.{getElem?_inside}
 use Rattle.writes.specs.definitions.Writes.{Write}
 use Rattle.writes.specs.inner_contracts.Pending.{pended}
 use Rattle.cycles.specs.declared.evaluate.Binding.{Binding}
@@ -147,10 +147,3 @@ module _ {classes values refs : List ℕ} {b : Binding} (x : Resolved classes va
 pub target_named : {classes : List ℕ} {w : Rows classes} {n i : ℕ} → Targeted w n i → Stands w n NAME
 target_named (bare p) = p
 target_named (declares p q r) = p
-
--- ---- loops: a turn goes on to a later token
-
-pub class_turn_falls : (k : ℕ) → 0 < k → (classes : List ℕ) {i j n c : ℕ} → c ≡ get_or classes i 0 → c ≡ k
-    → Steps (length classes) i j → j ≤ n → length classes - n < length classes - i
-class_turn_falls k p classes {i} ec e s o =
-    turn_less (λ d. eqb d k) classes (ne_eqb 0 k (λ q. omega arith)) (eq-eqb (get_or classes i 0) k (sym ec ∙ e)) s o refl

@@ -7,10 +7,9 @@ use mathlib.Core.Bool.{Bool, true, false, true≢false}
 use Rattle.std.specs.Bool.{beq}
 use mathlib.Core.List.{List, [], ◌∷◌, ◌++◌, map}
 use mathlib.Core.Logic.{◌⊎◌, inl, inr}
-use lib.Dec.{eqb, ltb}
-use lib.ListN.{length, get_or, drop, set, length-append, length-drop}
-use lib.Seq.{get_or-set_same, get_or-set_other}
-use borrow.Author.Tests.{eqb-true, eqb-false, ltb-true, ltb-false}
+use lib.Dec.{ltb}
+use lib.ListN.{length, get_or, drop, length-append, length-drop}
+use borrow.Author.Tests.{ltb-true, ltb-false}
 use Rattle.values.specs.declared.Value.{Value}
 use Rattle.values.specs.definitions.Value.{equal, differ}
 use Rattle.text.specs.definitions.Syntax.{Expression, Condition, File}
@@ -51,19 +50,7 @@ use Rattle.cycles.specs.inner_contracts.GuardKinds.{
   Marked,
   Narrowed,
 }
-use Rattle.cycles.specs.inner_contracts.Failing.{
-  MarksTaken,
-  FailsWith,
-  CellFails,
-  ValueFails,
-  Unchanged,
-  GroupFails,
-  GuardFails,
-  unequal_now,
-  equal_before,
-  unchanged,
-  group_false,
-}
+use Rattle.cycles.specs.inner_contracts.Failing.{MarksTaken, FailsWith, ValueFails, Unchanged, GroupFails, GuardFails, unequal_now, equal_before, unchanged, group_false}
 use Rattle.cycles.proofs.laws.AmongLaws.{AllIn, all_in_cons, all_in_map, all_in_flatMap, flatMap_same}
 use Rattle.cycles.proofs.laws.BindingLaws.{bindings_bind}
 use Rattle.cycles.proofs.steps.ResolvedLaws.{rule_rows, GivesAt, named_refers, resolved}
@@ -264,14 +251,6 @@ module _ {classes values d refs scopes flags cells previous_flags previous_cells
 -- ---- marks
 
 module _ {Failing : ℕ → Type 0} where
-  pub mark_taken : {before : List Bool} (marks : List Bool) (e : ℕ) → MarksTaken Failing before marks → e < length marks → Failing e
-      → MarksTaken Failing before (set marks e false)
-  mark_taken {before} marks e t h f = record { takes = λ i. go i (eqb i e) refl }
-    where
-      go : (i : ℕ) (s : Bool) → eqb i e ≡ s → (get_or (set marks e false) i false ≡ get_or before i false) ⊎ ((get_or (set marks e false) i false ≡ false) × Failing i)
-      go i true q = rw (eqb-true i e q) (inr (get_or-set_same marks e false false h, f))
-      go i false q = rw (get_or-set_other marks e i false false (eqb-false i e q)) (t.takes i)
-
   pub taken_for : {Other : ℕ → Type 0} → ((e : ℕ) → Failing e → Other e) → {before after : List Bool} → MarksTaken Failing before after
       → MarksTaken Other before after
   taken_for {Other} f {before} {after} t = record { takes = λ e. go e (t.takes e) }
@@ -357,30 +336,3 @@ module _ {classes values refs : List ℕ} {b : Binding} {level : ℕ} {flags cel
   pub by_group : kind ≡ Holds → FailsWith b level (GroupFails classes values refs flags cells previous_flags previous_cells g.at) e
       → GuardFails classes values refs b level flags cells previous_flags previous_cells g e kind
   by_group k f = rw k (group_false f)
-
-module _ {classes values refs : List ℕ} {level : ℕ} {flags cells : List ℕ} {inner r m at : ℕ} {wanted : Bool} {binding : Binding} where
-  -- the expression worked out with the entity
-  pub worked_out_fails : {value : Value} {next : ℕ} → ExpressionWalk classes values refs binding flags cells (expression_reader OPENERS) at value next
-      → CellFails flags cells r m value wanted binding → ValueFails classes values refs flags cells level inner r m at wanted binding
-  worked_out_fails {value} {next} w h = record {
-    value = value;
-    next = next;
-    cell = h;
-    with_binding = binding;
-    walk = w;
-    agrees = λ s v l n. refl;
-  }
-
-  -- the expression worked out before: its variables have their entities
-  pub held_fails : {b : Binding} {e : ℕ} → inner ≤ level → {value : Value} {next : ℕ}
-      → ExpressionWalk classes values refs b flags cells (expression_reader OPENERS) at value next
-      → EntityAdded b level e binding → CellFails flags cells r m value wanted binding
-      → ValueFails classes values refs flags cells level inner r m at wanted binding
-  held_fails {b} most {value} {next} w added h = record {
-    value = value;
-    next = next;
-    cell = h;
-    with_binding = b;
-    walk = w;
-    agrees = λ s v l n. added.keeps v (omega arith) s;
-  }

@@ -1,6 +1,6 @@
 -- What is left of `put_fields`.
 use Rattle.cycles.proofs.laws.RowPuts.{fields_end, fired_at, fired_begin, fired_next, fired_rest}
-use Rattle.std.proofs.Common.{arith, refl}
+use Rattle.std.proofs.Common.{arith}
 use Rattle.cycles.proofs.rows.put_fields.Goals as goal
 use Rattle.cycles.proofs.rows.put_fields.Goals.{else-loop-m-test, then-loop-m-test+then-token-ge-NO_TOKEN}
 
