@@ -1,29 +1,58 @@
 // The check of a text into columns and a directory.
-ghost use Rattle.std.specs.Prelude.{◌≡◌, take};
+ghost use Rattle.std.specs.Prelude.{◌≡◌, ◌≤◌};
+ghost use Rattle.text.specs.inner_contracts.EnumAnswers.{offset_of};
+ghost use Rattle.checking.specs.definitions.Verdict;
+ghost use Rattle.checking.specs.declared.check.CheckError.TheVariants.{Refused};
 ghost use Rattle.text.specs.inner_contracts.TokenTable.{columns_of};
 ghost use Rattle.checking.specs.inner_contracts.FileWalk.{RulesFound, FileFound, Judged};
 ghost use Rattle.checking.specs.inner_contracts.CheckedBench.{Checks};
-ghost use Rattle.checking.specs.inner_contracts.CheckSteps.{concluded, Refuses, Settles};
+ghost use Rattle.checking.specs.inner_contracts.CheckSteps.{error_as};
 ghost use Rattle.checking.specs.inner_contracts.OfColumns.{of_file};
 
 use crate::columns::Columns;
 use crate::counts::count_fault;
 use crate::directory::build;
 use crate::entities::{entity_faults, link_entities};
-use crate::faults::{Fault, Faults, earlier};
+use crate::faults::{Fault, FaultKind, Faults, earlier};
 use crate::interfaces::interface_faults;
 use crate::layout::{DIRECTORY, MOST_BYTES, RULE_ROWS};
 use crate::priorities::priority_fault;
 use crate::rules::rule_faults;
 use text::{SyntaxError, read};
 
-// What a text is: accepted, with so many tokens in the columns; refused with a code, and the offset; or there is too little room in
-// the columns or in the directory.
-#[derive(Clone, Copy)]
-pub enum Checked {
-    Accepted(usize),
-    Refused { code: u8, at: u32 },
+/// Why a text was not accepted.
+#[derive(Clone, Copy, Debug, PartialEq, Eq)]
+pub enum CheckError {
+    /// The columns or the directory have fewer rows than the text needs.
     NoRoom,
+    /// The text is refused for its earliest fault of the first kind that the documents ask about.
+    Refused(Fault),
+}
+
+impl From<SyntaxError> for CheckError {
+    ghost from_gives = { λ error r. offset_of error ≤ Verdict.MOST_BYTES → r ≡ error_as error };
+
+    fn from(error: SyntaxError) -> CheckError {
+        match error {
+            SyntaxError::NoRoom => CheckError::NoRoom,
+            SyntaxError::TooLong => refused(FaultKind::TooLong, MOST_BYTES),
+            SyntaxError::NoTokenAt(at) => refused(FaultKind::NoToken, at),
+            SyntaxError::UnfitAt(at) => refused(FaultKind::UnfitToken, at),
+        }
+    }
+}
+
+fn refused(kind: FaultKind, at: usize) -> CheckError
+    ensures { at ≤ Verdict.MOST_BYTES → result ≡ Refused (record { kind = kind; at = at }) }
+{
+    // only in a longer text than `read` lets pass
+    if at > MOST_BYTES {
+        return CheckError::NoRoom;
+    }
+    CheckError::Refused(Fault {
+        kind,
+        at: at as u32,
+    })
 }
 
 // ---- the faults of a file
@@ -83,67 +112,7 @@ fn judged(
 
 // ---- the answer
 
-// The first n rows, or all if there are fewer.
-#[tactic(auto, using(crate::proofs::laws::CheckLaws::rows_all, crate::proofs::laws::CheckLaws::rows_first))]
-fn first_rows(classes: &[u8], n: usize) -> &[u8]
-    ensures { result.now ≡ take n classes.now }
-{
-    let size = classes.len();
-    if size <= n {
-        return &classes[0..size];
-    }
-    &classes[0..n]
-}
-
-fn refused(code: u8, p: usize) -> Checked
-    ensures { Refuses code p result }
-{
-    // only in a longer text than `read` lets pass
-    if p > MOST_BYTES {
-        return Checked::NoRoom;
-    }
-    Checked::Refused { code, at: p as u32 }
-}
-
-#[tactic(auto, unfolding(crate::specs::inner_contracts::CheckSteps::concluded))]
-fn concluded(n: usize, found: Option<Fault>) -> Checked
-    ensures { result ≡ concluded n found }
-{
-    match found {
-        None => Checked::Accepted(n),
-        Some(fault) => Checked::Refused {
-            code: fault.kind.code(),
-            at: fault.at,
-        },
-    }
-}
-
-// The answer by what `read` made of the text and the columns.
-#[tactic(auto, using(crate::proofs::laws::CheckLaws::settled_answers))]
-fn settled(
-    syntax: Result<usize, SyntaxError>,
-    text: &[u8],
-    classes: &[u8],
-    offsets: &[u16],
-    lengths: &[u8],
-    values: &[u32],
-    d: &mut [u16],
-) -> Checked
-    ensures { Settles text.now classes.now offsets.now lengths.now values.now d.old
-        d.new syntax result }
-{
-    match syntax {
-        Ok(n) => {
-            let rows = first_rows(classes, n);
-            let found = judged(text, rows, offsets, lengths, values, d);
-            concluded(n, found)
-        }
-        Err(SyntaxError::NoRoom) => Checked::NoRoom,
-        Err(error) => refused(error.code(), error.offset()),
-    }
-}
-
-// Checks a text: its tokens into the columns, where its items begin into the directory.
+/// Checks a text: its tokens into the columns, where its items begin into the directory. So many tokens it has, if it is accepted.
 pub fn check(
     text: &[u8],
     classes: &mut [u8],
@@ -151,13 +120,16 @@ pub fn check(
     lengths: &mut [u8],
     values: &mut [u32],
     d: &mut [u16],
-) -> Checked
+) -> Result<usize, CheckError>
     ensures { Checks text.now (columns_of classes.old offsets.old lengths.old values.old)
         (columns_of classes.new offsets.new lengths.new values.new) d.old d.new result }
 {
     if d.len() < DIRECTORY {
-        return Checked::NoRoom;
+        return Err(CheckError::NoRoom);
     }
-    let syntax = read(text, classes, offsets, lengths, values);
-    settled(syntax, text, classes, offsets, lengths, values, d)
+    let n = read(text, classes, offsets, lengths, values)?;
+    match judged(text, &classes[..n], offsets, lengths, values, d) {
+        Some(fault) => Err(CheckError::Refused(fault)),
+        None => Ok(n),
+    }
 }

@@ -1,11 +1,14 @@
-// What a walk of the check finds: the earliest fault, if there is one.
+// Faults of a text, and the earliest of those that the walks of the check find.
 ghost use Rattle.std.specs.Prelude.{◌≡◌};
 ghost use Rattle.checking.specs.definitions.Faults.{fault_unless, earliest};
 ghost use Rattle.checking.specs.inner_contracts.FoundFaults.{code_of, found_as, merged};
 
-/// Why a grammatical file is refused.
+/// Why a text is refused.
 #[derive(Clone, Copy, Debug, PartialEq, Eq)]
 pub enum FaultKind {
+    TooLong, // more bytes than a bench file may have
+    NoToken, // a place where no token begins
+    UnfitToken, // a token that fits no grammatical file after those before it
     HighPriority, // a rank above 9
     BeyondCount, // an item beyond a count
     DeclaredAgain, // a name declared, or an attribute set, again
@@ -20,6 +23,9 @@ impl FaultKind {
         ensures { result ≡ code_of self }
     {
         match self {
+            FaultKind::TooLong => 11,
+            FaultKind::NoToken => 12,
+            FaultKind::UnfitToken => 13,
             FaultKind::HighPriority => 44,
             FaultKind::BeyondCount => 14,
             FaultKind::DeclaredAgain => 15,
@@ -30,7 +36,7 @@ impl FaultKind {
     }
 }
 
-/// A fault of a file, and the offset at which it stands.
+/// A fault of a text, and the offset at which it stands.
 #[derive(Clone, Copy, Debug, PartialEq, Eq)]
 pub struct Fault {
     pub kind: FaultKind,

@@ -21,7 +21,7 @@ pub mod table; // what the columns and the directory say
 
 ghost use Rattle.std.specs.Prelude.{◌≡◌, ◌+◌, ◌*◌, ◌<◌};
 
-pub use check::Checked;
+pub use check::CheckError;
 pub use columns::Columns;
 pub use counts::count_fault;
 pub use directory::build;

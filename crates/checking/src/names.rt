@@ -5,7 +5,7 @@ ghost use Rattle.checking.specs.definitions.EntitySpan.{entity_span};
 ghost use Rattle.checking.specs.inner_contracts.CheckSteps.{SpansEntity};
 ghost use Rattle.checking.specs.inner_contracts.OfColumns.{of_names};
 
-use crate::check::{Checked, check};
+use crate::check::{CheckError, check};
 use crate::columns::Columns;
 use crate::layout::{DIRECTORY, ENTITY_COUNT_ROW, ENTITY_ROWS, MOST_BYTES};
 
@@ -17,23 +17,23 @@ pub struct Span {
 }
 
 // Where the name of an entity stands, by the answer of the check.
-#[tactic(auto, using(crate::proofs::steps::EntitySpanLaws::spans_short))]
-fn span_checked(columns: &Columns<'_>, checked: Checked, number: usize) -> Span
+fn span_checked(
+    columns: &Columns<'_>,
+    checked: Result<usize, CheckError>,
+    number: usize,
+) -> Span
     ensures { of_names SpansEntity columns.now checked number result }
 {
-    match checked {
-        Checked::NoRoom => Span { at: 0, length: 0 },
-        Checked::Refused { code: _, at: _ } => Span { at: 0, length: 0 },
-        Checked::Accepted(_) => {
-            if columns.row(ENTITY_COUNT_ROW) <= number {
-                return Span { at: 0, length: 0 };
-            }
-            let i = columns.row(ENTITY_ROWS + number) + 1;
-            let at = columns.offset(i) as usize;
-            let found = columns.name(i);
-            let length = found.len();
-            Span { at, length }
-        }
+    if let Err(_) = checked {
+        return Span { at: 0, length: 0 };
+    }
+    if columns.row(ENTITY_COUNT_ROW) <= number {
+        return Span { at: 0, length: 0 };
+    }
+    let i = columns.row(ENTITY_ROWS + number) + 1;
+    Span {
+        at: columns.offset(i) as usize,
+        length: columns.name(i).len(),
     }
 }
 

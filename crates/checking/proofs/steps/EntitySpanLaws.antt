@@ -7,13 +7,14 @@ use mathlib.Core.Option.{Option, some}
 use lib.ListN.{length, get_or, get_elem?}
 use Rattle.text.specs.inner_contracts.TokenTable.{TokenColumns, columns_of}
 use Rattle.text.specs.definitions.Syntax.{Entity, File}
-use Rattle.checking.specs.declared.check.Checked.{Checked}
-use Rattle.checking.specs.declared.check.Checked.TheVariants.{Accepted, Refused, NoRoom}
+use Rattle.std.specs.Prelude.{Ok, Err}
+use Rattle.checking.specs.declared.check.CheckError.{CheckError}
+use Rattle.checking.specs.declared.check.CheckError.TheVariants.{Refused, NoRoom}
 use Rattle.checking.specs.declared.names.Span.{Span}
 use Rattle.checking.specs.definitions.Verdict.{accepted_file, file_of, nth_entity, entity_of}
 use Rattle.checking.specs.definitions.EntitySpan.{no_span, span_if_found, entity_span}
 use Rattle.checking.specs.inner_contracts.Directory.{name_in}
-use Rattle.checking.specs.inner_contracts.CheckedBench.{Accepts, Says}
+use Rattle.checking.specs.inner_contracts.CheckedBench.{Checked, Accepts, Says}
 use Rattle.checking.specs.inner_contracts.CheckSteps.{SpansEntity}
 use Rattle.checking.proofs.laws.VerdictLaws.{accepted_is_file}
 use Rattle.checking.proofs.laws.DirectoryLaws.{number_beyond, number_inside, column_bytes, column_offset}
@@ -49,12 +50,12 @@ module _ {text : List ℕ} {u : TokenColumns} {d : List ℕ} {n : ℕ} (h : Acce
           ∙ sym (span_is ∙ ap span_if_found s)
 
 module _ {text os ls e : List ℕ} {x : Checked} {number : ℕ} where
-  pub spans_none : {n count : ℕ} → x ≡ Accepted n → count ≡ get_or e 1 0 → count ≤ number → SpansEntity text os ls e x number no_span
+  pub spans_none : {n count : ℕ} → x ≡ Ok n → count ≡ get_or e 1 0 → count ≤ number → SpansEntity text os ls e x number no_span
   spans_none q c l = record {
     told = λ cs vs d t h room. no_entity (subst (Says text (columns_of cs os ls vs) e) q h.says) number (omega arith);
   }
 
-  pub spans_one : {n count row at : ℕ} {name : List ℕ} → x ≡ Accepted n → count ≡ get_or e 1 0 → number < count → row ≡ get_or e (227 + number) 0
+  pub spans_one : {n count row at : ℕ} {name : List ℕ} → x ≡ Ok n → count ≡ get_or e 1 0 → number < count → row ≡ get_or e (227 + number) 0
       → at ≡ get_or os (row + 1) 0 → name ≡ name_in text os ls (row + 1)
       → SpansEntity text os ls e x number (record { at = at; length = length name })
   spans_one q c l p o f = record {
@@ -64,9 +65,7 @@ module _ {text os ls e : List ℕ} {x : Checked} {number : ℕ} where
         ∙ entity_there (subst (Says text (columns_of cs os ls vs) e) q h.says) number (omega arith);
   }
 
-  pub spans_refused : {code at : ℕ} → x ≡ Refused code at → SpansEntity text os ls e x number no_span
+  pub spans_refused : (error : CheckError) → x ≡ Err error → SpansEntity text os ls e x number no_span
   unfolding entity_span span_if_found entity_of nth_entity accepted_file file_of
-  spans_refused q = record { told = λ cs vs d t h room. let v = subst (Says text (columns_of cs os ls vs) e) q h.says in rw v }
-
-  pub spans_short : x ≡ NoRoom → SpansEntity text os ls e x number no_span
-  spans_short q = record { told = λ cs vs d t h room. absurd (h.enough room q) }
+  spans_refused (Refused f) q = record { told = λ cs vs d t h room. let v = subst (Says text (columns_of cs os ls vs) e) q h.says in rw v }
+  spans_refused NoRoom q = record { told = λ cs vs d t h room. absurd (h.enough room q) }

@@ -3,7 +3,7 @@ use Rattle.std.specs.Prelude.{ℕ, Some, None}
 use Rattle.std.specs.Prelude as code
 use Rattle.std.proofs.Math.Option.{Option, none, some}
 use Rattle.checking.specs.declared.faults.FaultKind.{FaultKind}
-use Rattle.checking.specs.declared.faults.FaultKind.TheVariants.{HighPriority, BeyondCount, DeclaredAgain, Unknown, AttributeUnset, UnfitKinds}
+use Rattle.checking.specs.declared.faults.FaultKind.TheVariants.{TooLong, NoToken, UnfitToken, HighPriority, BeyondCount, DeclaredAgain, Unknown, AttributeUnset, UnfitKinds}
 use Rattle.checking.specs.declared.faults.Fault as declared
 use Rattle.checking.specs.definitions.Faults.{Fault, fault, earlier}
 
@@ -13,6 +13,9 @@ Found = code.Option declared.Fault
 
 -- the table's number
 abbrev pub code_of : FaultKind → ℕ
+code_of TooLong = 11
+code_of NoToken = 12
+code_of UnfitToken = 13
 code_of HighPriority = 44
 code_of BeyondCount = 14
 code_of DeclaredAgain = 15
