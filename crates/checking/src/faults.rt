@@ -1,7 +1,7 @@
 // Faults of a text, and the earliest of those that the walks of the check find.
 ghost use Rattle.std.specs.Prelude.{◌≡◌};
 ghost use Rattle.checking.specs.definitions.Faults.{fault_unless, earliest};
-ghost use Rattle.checking.specs.inner_contracts.FoundFaults.{code_of, found_as, merged};
+ghost use Rattle.checking.specs.inner_contracts.FoundFaults.{fault_code, found_as, merged};
 
 /// Why a text is refused.
 #[derive(Clone, Copy, Debug, PartialEq, Eq)]
@@ -20,7 +20,7 @@ pub enum FaultKind {
 impl FaultKind {
     /// The number that the documents give it.
     pub const fn code(self) -> u8
-        ensures { result ≡ code_of self }
+        ensures { result ≡ fault_code self }
     {
         match self {
             FaultKind::TooLong => 11,
@@ -58,7 +58,7 @@ pub fn earlier(a: Option<Fault>, b: Option<Fault>) -> Option<Fault>
 /// A fault of this kind unless the test passes.
 #[tactic(auto, using(crate::proofs::laws::FaultLaws::earliest_passed, crate::proofs::laws::FaultLaws::earliest_failed), unfolding(crate::specs::inner_contracts::FoundFaults::found_as))]
 pub fn unless(passed: bool, kind: FaultKind, at: u32) -> Option<Fault>
-    ensures { found_as result ≡ earliest (fault_unless passed (code_of kind) at) }
+    ensures { found_as result ≡ earliest (fault_unless passed (fault_code kind) at) }
 {
     if passed {
         return None;

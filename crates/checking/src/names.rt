@@ -17,11 +17,7 @@ pub struct Span {
 }
 
 // Where the name of an entity stands, by the answer of the check.
-fn span_checked(
-    columns: &Columns<'_>,
-    checked: Result<usize, CheckError>,
-    number: usize,
-) -> Span
+fn span_checked(columns: &Columns<'_>, checked: Result<usize, CheckError>, number: usize) -> Span
     ensures { of_names SpansEntity columns.now checked number result }
 {
     if let Err(_) = checked {

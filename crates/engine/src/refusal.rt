@@ -3,7 +3,7 @@ ghost use Rattle.std.specs.Prelude.{◌≡◌, ◌≤◌, ◌<◌, length, Match
 ghost use Rattle.engine.specs.inner_contracts.Refusals.{code_of, refusal_answer, answer_of};
 ghost use Rattle.engine.specs.declared.refusal.Refusal.TheVariants.{ShortMemory};
 
-use checking::coded;
+use checking::{Fault, coded};
 
 // So many lengths can stand above a number.
 const LENGTHS: usize = 72057594037927936;
@@ -16,7 +16,7 @@ pub enum Refusal {
     NoState, // memory is no state of the bench
     Header, // a line of names
     IllFormedSender, // of a row that is asked for
-    Text { code: u8, at: u32 }, // a bench file, by the check's number and the offset
+    Text(Fault), // a bench file, for its fault
     Line(u8), // a line of values, by the number of the state's answer
     Sheet(u8), // a day sheet, by its number
 }
@@ -32,7 +32,7 @@ impl Refusal {
             Refusal::NoBench => 32,
             Refusal::NoState => 33,
             Refusal::IllFormedSender => 43,
-            Refusal::Text { code, .. } => code,
+            Refusal::Text(fault) => fault.kind.code(),
             Refusal::Line(code) => code,
             Refusal::Sheet(code) => code,
         }
@@ -44,7 +44,7 @@ impl From<Refusal> for u64 {
 
     fn from(refusal: Refusal) -> u64 {
         match refusal {
-            Refusal::Text { code, at } => coded(code, at),
+            Refusal::Text(fault) => coded(fault.kind.code(), fault.at),
             other => other.code() as u64,
         }
     }

@@ -2,6 +2,7 @@
 ghost use Rattle.std.specs.Prelude.{ℕ, true, false, ◌≡◌, ◌≤◌, ◌<◌, ◌⊎◌, length, get_or, MatchResult};
 ghost use Rattle.text.specs.inner_contracts.TokenTable.{columns_of};
 ghost use Rattle.checking.specs.inner_contracts.CheckedBench.{has_room};
+ghost use Rattle.checking.specs.inner_contracts.FoundFaults.{fault_code};
 ghost use Rattle.cycles.specs.inner_contracts.HeaderReads;
 ghost use Rattle.cycles.specs.inner_contracts.ReadSets;
 ghost use Rattle.checking.specs.definitions.Verdict;
@@ -18,9 +19,9 @@ ghost use Rattle.engine.specs.inner_contracts.Refusals.{answer_of};
 
 use crate::bench::put_bench;
 use crate::refusal::Refusal;
-use checking::Columns;
-use checking::check::{Checked, check};
+use checking::check::{CheckError, check};
 use checking::layout::DIRECTORY;
+use checking::{Columns, Fault};
 use cycles::header::{Header, read_header};
 use cycles::layout::{MOST_COLUMNS, SCOPES_BYTES};
 use cycles::{Rules, put_row_header};
@@ -28,13 +29,6 @@ use days::sheet::put_sheet;
 use senders::fingerprint::fingerprint;
 use senders::{Turn, advance, is_sender, is_state, put_fresh, show, show_place};
 use std::marker::Model;
-
-/// Why a text is refused, and where.
-#[derive(Clone, Copy, Debug, PartialEq, Eq)]
-pub struct Fault {
-    pub code: u8,
-    pub at: u32,
-}
 
 /// An accepted text in columns, a row for each token, with room to resolve its rules' names. Clauses see the text.
 #[derive(Drop)]
@@ -266,7 +260,7 @@ impl<const N: usize> Room<N> {
     /// The bench that a text is, or why it is none.
     pub fn read<'a>(&'a mut self, text: &'a [u8]) -> Result<AcceptedBench<'a>, Fault>
         requires { (length text.now ≤ N) ⊎ (Verdict.MOST_BYTES ≤ N) }
-        ensures { MatchResult result (λ b. b ≡ text.now) (λ fault. verdict text.now ≡ refused_at fault.code fault.at) }
+        ensures { MatchResult result (λ b. b ≡ text.now) (λ fault. verdict text.now ≡ refused_at (fault_code fault.kind) fault.at) }
     {
         let Room {
             classes,
@@ -297,11 +291,10 @@ fn read_into<'a>(
 ) -> Result<AcceptedBench<'a>, Fault>
     requires room { has_room text.now (columns_of classes.old offsets.old lengths.old literals.old) directory.old ≡ true }
     requires to_resolve { (length classes.old ≤ length references.old) × (ReadSets.SCOPES_BYTES ≤ length scopes.old) }
-    ensures { MatchResult result (λ b. b ≡ text.now) (λ fault. verdict text.now ≡ refused_at fault.code fault.at) }
+    ensures { MatchResult result (λ b. b ≡ text.now) (λ fault. verdict text.now ≡ refused_at (fault_code fault.kind) fault.at) }
 {
-    let checked = check(text, classes, offsets, lengths, literals, directory);
-    match checked {
-        Checked::Accepted(n) => Ok(AcceptedBench {
+    match check(text, classes, offsets, lengths, literals, directory) {
+        Ok(n) => Ok(AcceptedBench {
             columns: Columns {
                 text,
                 classes: &classes[..n],
@@ -313,7 +306,7 @@ fn read_into<'a>(
             references,
             scopes,
         }),
-        Checked::Refused { code, at } => Err(Fault { code, at }),
-        Checked::NoRoom => unreachable!(),
+        Err(CheckError::Refused(fault)) => Err(fault),
+        Err(CheckError::NoRoom) => unreachable!(),
     }
 }

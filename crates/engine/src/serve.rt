@@ -1,6 +1,7 @@
 // A call on a bench's text: one piece of code with room for the text's columns serves them all.
 ghost use Rattle.std.specs.Prelude.{ℕ, List, ◌≡◌, ◌≤◌, length};
 ghost use Rattle.checking.specs.definitions.Verdict.{verdict, accepted_file, refused_at};
+ghost use Rattle.checking.specs.inner_contracts.FoundFaults.{fault_code};
 ghost use Rattle.senders.specs.definitions.Fingerprint.{fingerprint};
 ghost use Rattle.senders.specs.definitions.StateImage;
 ghost use Rattle.days.specs.definitions.DaySheet.{sheet_size};
@@ -12,7 +13,8 @@ ghost use Rattle.engine.specs.inner_contracts.Serving;
 ghost use Rattle.engine.specs.inner_contracts.Serving.{Served, served_check, served_fresh, served_line, served_row, served_sheet};
 
 use crate::refusal::Refusal;
-use crate::room::{AcceptedBench, Fault, Room};
+use crate::room::{AcceptedBench, Room};
+use checking::Fault;
 use checking::layout::MOST_BYTES;
 
 // The length of what an accepted call writes that writes no row.
@@ -41,7 +43,7 @@ pub trait Call {
 
     /// On a text that is refused.
     fn refusal(self, fault: Fault) -> Refusal
-        ensures { (text state out : List ℕ) → verdict text ≡ refused_at fault.code fault.at
+        ensures { (text state out : List ℕ) → verdict text ≡ refused_at (fault_code fault.kind) fault.at
             → record { answer = refusal_answer result; state = state; out = out } ≡ served self text state out };
 }
 
@@ -65,10 +67,7 @@ impl Call for Check {
     }
 
     fn refusal(self, fault: Fault) -> Refusal {
-        Refusal::Text {
-            code: fault.code,
-            at: fault.at,
-        }
+        Refusal::Text(fault)
     }
 }
 

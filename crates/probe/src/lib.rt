@@ -11,7 +11,7 @@ ghost use Rattle.probe.specs.definitions.Tried;
 ghost use Rattle.probe.specs.definitions.Tried.{TriedContract};
 ghost use Rattle.probe.specs.inner_contracts.TriedMemory.{TriedBetween, tried_in_text, PutTried};
 
-use checking::check::{Checked, check};
+use checking::check::{CheckError, check};
 use checking::layout::{DIRECTORY, ENTITY_COUNT_ROW, MOST_BYTES, MOST_ENTITIES};
 use checking::{Columns, row};
 use cycles::layout::{ENTITY_BYTES, NUMBER_BYTES, SCOPES_BYTES};
@@ -125,11 +125,10 @@ fn on_text(
     ensures { record { answer = result; tried = tried.new }
         ≡ tried_in_text text.now before.now after.now tried.old }
 {
-    let checked = check(text, classes, offsets, lengths, literals, d);
-    match checked {
-        Checked::NoRoom => 31,
-        Checked::Refused { code: _, at: _ } => 32,
-        Checked::Accepted(n) => put_tried(
+    match check(text, classes, offsets, lengths, literals, d) {
+        Err(CheckError::NoRoom) => 31,
+        Err(CheckError::Refused(_)) => 32,
+        Ok(n) => put_tried(
             text,
             &classes[0..n],
             offsets,

@@ -77,7 +77,7 @@ pub fn start<'a, const N: usize>(
 {
     match room.read(text) {
         Ok(bench) => Ok(Replay::new(bench)),
-        Err(fault) => Err(put_bench_refusal(out, fault.code, fault.at)),
+        Err(fault) => Err(put_bench_refusal(out, fault.kind.code(), fault.at)),
     }
 }
 

@@ -9,7 +9,7 @@ use Rattle.text.specs.definitions.Readers.{read}
 use Rattle.text.specs.definitions.Grammar.{file_reader}
 use Rattle.checking.specs.declared.check.CheckError.{CheckError}
 use Rattle.checking.specs.declared.check.CheckError.TheVariants.{NoRoom, Refused}
-use Rattle.checking.specs.inner_contracts.FoundFaults.{code_of}
+use Rattle.checking.specs.inner_contracts.FoundFaults.{fault_code}
 use Rattle.checking.specs.definitions.CountFaults.{MOST_RULES}
 use Rattle.checking.specs.definitions.Verdict.{accepted, refused_at, MOST_BYTES, verdict, verdict_answer}
 use Rattle.checking.specs.inner_contracts.Directory.{DIRECTORY, Bench}
@@ -28,7 +28,7 @@ Checked = Result ℕ CheckError
 -- "Acceptance returns 0"; a refusal's code and offset; 31: "lent memory shorter than the stated size"
 unfoldable pub checked_answer : Checked → ℕ
 checked_answer (Ok n) = 0
-checked_answer (Err (Refused f)) = refusal_answer (code_of f.kind) f.at
+checked_answer (Err (Refused f)) = refusal_answer (fault_code f.kind) f.at
 checked_answer (Err NoRoom) = 31
 
 -- ---- what an answer says to a caller
@@ -51,7 +51,7 @@ pub record Accepts (text : List ℕ) (u : TokenColumns) (d : List ℕ) (n : ℕ)
 
 abbrev pub Says : List ℕ → TokenColumns → List ℕ → Checked → Type 0
 Says text u d (Ok n) = Accepts text u d n
-Says text u d (Err (Refused f)) = verdict text ≡ refused_at (code_of f.kind) f.at
+Says text u d (Err (Refused f)) = verdict text ≡ refused_at (fault_code f.kind) f.at
 Says text u d (Err NoRoom) = Unit {0}
 
 -- room for a row for each byte of the text, unless it is refused for its length, and for the directory

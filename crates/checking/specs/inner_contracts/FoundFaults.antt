@@ -12,20 +12,20 @@ abbrev pub Found : Type 0
 Found = code.Option declared.Fault
 
 -- the table's number
-abbrev pub code_of : FaultKind → ℕ
-code_of TooLong = 11
-code_of NoToken = 12
-code_of UnfitToken = 13
-code_of HighPriority = 44
-code_of BeyondCount = 14
-code_of DeclaredAgain = 15
-code_of Unknown = 16
-code_of AttributeUnset = 17
-code_of UnfitKinds = 18
+abbrev pub fault_code : FaultKind → ℕ
+fault_code TooLong = 11
+fault_code NoToken = 12
+fault_code UnfitToken = 13
+fault_code HighPriority = 44
+fault_code BeyondCount = 14
+fault_code DeclaredAgain = 15
+fault_code Unknown = 16
+fault_code AttributeUnset = 17
+fault_code UnfitKinds = 18
 
 unfoldable pub found_as : Found → Option Fault
 found_as None = none
-found_as (Some f) = some (fault (code_of f.kind) f.at)
+found_as (Some f) = some (fault (fault_code f.kind) f.at)
 
 -- the earlier of two, the left one where neither is earlier
 unfoldable pub merged : Option Fault → Option Fault → Option Fault

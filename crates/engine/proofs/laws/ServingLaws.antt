@@ -10,13 +10,14 @@ use lib.ListN.{length, take, drop, length-take}
 use borrow.Author.Tests.{le-leb, le-ltb}
 use Rattle.values.specs.definitions.Bytes.{word_at}
 use Rattle.text.specs.inner_contracts.TokenTable.{TokenColumns, lacks_rows}
-use Rattle.checking.specs.declared.check.Checked.{Checked}
-use Rattle.checking.specs.declared.check.Checked.TheVariants as checked_as
+use Rattle.checking.specs.declared.faults.Fault.{Fault}
+use Rattle.checking.specs.declared.check.CheckError.TheVariants as errors
+use Rattle.checking.specs.inner_contracts.FoundFaults.{fault_code}
 use Rattle.checking.specs.definitions.Verdict.{Verdict, verdict, verdict_answer, file_of, accepted_file, MOST_BYTES}
 use mathlib.Core.Logic.{◌⊎◌, inl, inr}
 use Rattle.checking.proofs.laws.CheckLaws.{room_for_all}
 use Rattle.checking.proofs.laws.VerdictLaws.{accepted_length as text-length, accepted_is_file}
-use Rattle.checking.specs.inner_contracts.CheckedBench.{CheckedBench, Accepts, Says, has_room, Checks}
+use Rattle.checking.specs.inner_contracts.CheckedBench.{CheckedBench, Checked, Accepts, Says, has_room, Checks}
 use Rattle.reads.specs.inner_contracts.RulesResolved.{RulesResolved}
 use Rattle.cycles.specs.inner_contracts.RowMemory.{HeaderPut}
 use Rattle.cycles.proofs.laws.RowPuts.{short_names}
@@ -69,11 +70,11 @@ sender_short name e h = name_short name (rw (sym e ∙ h) tt)
 
 -- ---- the check's answer
 
-pub accepted_says : {text d : List ℕ} {u : TokenColumns} {r : Checked} {n : ℕ} → r ≡ checked_as.Accepted n → Says text u d r → Accepts text u d n
+pub accepted_says : {text d : List ℕ} {u : TokenColumns} {r : Checked} {n : ℕ} → r ≡ Ok n → Says text u d r → Accepts text u d n
 accepted_says {text} {d} {u} e s = subst (Says text u d) e s
 
-pub refused_says : (text d : List ℕ) (u : TokenColumns) {r : Checked} {code at : ℕ} → r ≡ checked_as.Refused code at → Says text u d r
-    → verdict text ≡ Verdict.refused_at code at
+pub refused_says : (text d : List ℕ) (u : TokenColumns) {r : Checked} {f : Fault} → r ≡ Err (errors.Refused f) → Says text u d r
+    → verdict text ≡ Verdict.refused_at (fault_code f.kind) f.at
 refused_says text d u e s = subst (Says text u d) e s
 
 -- ---- a sheet
@@ -209,10 +210,10 @@ text_accepted m = go (leb (word_at 4 m 0) MOST_BYTES)
 -- ---- a text, by the check's answer
 
 module _ {text d e : List ℕ} {t u : TokenColumns} {r : Checked} (checks : Checks text t u d e r) where
-  pub text_refused : {code at : ℕ} → r ≡ checked_as.Refused code at → verdict text ≡ Verdict.refused_at code at
+  pub text_refused : {f : Fault} → r ≡ Err (errors.Refused f) → verdict text ≡ Verdict.refused_at (fault_code f.kind) f.at
   text_refused q = refused_says text e u q checks.says
 
-  module _ {n : ℕ} (q : r ≡ checked_as.Accepted n) where
+  module _ {n : ℕ} (q : r ≡ Ok n) where
     accepts : Accepts text u e n
     accepts = accepted_says q checks.says
 

@@ -1,6 +1,7 @@
 -- The number of each refusal, and the answer of a call.
 use Rattle.std.specs.Prelude.{ℕ, Result, Ok, Err}
 use Rattle.text.specs.definitions.Answers.{refusal_answer as placed}
+use Rattle.checking.specs.inner_contracts.FoundFaults.{fault_code}
 use Rattle.engine.specs.declared.refusal.Refusal.{Refusal}
 use Rattle.engine.specs.declared.refusal.Refusal.TheVariants.{ShortMemory, NoBench, NoState, Header, IllFormedSender, Text, Line, Sheet}
 use Rattle.engine.specs.definitions.Calls.{length_answer}
@@ -12,7 +13,7 @@ code_of ShortMemory = 31
 code_of NoBench = 32
 code_of NoState = 33
 code_of IllFormedSender = 43
-code_of (Text code at) = code
+code_of (Text fault) = fault_code fault.kind
 code_of (Line code) = code
 code_of (Sheet code) = code
 
@@ -23,7 +24,7 @@ refusal_answer ShortMemory = 31
 refusal_answer NoBench = 32
 refusal_answer NoState = 33
 refusal_answer IllFormedSender = 43
-refusal_answer (Text code at) = placed code at
+refusal_answer (Text fault) = placed (fault_code fault.kind) fault.at
 refusal_answer (Line code) = code
 refusal_answer (Sheet code) = code
 

@@ -11,10 +11,11 @@ use Rattle.values.specs.definitions.Bytes.{low_first, overwritten}
 use Rattle.values.proofs.laws.ByteLaws.{overwritten_parts}
 use Rattle.text.specs.definitions.Syntax.{Rule, File}
 use Rattle.text.specs.inner_contracts.TokenTable.{TokenColumns}
-use Rattle.checking.specs.declared.check.Checked.{Checked}
-use Rattle.checking.specs.declared.check.Checked.TheVariants.{Accepted, Refused}
+use Rattle.std.specs.Prelude.{Ok, Err}
+use Rattle.checking.specs.declared.faults.Fault.{Fault}
+use Rattle.checking.specs.declared.check.CheckError.TheVariants.{Refused}
 use Rattle.checking.specs.definitions.Verdict.{file_of, accepted_file}
-use Rattle.checking.specs.inner_contracts.CheckedBench.{Checks}
+use Rattle.checking.specs.inner_contracts.CheckedBench.{Checked, Checks}
 use Rattle.checking.proofs.laws.VerdictLaws.{accepted_is_file}
 use Rattle.cycles.specs.definitions.Quiescence.{is_quiescent}
 use Rattle.cycles.specs.definitions.Planes.{entity_count, decode_stores}
@@ -128,12 +129,12 @@ module _ {text classes offsets lengths d before after tried : List ℕ} {print :
 -- ---- a text, by the check's answer
 
 module _ {text d e : List ℕ} {t u : TokenColumns} {r : Checked} (checks : Checks text t u d e r) where
-  pub text_refused : {code at : ℕ} → r ≡ Refused code at → (before after : List ℕ) {tried : List ℕ}
+  pub text_refused : {f : Fault} → r ≡ Err (Refused f) → (before after : List ℕ) {tried : List ℕ}
       → record { answer = 32; tried = tried } ≡ tried_in_text text before after tried
   unfolding tried_on_bench accepted_file file_of
   text_refused q before after = rw (refused_says text e u q checks.says)
 
-  pub text_taken : {n : ℕ} → r ≡ Accepted n → {before after tried new : List ℕ} {a : ℕ}
+  pub text_taken : {n : ℕ} → r ≡ Ok n → {before after tried new : List ℕ} {a : ℕ}
       → PutTried text (take (n - 0) u.classes) u.offsets u.lengths e before after tried new a
       → record { answer = a; tried = new } ≡ tried_in_text text before after tried
   text_taken {n} q s = let z : n - 0 ≡ n = omega arith in s.is u.values (rw z (accepted_says q checks.says).stands)
