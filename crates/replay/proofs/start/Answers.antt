@@ -9,4 +9,4 @@ returns-in-Ok g c = subst (λ text. Started text c.new.result) c.in-Ok.ensures c
 
 pub returns-in-Err : goal.returns-in-Err
 returns-in-Err g c =
-    bench_refused (c.in-Err.ensures ∙ ap (λ code. Verdict.refused_at code _) (sym c.code.ensures)) c.requires.room c.put_bench_refusal.ensures
+    bench_refused (c.in-Err.ensures ∙ ap (λ code. Verdict.refused_at code c.in-Err.fault.at) (sym c.code.ensures)) c.requires.room c.put_bench_refusal.ensures
