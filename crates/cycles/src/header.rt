@@ -85,13 +85,10 @@ fn is_read(columns: &[u16], count: usize, column: u16) -> bool
     requires { count ≤ length columns.now }
     ensures { result ≡ is_number_among column (backwards count columns.now) }
 {
-    let mut k = count;
-    while 0 < k {
-        let j = k - 1;
-        if column == columns[j] {
+    for k in (0..count).rev() {
+        if column == columns[k] {
             return true;
         }
-        k = j;
     }
     false
 }

@@ -27,10 +27,8 @@ fn print_rest(text: &[u8], at: usize, so_far: u64) -> u32
     ensures { result ≡ fingerprint_from so_far (drop at text.now) }
 {
     let mut print = so_far;
-    let mut i = at;
-    while i < text.len() {
+    for i in at..text.len() {
         print = (print * BASE + u64::from(text[i]) + 1) % PRIME;
-        i += 1;
     }
     print as u32
 }

@@ -181,17 +181,14 @@ pub fn put_kept(columns: &Columns<'_>, n: usize, fired: &[u8], inputs: &mut [u8]
     }
 }
 
-// Puts a byte of 0 from `at` to `end`.
-#[tactic(auto, using(crate::proofs::steps::KeptSteps::zeros_put))]
-fn put_zeros(memory: &mut [u8], at: usize, end: usize)
-    requires { (at ≤ end) × (end ≤ length memory.old) }
-    ensures { Put (replicate (end - at) 0) memory.old at memory.new end }
+// Puts so many bytes of 0.
+#[tactic(auto, using(values::proofs::laws::PutLaws::put_filled))]
+fn put_zeros(memory: &mut [u8], at: usize, count: usize)
+    requires { at + count ≤ length memory.old }
+    ensures { Put (replicate count 0) memory.old at memory.new (at + count) }
 {
-    let mut i = at;
-    while i < end {
-        memory[i] = 0;
-        i += 1;
-    }
+    let end = at + count;
+    memory[at..end].fill(0);
 }
 
 // Puts a sender's part of n entities at the front of memory.
@@ -203,7 +200,7 @@ pub fn put_sender(memory: &mut [u8], n: usize, name: &[u8], last: u32, flags: &[
 {
     memory[0] = name.len() as u8;
     let end = put_bytes(memory, 1, name);
-    put_zeros(memory, end, NAME_PLACE);
+    put_zeros(memory, end, NAME_PLACE - end);
     put_number(&mut memory[NAME_PLACE..], last);
     put_plane(memory, SENDER_HEAD_BYTES, flags, cells, n);
 }

@@ -140,17 +140,6 @@ module _ {classes d inputs fired : List ℕ} where
       is = λ text offsets lengths w c. (put_in_front (rw e at (p.is text offsets lengths w c)) h).is;
     }
 
--- ---- zeros
-
-pub zeros_step : (l : List ℕ) (i end : ℕ) → i < end → overwritten (set l i 0) (i + 1) (replicate (end - (i + 1)) 0) ≡ overwritten l i (replicate (end - i) 0)
-zeros_step l i end h = let n : end - i ≡ suc (end - (i + 1)) = omega arith in rw n
-
-pub zeros_put : {l before : List ℕ} {i at end : ℕ} → overwritten l i (replicate (end - i) 0) ≡ overwritten before at (replicate (end - at) 0) → at ≤ end
-    → end ≤ i → Put (replicate (end - at) 0) before at l end
-zeros_put {l} {before} {i} {at} {end} e h g =
-    let n : end - i ≡ 0 = omega arith in
-    record { end = rw (length-replicate {A = ℕ} (end - at) 0) (omega arith); is = rw n at e }
-
 -- ---- a sender's part
 
 pub sender_put : (n last : ℕ) (name flags cells m : List ℕ) {named padded part after : List ℕ} {end r : ℕ} → length name ≤ 24

@@ -1,15 +1,11 @@
 -- What is left of the text goes on from the fold so far.
 use Rattle.senders.specs.definitions.Fingerprint.{PRIME, fingerprint_from}
-use Rattle.std.proofs.Common.{drop, length, ◌-◌, ◌<◌, ◌≡◌, ◌≤◌}
+use Rattle.std.proofs.Common.{drop, ◌<◌, ◌≡◌}
 use Rattle.senders.proofs.fingerprint.print_rest.Given as goal
 
 abbrev pub invariant-loop-i : goal.invariant-loop-i
 invariant-loop-i l =
     record {
       below : l.print < PRIME;
-      within : l.i ≤ length l.text;
       left : fingerprint_from l.print (drop l.i l.text) ≡ fingerprint_from l.so_far (drop l.at l.text);
     }
-
-abbrev pub decreases-loop-i : goal.decreases-loop-i
-decreases-loop-i l = length l.text - l.i
