@@ -1,4 +1,5 @@
-// The classes of tokens, as specs/Tokens.antt numbers them.
+// The classes of tokens, as specs/definitions/Tokens.antt numbers them. Numbers and not an enum: an export lends no slice of an enum, and `measure_text`
+// lends the column of classes, as the definitions have it.
 pub const NAME: u8 = 0;
 
 pub const WHOLE_NUMBER: u8 = 1;

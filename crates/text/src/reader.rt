@@ -12,27 +12,29 @@ pub struct Reader<'a> {
     pub at: usize,
 }
 
-/// A reader over a text, at an offset.
-pub fn reader_at<'a>(text: &'a [u8], at: usize) -> Reader<'a>
-    ensures { (result.text ≡ text.entry) × (result.at ≡ at) }
-{
-    Reader { text, at }
-}
+impl<'a> Reader<'a> {
+    /// A reader over a text, at an offset.
+    pub fn new(text: &'a [u8], at: usize) -> Reader<'a>
+        ensures { (result.text ≡ text.entry) × (result.at ≡ at) }
+    {
+        Reader { text, at }
+    }
 
-/// What begins at the reader's offset.
-pub fn item<'a>(r: Reader<'a>) -> Item
-    ensures { result ≡ token_at r.entry.text.now r.entry.at }
-{
-    token_at(r.text, r.at)
-}
+    /// What begins at the reader's offset.
+    pub fn item(self) -> Item
+        ensures { result ≡ token_at self.entry.text.now self.entry.at }
+    {
+        token_at(self.text, self.at)
+    }
 
-/// The reader after that item.
-pub fn advanced<'a>(r: Reader<'a>) -> Reader<'a>
-    ensures { (result.text ≡ r.entry.text) × (result.at ≡ offset_after r.entry.text.now r.entry.at) }
-{
-    Reader {
-        text: r.text,
-        at: offset_after(r.text, r.at),
+    /// The reader after that item.
+    pub fn advanced(self) -> Reader<'a>
+        ensures { (result.text ≡ self.entry.text) × (result.at ≡ offset_after self.entry.text.now self.entry.at) }
+    {
+        Reader {
+            text: self.text,
+            at: offset_after(self.text, self.at),
+        }
     }
 }
 
@@ -40,5 +42,5 @@ pub fn advanced<'a>(r: Reader<'a>) -> Reader<'a>
 pub fn item_at(text: &[u8], at: usize) -> Item
     ensures { result ≡ token_at text.now at }
 {
-    item(reader_at(text, at))
+    Reader::new(text, at).item()
 }

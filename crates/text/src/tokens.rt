@@ -161,7 +161,7 @@ fn digit_value(b: u8) -> u64
     requires { is_digit b ≡ true }
     ensures { (result ≡ b - 48) × (result < 10) }
 {
-    (b - b'0') as u64
+    u64::from(b - b'0')
 }
 
 // The value of a run of digits, ten at most.
@@ -192,18 +192,16 @@ fn number_at(text: &[u8], at: usize, end: usize) -> Item
         return Item::Bad;
     }
     let value = n as u32;
-    if end < text.len() {
-        if text[end] == b'r' {
-            return Item::Found {
-                class: classes::REAL_NUMBER,
-                value: value,
-                next: end + 1,
-            };
-        }
+    if end < text.len() && text[end] == b'r' {
+        return Item::Found {
+            class: classes::REAL_NUMBER,
+            value,
+            next: end + 1,
+        };
     }
     Item::Found {
         class: classes::WHOLE_NUMBER,
-        value: value,
+        value,
         next: end,
     }
 }

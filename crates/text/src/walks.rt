@@ -8,7 +8,7 @@ ghost use Rattle.text.specs.inner_contracts.Walks.{Steps, Ends};
 use crate::classes::{NAME, PLUS, RANK, REAL};
 use crate::grammar::{OPENERS, atom, expression};
 
-// The number after i, if there is a token number i of so many; else i, so that no walk leaves the table far.
+/// The number after i, if there is a token number i of so many; else i, so that no walk leaves the table far.
 pub fn skip(i: usize, size: usize) -> usize
     ensures { Steps size i result }
 {
@@ -18,24 +18,18 @@ pub fn skip(i: usize, size: usize) -> usize
     i
 }
 
-// A row of the classes, or of the lengths; 0 if there is none.
+/// A row of the classes, or of the lengths; 0 if there is none.
 pub fn class_at(classes: &[u8], i: usize) -> u8
     ensures { result ≡ get_or classes.now i 0 }
 {
-    if classes.len() <= i {
-        return 0;
-    }
-    classes[i]
+    classes.get(i).copied().unwrap_or(0)
 }
 
-// A row of the numbers' values; 0 if there is none.
+/// A row of the numbers' values; 0 if there is none.
 pub fn value_at(values: &[u32], i: usize) -> u32
     ensures { result ≡ get_or values.now i 0 }
 {
-    if values.len() <= i {
-        return 0;
-    }
-    values[i]
+    values.get(i).copied().unwrap_or(0)
 }
 
 // The number of the token after what begins with no opener: name `.` member, or a literal, which is one token.
@@ -57,8 +51,8 @@ fn parsed_end(classes: &[u8], at: usize) -> usize
     expression(classes, at, OPENERS).unwrap_or(at)
 }
 
-// The number of the token after the expression at number `at`. Most expressions are one leaf: no opener has a class below that of `real`, and no
-// operator one below that of `+`.
+/// The number of the token after the expression at number `at`. Most expressions are one leaf: no opener has a class below that of `real`, and no
+/// operator one below that of `+`.
 pub fn expression_end(classes: &[u8], at: usize) -> usize
     ensures { Ends classes.now (expression_reader Syntax.OPENERS) at result }
 {
@@ -72,7 +66,7 @@ pub fn expression_end(classes: &[u8], at: usize) -> usize
     next
 }
 
-// The number of the token after the priority that may stand at number `at`.
+/// The number of the token after the priority that may stand at number `at`.
 pub fn priority_end(classes: &[u8], at: usize) -> usize
     ensures { Ends classes.now priority_reader at result }
 {
@@ -83,7 +77,7 @@ pub fn priority_end(classes: &[u8], at: usize) -> usize
     skip(skip(at, size), size)
 }
 
-// The number of the token after the clause, or the condition in parentheses, at number `at`.
+/// The number of the token after the clause, or the condition in parentheses, at number `at`.
 pub fn atom_end(classes: &[u8], at: usize) -> usize
     ensures { Ends classes.now (atom_reader Syntax.OPENERS) at result }
 {

@@ -111,6 +111,10 @@ module _ {A : Type 0} {cs : List ℕ} where
   unfolding answer_from parse_answer halt
   halt_answers at = record { told = λ ts e. ap Refused (sym (add-zero at)) }
 
+  -- an answer that `?` passes on
+  pub unfit : {r : Parser A} {p : Parsed} {u : Unfit} → ReadsAs cs r p (Refused u.at) → {x : Result ℕ Unfit} → x ≡ Err u → ReadsAs cs r p (parsed_of x)
+  unfit h e = rw e h
+
   -- what was refused stays so, whatever was still to be read
   pub refused : {r : Parser A} {at : ℕ} → ReadsAs cs r (Refused at) (Refused at)
   unfolding answer_from

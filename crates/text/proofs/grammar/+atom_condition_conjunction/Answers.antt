@@ -1,7 +1,7 @@
 -- What is left of `+atom_condition_conjunction`.
-use Rattle.std.proofs.Common.{rules, arith, ◌≡◌, true, false, Err}
+use Rattle.std.proofs.Common.{rules, arith, true, false}
 use Rattle.text.proofs.laws.CodeGrammarLaws.{atom_halts, atom_lacks, atom_opens, some_condition}
-use Rattle.text.proofs.laws.CodeReaderLaws.{chain_answers, chain_left, goes_on, joined_answers, passes_below, refused, seen, seen_less, stops, turn_less, unseen}
+use Rattle.text.proofs.laws.CodeReaderLaws.{chain_answers, chain_left, goes_on, joined_answers, passes_below, refused, seen, seen_less, stops, turn_less, unfit, unseen}
 use Rattle.text.specs.definitions.Grammar.{both_at, condition_reader, conjunction_reader, either_at}
 use Rattle.text.specs.inner_contracts.ParseAnswers.{is_class}
 use Rattle.text.proofs.grammar.+atom_condition_conjunction.Goals as goal
@@ -22,8 +22,7 @@ atom-condition-requires t c =
 
 pub atom-returns-in_err-inside : goal.atom-returns-in_err-inside
 atom-returns-in_err-inside t c =
-    let e : c.from_residual.result ≡ Err c.in_err-inside.field-0.0 = search rules in
-    rw e (atom_opens _ c.if-depth-eq0.false (seen c.if-not-next_is.ensures) c.in_err-inside.ensures refused)
+    unfit (atom_opens _ c.if-depth-eq0.false (seen c.if-not-next_is.ensures) c.in_err-inside.ensures refused) (search rules)
 
 pub atom-returns : goal.atom-returns
 atom-returns t c = atom_opens _ c.if-depth-eq0.false (seen c.if-not-next_is.ensures) c.in_ok-inside.ensures c.token.ensures
@@ -31,8 +30,7 @@ atom-returns t c = atom_opens _ c.if-depth-eq0.false (seen c.if-not-next_is.ensu
 pub condition-returns-in_err-at : goal.condition-returns-in_err-at
 unfolding condition_reader conjunction_reader is_class
 condition-returns-in_err-at t c =
-    let e : c.from_residual.result ≡ Err c.in_err-at.field-0.0 = search rules in
-    rw e (chain_answers either_at c.in_err-at.ensures _ some_condition λ a. refused)
+    unfit (chain_answers either_at c.in_err-at.ensures _ some_condition λ a. refused) (search rules)
 
 pub condition-overflow_add-at : goal.condition-overflow_add-at
 condition-overflow_add-at t c = let l = passes_below c.loop-at-test.ensures in omega arith
@@ -45,9 +43,8 @@ condition-conjunction-requires-in-loop-at t c =
 pub condition-returns-in_err-at-2 : goal.condition-returns-in_err-at-2
 unfolding condition_reader conjunction_reader is_class
 condition-returns-in_err-at-2 t c =
-    let e : c.from_residual-in_err-at-2.result ≡ Err c.in_err-at-2.field-0.0 = search rules in
     let g = goes_on c.loop-at.invariant c.loop-at-test.ensures (joined_answers _ c.in_err-at-2.ensures) in
-    rw e (chain_answers either_at c.in_ok-at.ensures _ some_condition (g.finish _ λ a. refused))
+    unfit (chain_answers either_at c.in_ok-at.ensures _ some_condition (g.finish _ λ a. refused)) (search rules)
 
 pub condition-loop-at-smaller : goal.condition-loop-at-smaller
 condition-loop-at-smaller t c = turn_less c.loop-at-test.ensures c.in_ok-at-2.ensures
@@ -62,8 +59,7 @@ condition-returns t c = chain_answers either_at c.in_ok-at.ensures _ some_condit
 pub conjunction-returns-in_err-at : goal.conjunction-returns-in_err-at
 unfolding conjunction_reader is_class
 conjunction-returns-in_err-at t c =
-    let e : c.from_residual.result ≡ Err c.in_err-at.field-0.0 = search rules in
-    rw e (chain_answers both_at c.in_err-at.ensures _ some_condition λ a. refused)
+    unfit (chain_answers both_at c.in_err-at.ensures _ some_condition λ a. refused) (search rules)
 
 pub conjunction-overflow_add-at : goal.conjunction-overflow_add-at
 conjunction-overflow_add-at t c = let l = passes_below c.loop-at-test.ensures in omega arith
@@ -76,9 +72,8 @@ conjunction-atom-requires-in-loop-at t c =
 pub conjunction-returns-in_err-at-2 : goal.conjunction-returns-in_err-at-2
 unfolding conjunction_reader is_class
 conjunction-returns-in_err-at-2 t c =
-    let e : c.from_residual-in_err-at-2.result ≡ Err c.in_err-at-2.field-0.0 = search rules in
     let g = goes_on c.loop-at.invariant c.loop-at-test.ensures (joined_answers _ c.in_err-at-2.ensures) in
-    rw e (chain_answers both_at c.in_ok-at.ensures _ some_condition (g.finish _ λ a. refused))
+    unfit (chain_answers both_at c.in_ok-at.ensures _ some_condition (g.finish _ λ a. refused)) (search rules)
 
 pub conjunction-loop-at-smaller : goal.conjunction-loop-at-smaller
 conjunction-loop-at-smaller t c = turn_less c.loop-at-test.ensures c.in_ok-at-2.ensures

@@ -1,7 +1,7 @@
 -- What is left of `+expression_factor_opener_term`.
-use Rattle.std.proofs.Common.{rules, arith, ◌≡◌, true, false, Err}
+use Rattle.std.proofs.Common.{rules, arith, true, false}
 use Rattle.text.proofs.laws.CodeGrammarLaws.{factor_halts, factor_name, factor_opens, factor_unsigned, some_expression}
-use Rattle.text.proofs.laws.CodeReaderLaws.{and_give_answers, and_then_answers, chain_answers, chain_left, chosen_answers, expect_answers, expect_less, give_answers, goes_on, if_not_answers, joined_answers, passes_below, refused, seen, seen_less, stops, turn_less, unseen}
+use Rattle.text.proofs.laws.CodeReaderLaws.{and_give_answers, and_then_answers, chain_answers, chain_left, chosen_answers, expect_answers, expect_less, give_answers, goes_on, if_not_answers, joined_answers, passes_below, refused, seen, seen_less, stops, turn_less, unfit, unseen}
 use Rattle.text.specs.definitions.Grammar.{apply_at, expression_reader, opener_reader, term_reader}
 use Rattle.text.specs.definitions.Tokens.{MINUS, ROUND_CLOSE, ROUND_OPEN}
 use Rattle.text.specs.inner_contracts.ParseAnswers.{is_either}
@@ -10,8 +10,7 @@ use Rattle.text.proofs.grammar.+expression_factor_opener_term.Goals as goal
 pub expression-returns-in_err-at : goal.expression-returns-in_err-at
 unfolding expression_reader term_reader is_either
 expression-returns-in_err-at t c =
-    let e : c.from_residual.result ≡ Err c.in_err-at.field-0.0 = search rules in
-    rw e (chain_answers apply_at c.in_err-at.ensures _ some_expression λ a. refused)
+    unfit (chain_answers apply_at c.in_err-at.ensures _ some_expression λ a. refused) (search rules)
 
 pub expression-overflow_add-at : goal.expression-overflow_add-at
 expression-overflow_add-at t c = let l = passes_below c.loop-at-test.ensures in omega arith
@@ -24,9 +23,8 @@ expression-term-requires-in-loop-at t c =
 pub expression-returns-in_err-at-2 : goal.expression-returns-in_err-at-2
 unfolding expression_reader term_reader is_either
 expression-returns-in_err-at-2 t c =
-    let e : c.from_residual-in_err-at-2.result ≡ Err c.in_err-at-2.field-0.0 = search rules in
     let g = goes_on c.loop-at.invariant c.loop-at-test.ensures (joined_answers _ c.in_err-at-2.ensures) in
-    rw e (chain_answers apply_at c.in_ok-at.ensures _ some_expression (g.finish _ λ a. refused))
+    unfit (chain_answers apply_at c.in_ok-at.ensures _ some_expression (g.finish _ λ a. refused)) (search rules)
 
 pub expression-loop-at-smaller : goal.expression-loop-at-smaller
 expression-loop-at-smaller t c = turn_less c.loop-at-test.ensures c.in_ok-at-2.ensures
@@ -59,8 +57,7 @@ opener-overflow_add-from t c = let l = passes_below c.if-next_is.ensures in omeg
 pub opener-returns-in_err-open : goal.opener-returns-in_err-open
 unfolding opener_reader
 opener-returns-in_err-open t c =
-    let e : c.from_residual.result ≡ Err c.in_err-open.field-0.0 = search rules in
-    rw e (chosen_answers (seen c.if-next_is.ensures) _ λ r. expect_answers ROUND_OPEN c.in_err-open.ensures λ o. refused)
+    unfit (chosen_answers (seen c.if-next_is.ensures) _ λ r. expect_answers ROUND_OPEN c.in_err-open.ensures λ o. refused) (search rules)
 
 pub opener-expression-requires : goal.opener-expression-requires
 opener-expression-requires t c =
@@ -71,9 +68,8 @@ opener-expression-requires t c =
 pub opener-returns-in_err-parameter : goal.opener-returns-in_err-parameter
 unfolding opener_reader expression_reader
 opener-returns-in_err-parameter t c =
-    let e : c.from_residual-in_err-parameter.result ≡ Err c.in_err-parameter.field-0.0 = search rules in
-    rw e (chosen_answers (seen c.if-next_is.ensures) _ λ r. expect_answers ROUND_OPEN c.in_ok-open.ensures λ o.
-    and_then_answers c.in_err-parameter.ensures some_expression λ e. refused)
+    unfit (chosen_answers (seen c.if-next_is.ensures) _ λ r. expect_answers ROUND_OPEN c.in_ok-open.ensures λ o.
+    and_then_answers c.in_err-parameter.ensures some_expression λ e. refused) (search rules)
 
 pub opener-returns-then-next_is : goal.opener-returns-then-next_is
 unfolding opener_reader expression_reader
@@ -95,9 +91,8 @@ opener-expression-requires-then-next_is-2 t c =
 pub opener-returns-in_err-enclosed : goal.opener-returns-in_err-enclosed
 unfolding opener_reader expression_reader
 opener-returns-in_err-enclosed t c =
-    let e : c.from_residual-in_err-enclosed.result ≡ Err c.in_err-enclosed.field-0.0 = search rules in
-    rw e (if_not_answers (unseen c.if-next_is.ensures) _
-    (chosen_answers (seen c.if-next_is-2.ensures) _ λ o. and_then_answers c.in_err-enclosed.ensures some_expression λ e. refused))
+    unfit (if_not_answers (unseen c.if-next_is.ensures) _
+    (chosen_answers (seen c.if-next_is-2.ensures) _ λ o. and_then_answers c.in_err-enclosed.ensures some_expression λ e. refused)) (search rules)
 
 pub opener-returns-then-next_is-2 : goal.opener-returns-then-next_is-2
 unfolding opener_reader expression_reader
@@ -111,9 +106,8 @@ opener-returns-then-next_is-2 t c =
 pub opener-returns-in_err-minus : goal.opener-returns-in_err-minus
 unfolding opener_reader
 opener-returns-in_err-minus t c =
-    let e : c.from_residual-in_err-minus.result ≡ Err c.in_err-minus.field-0.0 = search rules in
-    rw e (if_not_answers (unseen c.if-next_is.ensures) _ (if_not_answers (unseen c.if-next_is-2.ensures) _
-    (expect_answers MINUS c.in_err-minus.ensures λ m. refused)))
+    unfit (if_not_answers (unseen c.if-next_is.ensures) _ (if_not_answers (unseen c.if-next_is-2.ensures) _
+    (expect_answers MINUS c.in_err-minus.ensures λ m. refused))) (search rules)
 
 pub opener-factor-requires : goal.opener-factor-requires
 opener-factor-requires t c =
@@ -131,8 +125,7 @@ opener-returns t c =
 pub term-returns-in_err-at : goal.term-returns-in_err-at
 unfolding term_reader is_either
 term-returns-in_err-at t c =
-    let e : c.from_residual.result ≡ Err c.in_err-at.field-0.0 = search rules in
-    rw e (chain_answers apply_at c.in_err-at.ensures _ some_expression λ a. refused)
+    unfit (chain_answers apply_at c.in_err-at.ensures _ some_expression λ a. refused) (search rules)
 
 pub term-overflow_add-at : goal.term-overflow_add-at
 term-overflow_add-at t c = let l = passes_below c.loop-at-test.ensures in omega arith
@@ -145,9 +138,8 @@ term-factor-requires-in-loop-at t c =
 pub term-returns-in_err-at-2 : goal.term-returns-in_err-at-2
 unfolding term_reader is_either
 term-returns-in_err-at-2 t c =
-    let e : c.from_residual-in_err-at-2.result ≡ Err c.in_err-at-2.field-0.0 = search rules in
     let g = goes_on c.loop-at.invariant c.loop-at-test.ensures (joined_answers _ c.in_err-at-2.ensures) in
-    rw e (chain_answers apply_at c.in_ok-at.ensures _ some_expression (g.finish _ λ a. refused))
+    unfit (chain_answers apply_at c.in_ok-at.ensures _ some_expression (g.finish _ λ a. refused)) (search rules)
 
 pub term-loop-at-smaller : goal.term-loop-at-smaller
 term-loop-at-smaller t c = turn_less c.loop-at-test.ensures c.in_ok-at-2.ensures

@@ -1,7 +1,7 @@
 -- What is left of `action`.
-use Rattle.std.proofs.Common.{rules, ◌≡◌, Err}
+use Rattle.std.proofs.Common.{rules}
 use Rattle.values.specs.declared.Kind.TheVariants.{Wholes}
-use Rattle.text.proofs.laws.CodeReaderLaws.{and_then_answers, expect_answers, give_answers, refused}
+use Rattle.text.proofs.laws.CodeReaderLaws.{and_then_answers, expect_answers, give_answers, refused, unfit}
 use Rattle.text.specs.definitions.Grammar.{action_after}
 use Rattle.text.specs.definitions.Tokens.{NAME, ROUND_CLOSE, ROUND_OPEN}
 use Rattle.text.proofs.grammar.action.Goals as goal
@@ -9,26 +9,29 @@ use Rattle.text.proofs.grammar.action.Goals as goal
 pub returns-in_err-name : goal.returns-in_err-name
 unfolding action_after
 returns-in_err-name c start =
-    let e : c.from_residual.result ≡ Err c.in_err-name.field-0.0 = search rules in rw e
+    unfit
     (expect_answers NAME c.in_err-name.ensures λ n.
     refused)
+    (search rules)
 
 pub returns-in_err-open : goal.returns-in_err-open
 unfolding action_after
 returns-in_err-open c start =
-    let e : c.from_residual-in_err-open.result ≡ Err c.in_err-open.field-0.0 = search rules in rw e
+    unfit
     (expect_answers NAME c.in_ok-name.ensures λ n.
     expect_answers ROUND_OPEN c.in_err-open.ensures λ o.
     refused)
+    (search rules)
 
 pub returns-in_err-kind : goal.returns-in_err-kind
 unfolding action_after
 returns-in_err-kind c start =
-    let e : c.from_residual-in_err-kind.result ≡ Err c.in_err-kind.field-0.0 = search rules in rw e
+    unfit
     (expect_answers NAME c.in_ok-name.ensures λ n.
     expect_answers ROUND_OPEN c.in_ok-open.ensures λ o.
     and_then_answers c.in_err-kind.ensures Wholes λ k.
     refused)
+    (search rules)
 
 pub returns : goal.returns
 unfolding action_after

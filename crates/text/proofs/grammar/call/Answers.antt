@@ -1,7 +1,7 @@
 -- What is left of `call`.
-use Rattle.std.proofs.Common.{rules, ◌≡◌, Err}
+use Rattle.std.proofs.Common.{rules}
 use Rattle.text.proofs.laws.CodeGrammarLaws.{some_expression, some_target}
-use Rattle.text.proofs.laws.CodeReaderLaws.{and_give_answers, and_then_answers, expect_answers, refused}
+use Rattle.text.proofs.laws.CodeReaderLaws.{and_give_answers, and_then_answers, expect_answers, refused, unfit}
 use Rattle.text.specs.definitions.Grammar.{call_reader}
 use Rattle.text.specs.definitions.Tokens.{ACTION, NAME, ON, ROUND_CLOSE, ROUND_OPEN}
 use Rattle.text.proofs.grammar.call.Goals as goal
@@ -9,52 +9,57 @@ use Rattle.text.proofs.grammar.call.Goals as goal
 pub returns-in_err-action : goal.returns-in_err-action
 unfolding call_reader
 returns-in_err-action c =
-    let e : c.from_residual.result ≡ Err c.in_err-action.field-0.0 = search rules in rw e
+    unfit
     (expect_answers ACTION c.in_err-action.ensures λ start.
     refused)
+    (search rules)
 
 pub returns-in_err-name : goal.returns-in_err-name
 unfolding call_reader
 returns-in_err-name c =
-    let e : c.from_residual-in_err-name.result ≡ Err c.in_err-name.field-0.0 = search rules in rw e
+    unfit
     (expect_answers ACTION c.in_ok-action.ensures λ start.
     expect_answers NAME c.in_err-name.ensures λ n.
     refused)
+    (search rules)
 
 pub returns-in_err-open : goal.returns-in_err-open
 unfolding call_reader
 returns-in_err-open c =
-    let e : c.from_residual-in_err-open.result ≡ Err c.in_err-open.field-0.0 = search rules in rw e
+    unfit
     (expect_answers ACTION c.in_ok-action.ensures λ start.
     expect_answers NAME c.in_ok-name.ensures λ n.
     expect_answers ROUND_OPEN c.in_err-open.ensures λ o.
     refused)
+    (search rules)
 
 pub returns-in_err-parameter : goal.returns-in_err-parameter
 unfolding call_reader
 returns-in_err-parameter c =
-    let e : c.from_residual-in_err-parameter.result ≡ Err c.in_err-parameter.field-0.0 = search rules in rw e
+    unfit
     (expect_answers ACTION c.in_ok-action.ensures λ start.
     expect_answers NAME c.in_ok-name.ensures λ n.
     expect_answers ROUND_OPEN c.in_ok-open.ensures λ o.
     and_then_answers c.in_err-parameter.ensures some_expression λ e.
     refused)
+    (search rules)
 
 pub returns-in_err-close : goal.returns-in_err-close
 unfolding call_reader
 returns-in_err-close c =
-    let e : c.from_residual-in_err-close.result ≡ Err c.in_err-close.field-0.0 = search rules in rw e
+    unfit
     (expect_answers ACTION c.in_ok-action.ensures λ start.
     expect_answers NAME c.in_ok-name.ensures λ n.
     expect_answers ROUND_OPEN c.in_ok-open.ensures λ o.
     and_then_answers c.in_ok-parameter.ensures some_expression λ e.
     expect_answers ROUND_CLOSE c.in_err-close.ensures λ t.
     refused)
+    (search rules)
 
 pub returns-in_err-on : goal.returns-in_err-on
 unfolding call_reader
 returns-in_err-on c =
-    let e : c.from_residual-in_err-on.result ≡ Err c.in_err-on.field-0.0 = search rules in rw e
+    unfit
     (expect_answers ACTION c.in_ok-action.ensures λ start.
     expect_answers NAME c.in_ok-name.ensures λ n.
     expect_answers ROUND_OPEN c.in_ok-open.ensures λ o.
@@ -62,11 +67,12 @@ returns-in_err-on c =
     expect_answers ROUND_CLOSE c.in_ok-close.ensures λ t.
     expect_answers ON c.in_err-on.ensures λ u.
     refused)
+    (search rules)
 
 pub returns-in_err-place : goal.returns-in_err-place
 unfolding call_reader
 returns-in_err-place c =
-    let e : c.from_residual-in_err-place.result ≡ Err c.in_err-place.field-0.0 = search rules in rw e
+    unfit
     (expect_answers ACTION c.in_ok-action.ensures λ start.
     expect_answers NAME c.in_ok-name.ensures λ n.
     expect_answers ROUND_OPEN c.in_ok-open.ensures λ o.
@@ -75,6 +81,7 @@ returns-in_err-place c =
     expect_answers ON c.in_ok-on.ensures λ u.
     and_then_answers c.in_err-place.ensures some_target λ p.
     refused)
+    (search rules)
 
 pub returns : goal.returns
 unfolding call_reader

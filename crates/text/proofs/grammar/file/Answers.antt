@@ -1,6 +1,6 @@
 -- What is left of `file`.
-use Rattle.std.proofs.Common.{rules, ◌≡◌, [], Err}
-use Rattle.text.proofs.laws.CodeReaderLaws.{and_then_answers, expect_answers, give_answers, refused}
+use Rattle.std.proofs.Common.{rules, []}
+use Rattle.text.proofs.laws.CodeReaderLaws.{and_then_answers, expect_answers, give_answers, refused, unfit}
 use Rattle.text.specs.definitions.Grammar.{file_reader}
 use Rattle.text.specs.definitions.Tokens.{END, RULES}
 use Rattle.text.proofs.grammar.file.Goals as goal
@@ -8,36 +8,40 @@ use Rattle.text.proofs.grammar.file.Goals as goal
 pub returns-in_err-interfaces : goal.returns-in_err-interfaces
 unfolding file_reader
 returns-in_err-interfaces c =
-    let e : c.from_residual.result ≡ Err c.in_err-interfaces.field-0.0 = search rules in rw e
+    unfit
     (and_then_answers c.in_err-interfaces.ensures [] λ is.
     refused)
+    (search rules)
 
 pub returns-in_err-entities : goal.returns-in_err-entities
 unfolding file_reader
 returns-in_err-entities c =
-    let e : c.from_residual-in_err-entities.result ≡ Err c.in_err-entities.field-0.0 = search rules in rw e
+    unfit
     (and_then_answers c.in_ok-interfaces.ensures [] λ is.
     and_then_answers c.in_err-entities.ensures [] λ es.
     refused)
+    (search rules)
 
 pub returns-in_err-start : goal.returns-in_err-start
 unfolding file_reader
 returns-in_err-start c =
-    let e : c.from_residual-in_err-start.result ≡ Err c.in_err-start.field-0.0 = search rules in rw e
+    unfit
     (and_then_answers c.in_ok-interfaces.ensures [] λ is.
     and_then_answers c.in_ok-entities.ensures [] λ es.
     expect_answers RULES c.in_err-start.ensures λ t.
     refused)
+    (search rules)
 
 pub returns-in_err-rules : goal.returns-in_err-rules
 unfolding file_reader
 returns-in_err-rules c =
-    let e : c.from_residual-in_err-rules.result ≡ Err c.in_err-rules.field-0.0 = search rules in rw e
+    unfit
     (and_then_answers c.in_ok-interfaces.ensures [] λ is.
     and_then_answers c.in_ok-entities.ensures [] λ es.
     expect_answers RULES c.in_ok-start.ensures λ t.
     and_then_answers c.in_err-rules.ensures [] λ rs.
     refused)
+    (search rules)
 
 pub returns : goal.returns
 unfolding file_reader

@@ -1,6 +1,6 @@
 -- What is left of `filter`.
-use Rattle.std.proofs.Common.{rules, arith, ◌≡◌, Err}
-use Rattle.text.proofs.laws.CodeReaderLaws.{and_give_answers, chosen_answers, expect_answers, give_answers, if_not_answers, passes_below, refused, seen, unseen}
+use Rattle.std.proofs.Common.{rules, arith}
+use Rattle.text.proofs.laws.CodeReaderLaws.{and_give_answers, chosen_answers, expect_answers, give_answers, if_not_answers, passes_below, refused, seen, unfit, unseen}
 use Rattle.text.specs.definitions.Grammar.{filter_reader}
 use Rattle.text.specs.definitions.Tokens.{EQUALS, NAME}
 use Rattle.text.proofs.grammar.filter.Goals as goal
@@ -8,19 +8,21 @@ use Rattle.text.proofs.grammar.filter.Goals as goal
 pub returns-in_err-name : goal.returns-in_err-name
 unfolding filter_reader
 returns-in_err-name c =
-    let e : c.from_residual.result ≡ Err c.in_err-name.field-0.0 = search rules in rw e
+    unfit
     (chosen_answers (seen c.if-not-next_is.ensures) _ λ t.
     expect_answers NAME c.in_err-name.ensures λ n.
     refused)
+    (search rules)
 
 pub returns-in_err-equals : goal.returns-in_err-equals
 unfolding filter_reader
 returns-in_err-equals c =
-    let e : c.from_residual-in_err-equals.result ≡ Err c.in_err-equals.field-0.0 = search rules in rw e
+    unfit
     (chosen_answers (seen c.if-not-next_is.ensures) _ λ t.
     expect_answers NAME c.in_ok-name.ensures λ n.
     expect_answers EQUALS c.in_err-equals.ensures λ q.
     refused)
+    (search rules)
 
 pub returns : goal.returns
 unfolding filter_reader

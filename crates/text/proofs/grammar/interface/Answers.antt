@@ -1,6 +1,6 @@
 -- What is left of `interface`.
-use Rattle.std.proofs.Common.{rules, ◌≡◌, [], Err}
-use Rattle.text.proofs.laws.CodeReaderLaws.{and_then_answers, expect_answers, give_answers, refused}
+use Rattle.std.proofs.Common.{rules, []}
+use Rattle.text.proofs.laws.CodeReaderLaws.{and_then_answers, expect_answers, give_answers, refused, unfit}
 use Rattle.text.specs.definitions.Grammar.{interface_after}
 use Rattle.text.specs.definitions.Syntax.{attribute, event}
 use Rattle.text.specs.definitions.Tokens.{BRACE_CLOSE, BRACE_OPEN, NAME}
@@ -9,47 +9,52 @@ use Rattle.text.proofs.grammar.interface.Goals as goal
 pub returns-in_err-name : goal.returns-in_err-name
 unfolding interface_after
 returns-in_err-name c start =
-    let e : c.from_residual.result ≡ Err c.in_err-name.field-0.0 = search rules in rw e
+    unfit
     (expect_answers NAME c.in_err-name.ensures λ n.
     refused)
+    (search rules)
 
 pub returns-in_err-open : goal.returns-in_err-open
 unfolding interface_after
 returns-in_err-open c start =
-    let e : c.from_residual-in_err-open.result ≡ Err c.in_err-open.field-0.0 = search rules in rw e
+    unfit
     (expect_answers NAME c.in_ok-name.ensures λ n.
     expect_answers BRACE_OPEN c.in_err-open.ensures λ o.
     refused)
+    (search rules)
 
 pub returns-in_err-attributes : goal.returns-in_err-attributes
 unfolding interface_after
 returns-in_err-attributes c start =
-    let e : c.from_residual-in_err-attributes.result ≡ Err c.in_err-attributes.field-0.0 = search rules in rw e
+    unfit
     (expect_answers NAME c.in_ok-name.ensures λ n.
     expect_answers BRACE_OPEN c.in_ok-open.ensures λ o.
     and_then_answers (c.in_err-attributes.ensures attribute) [] λ attributes.
     refused)
+    (search rules)
 
 pub returns-in_err-events : goal.returns-in_err-events
 unfolding interface_after
 returns-in_err-events c start =
-    let e : c.from_residual-in_err-events.result ≡ Err c.in_err-events.field-0.0 = search rules in rw e
+    unfit
     (expect_answers NAME c.in_ok-name.ensures λ n.
     expect_answers BRACE_OPEN c.in_ok-open.ensures λ o.
     and_then_answers (c.in_ok-attributes.ensures attribute) [] λ attributes.
     and_then_answers (c.in_err-events.ensures event) [] λ events.
     refused)
+    (search rules)
 
 pub returns-in_err-actions : goal.returns-in_err-actions
 unfolding interface_after
 returns-in_err-actions c start =
-    let e : c.from_residual-in_err-actions.result ≡ Err c.in_err-actions.field-0.0 = search rules in rw e
+    unfit
     (expect_answers NAME c.in_ok-name.ensures λ n.
     expect_answers BRACE_OPEN c.in_ok-open.ensures λ o.
     and_then_answers (c.in_ok-attributes.ensures attribute) [] λ attributes.
     and_then_answers (c.in_ok-events.ensures event) [] λ events.
     and_then_answers c.in_err-actions.ensures [] λ actions.
     refused)
+    (search rules)
 
 pub returns : goal.returns
 unfolding interface_after

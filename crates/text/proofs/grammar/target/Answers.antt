@@ -1,6 +1,6 @@
 -- What is left of `target`.
-use Rattle.std.proofs.Common.{rules, arith, ◌≡◌, Err}
-use Rattle.text.proofs.laws.CodeReaderLaws.{chosen_answers, expect_answers, give_answers, if_not_answers, passes_below, refused, seen, unseen}
+use Rattle.std.proofs.Common.{rules, arith}
+use Rattle.text.proofs.laws.CodeReaderLaws.{chosen_answers, expect_answers, give_answers, if_not_answers, passes_below, refused, seen, unfit, unseen}
 use Rattle.text.specs.definitions.Grammar.{target_reader}
 use Rattle.text.specs.definitions.Tokens.{NAME}
 use Rattle.text.proofs.grammar.target.Goals as goal
@@ -8,9 +8,10 @@ use Rattle.text.proofs.grammar.target.Goals as goal
 pub returns-in_err-name : goal.returns-in_err-name
 unfolding target_reader
 returns-in_err-name c =
-    let e : c.from_residual.result ≡ Err c.in_err-name.field-0.0 = search rules in rw e
+    unfit
     (expect_answers NAME c.in_err-name.ensures λ n.
     refused)
+    (search rules)
 
 pub returns : goal.returns
 unfolding target_reader

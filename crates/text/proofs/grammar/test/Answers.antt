@@ -1,6 +1,6 @@
 -- What is left of `test`.
-use Rattle.std.proofs.Common.{rules, arith, ◌≡◌, Err}
-use Rattle.text.proofs.laws.CodeReaderLaws.{and_give_answers, chosen_answers, expect_answers, give_answers, if_not_answers, passes_below, refused, seen, unseen}
+use Rattle.std.proofs.Common.{rules, arith}
+use Rattle.text.proofs.laws.CodeReaderLaws.{and_give_answers, chosen_answers, expect_answers, give_answers, if_not_answers, passes_below, refused, seen, unfit, unseen}
 use Rattle.text.specs.definitions.Grammar.{test_reader}
 use Rattle.text.specs.definitions.Tokens.{EQUALS}
 use Rattle.text.proofs.grammar.test.Goals as goal
@@ -8,10 +8,11 @@ use Rattle.text.proofs.grammar.test.Goals as goal
 pub returns-in_err-equals : goal.returns-in_err-equals
 unfolding test_reader
 returns-in_err-equals c =
-    let e : c.from_residual.result ≡ Err c.in_err-equals.field-0.0 = search rules in rw e
+    unfit
     (if_not_answers (unseen c.if-next_is.ensures) _ (
     expect_answers EQUALS c.in_err-equals.ensures λ q.
     refused))
+    (search rules)
 
 pub returns : goal.returns
 unfolding test_reader
