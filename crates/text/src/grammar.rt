@@ -55,6 +55,7 @@ fn next_is_unsigned(classes: &[u8], from: usize) -> bool
         || next_is_either(classes, from, WHOLE_NUMBER, REAL_NUMBER)
 }
 
+#[tactic(auto, using(crate::proofs::laws::CodeReaderLaws::passes_below))]
 fn token(classes: &[u8], from: usize, class: u8) -> Result<usize, Unfit>
     ensures { ReadsFrom classes.now (expect class give) from result }
 {
@@ -65,6 +66,7 @@ fn token(classes: &[u8], from: usize, class: u8) -> Result<usize, Unfit>
 }
 
 // Items that each begin with a token of class `first`, of which `item` reads what comes after that token.
+#[tactic(auto, using(crate::proofs::laws::CodeReaderLaws::passes_below))]
 fn many<F: Fn(usize) -> Result<usize, Unfit>>(
     classes: &[u8],
     from: usize,
@@ -82,6 +84,7 @@ fn many<F: Fn(usize) -> Result<usize, Unfit>>(
     Ok(at)
 }
 
+#[tactic(auto, using(crate::proofs::laws::CodeReaderLaws::passes_below))]
 fn kind(classes: &[u8], from: usize) -> Result<usize, Unfit>
     ensures { ReadsFrom classes.now kind_reader from result }
 {
@@ -142,6 +145,7 @@ fn interfaces(classes: &[u8], from: usize) -> Result<usize, Unfit>
 }
 
 // A number, after its sign.
+#[tactic(auto, using(crate::proofs::laws::CodeReaderLaws::passes_below))]
 fn number(classes: &[u8], from: usize) -> Result<usize, Unfit>
     ensures { (negative : Bool) → ReadsFrom classes.now (number_reader negative) from result }
 {
@@ -152,6 +156,7 @@ fn number(classes: &[u8], from: usize) -> Result<usize, Unfit>
 }
 
 // `true`, `false`, or a number with or without `-`.
+#[tactic(auto, using(crate::proofs::laws::CodeReaderLaws::passes_below))]
 fn literal(classes: &[u8], from: usize) -> Result<usize, Unfit>
     ensures { ReadsFrom classes.now literal_reader from result }
 {
@@ -207,6 +212,7 @@ fn dotted(classes: &[u8], from: usize) -> Result<usize, Unfit>
 
 // A literal without sign, name `.` member or, while openers may come, an opener; `depth` is how many may.
 #[cycle(expression_factor_opener_term)]
+#[tactic(auto, using(crate::proofs::laws::CodeReaderLaws::passes_below))]
 fn factor(classes: &[u8], from: usize, depth: u32) -> Result<usize, Unfit>
     ensures { ReadsFrom classes.now (factor_reader depth) from result }
 {
@@ -224,6 +230,7 @@ fn factor(classes: &[u8], from: usize, depth: u32) -> Result<usize, Unfit>
 
 // `real` `(` expression `)`, `(` expression `)`, or `-` factor; `inside` is the depth of what it encloses.
 #[cycle(expression_factor_opener_term)]
+#[tactic(auto, using(crate::proofs::laws::CodeReaderLaws::passes_below))]
 fn opener(classes: &[u8], from: usize, inside: u32) -> Result<usize, Unfit>
     ensures { ReadsFrom classes.now (opener_reader (factor_reader inside)) from result }
 {
@@ -242,6 +249,7 @@ fn opener(classes: &[u8], from: usize, inside: u32) -> Result<usize, Unfit>
 
 // Factors under `*` and `/`.
 #[cycle(expression_factor_opener_term)]
+#[tactic(auto, using(crate::proofs::laws::CodeReaderLaws::passes_below))]
 fn term(classes: &[u8], from: usize, depth: u32) -> Result<usize, Unfit>
     ensures { ReadsFrom classes.now (term_reader depth) from result }
 {
@@ -254,6 +262,7 @@ fn term(classes: &[u8], from: usize, depth: u32) -> Result<usize, Unfit>
 
 // Terms under `+` and `-`.
 #[cycle(expression_factor_opener_term)]
+#[tactic(auto, using(crate::proofs::laws::CodeReaderLaws::passes_below))]
 pub fn expression(classes: &[u8], from: usize, depth: u32) -> Result<usize, Unfit>
     ensures { ReadsFrom classes.now (expression_reader depth) from result }
 {
@@ -265,6 +274,7 @@ pub fn expression(classes: &[u8], from: usize, depth: u32) -> Result<usize, Unfi
 }
 
 // Name, or name `:` interface.
+#[tactic(auto, using(crate::proofs::laws::CodeReaderLaws::passes_below))]
 fn target(classes: &[u8], from: usize) -> Result<usize, Unfit>
     ensures { ReadsFrom classes.now target_reader from result }
 {
@@ -276,6 +286,7 @@ fn target(classes: &[u8], from: usize) -> Result<usize, Unfit>
 }
 
 // Optionally `with` attribute `=` expression.
+#[tactic(auto, using(crate::proofs::laws::CodeReaderLaws::passes_below))]
 fn filter(classes: &[u8], from: usize, depth: u32) -> Result<usize, Unfit>
     ensures { ReadsFrom classes.now (filter_reader depth) from result }
 {
@@ -288,6 +299,7 @@ fn filter(classes: &[u8], from: usize, depth: u32) -> Result<usize, Unfit>
 }
 
 // After `value`: `changed`, or `=` expression.
+#[tactic(auto, using(crate::proofs::laws::CodeReaderLaws::passes_below))]
 fn test(classes: &[u8], from: usize, depth: u32) -> Result<usize, Unfit>
     ensures { ReadsFrom classes.now (test_reader depth) from result }
 {
@@ -313,6 +325,7 @@ fn clause(classes: &[u8], from: usize, depth: u32) -> Result<usize, Unfit>
 
 // `(` condition `)`, while openers may come, or a clause.
 #[cycle(atom_condition_conjunction)]
+#[tactic(auto, using(crate::proofs::laws::CodeReaderLaws::passes_below))]
 pub fn atom(classes: &[u8], from: usize, depth: u32) -> Result<usize, Unfit>
     ensures { ReadsFrom classes.now (atom_reader depth) from result }
 {
@@ -328,6 +341,7 @@ pub fn atom(classes: &[u8], from: usize, depth: u32) -> Result<usize, Unfit>
 
 // Atoms under `and`.
 #[cycle(atom_condition_conjunction)]
+#[tactic(auto, using(crate::proofs::laws::CodeReaderLaws::passes_below))]
 fn conjunction(classes: &[u8], from: usize, depth: u32) -> Result<usize, Unfit>
     ensures { ReadsFrom classes.now (conjunction_reader depth) from result }
 {
@@ -340,6 +354,7 @@ fn conjunction(classes: &[u8], from: usize, depth: u32) -> Result<usize, Unfit>
 
 // Conjunctions under `or`.
 #[cycle(atom_condition_conjunction)]
+#[tactic(auto, using(crate::proofs::laws::CodeReaderLaws::passes_below))]
 fn condition(classes: &[u8], from: usize, depth: u32) -> Result<usize, Unfit>
     ensures { ReadsFrom classes.now (condition_reader depth) from result }
 {
@@ -372,6 +387,7 @@ fn calls(classes: &[u8], from: usize) -> Result<usize, Unfit>
 }
 
 // Optionally `rank` and a number without `r`.
+#[tactic(auto, using(crate::proofs::laws::CodeReaderLaws::passes_below))]
 fn priority(classes: &[u8], from: usize) -> Result<usize, Unfit>
     ensures { ReadsFrom classes.now priority_reader from result }
 {

@@ -1,28 +1,16 @@
 -- Where the parser ends a reading, the walk of its reader ends.
-use Prim.Native.Nat.{ℕ, suc, ◌+◌, ◌≤◌, ◌<◌}
+use Prim.Native.Nat.{ℕ, suc, ◌+◌}
 use mathlib.Core.Path.{◌≡◌, refl, sym, ap, ◌∙◌, subst}
 use mathlib.Core.List.{List, [], ◌∷◌}
-use mathlib.Core.Bool.{Bool, true, false}
 use mathlib.Core.Option.{some}
 use native.Mathlib.Omega.{arith}
-use lib.Dec.{ltb}
-use lib.ListN.{length, get_or, get_elem?, drop, drop_of_length-le}
-use borrow.Author.Tests.{ltb-true, ltb-false}
+use lib.ListN.{length, get_or, get_elem?, drop}
 use Rattle.std.specs.Prelude.{Result, Ok, Err}
 use Rattle.std.specs.Result.{result_unwrap_or}
 use Rattle.text.specs.declared.grammar.Unfit.{Unfit}
 use Rattle.text.specs.definitions.Tokens.{Token}
 use Rattle.text.specs.definitions.Readers.{Parse, read, unfit_after, Parser}
-use Rattle.text.specs.inner_contracts.ParseAnswers.{
-  Parsed,
-  Next,
-  Refused,
-  classes_of,
-  parse_answer,
-  answer_from,
-  ReadsAs,
-  ReadsFrom,
-}
+use Rattle.text.specs.inner_contracts.ParseAnswers.{Next, Refused, classes_of, parse_answer, answer_from, ReadsAs, ReadsFrom}
 use Rattle.text.specs.inner_contracts.Walks.{Rows, meant, vain, MeansAt, Walks, ReadThere, Ends}
 use Rattle.text.proofs.laws.CodeReaderLaws.{reads_onward}
 use Rattle.text.proofs.laws.WalkLaws.{walk_yields}

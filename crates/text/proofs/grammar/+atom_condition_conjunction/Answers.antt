@@ -1,7 +1,7 @@
 -- What is left of `+atom_condition_conjunction`.
-use Rattle.std.proofs.Common.{rules, arith, true, false}
+use Rattle.std.proofs.Common.{rules}
 use Rattle.text.proofs.laws.CodeGrammarLaws.{atom_halts, atom_lacks, atom_opens, some_condition}
-use Rattle.text.proofs.laws.CodeReaderLaws.{chain_answers, chain_left, goes_on, joined_answers, passes_below, refused, seen, seen_less, stops, turn_less, unfit, unseen}
+use Rattle.text.proofs.laws.CodeReaderLaws.{chain_answers, chain_left, goes_on, joined_answers, refused, seen, seen_less, stops, turn_less, unfit, unseen}
 use Rattle.text.specs.definitions.Grammar.{both_at, condition_reader, conjunction_reader, either_at}
 use Rattle.text.specs.inner_contracts.ParseAnswers.{is_class}
 use Rattle.text.proofs.grammar.+atom_condition_conjunction.Goals as goal
@@ -11,9 +11,6 @@ atom-returns-then-depth-eq0 t c = atom_halts c.if-depth-eq0.true c.clause.ensure
 
 pub atom-returns-then-not-next_is : goal.atom-returns-then-not-next_is
 atom-returns-then-not-next_is t c = atom_lacks _ c.if-depth-eq0.false (unseen c.if-not-next_is.ensures) c.clause-then-not-next_is.ensures
-
-pub atom-overflow_add-from : goal.atom-overflow_add-from
-atom-overflow_add-from t c = let l = passes_below c.if-not-next_is.ensures in omega arith
 
 pub atom-condition-requires : goal.atom-condition-requires
 atom-condition-requires t c =
@@ -31,9 +28,6 @@ pub condition-returns-in_err-at : goal.condition-returns-in_err-at
 unfolding condition_reader conjunction_reader is_class
 condition-returns-in_err-at t c =
     unfit (chain_answers either_at c.in_err-at.ensures _ some_condition λ a. refused) (search rules)
-
-pub condition-overflow_add-at : goal.condition-overflow_add-at
-condition-overflow_add-at t c = let l = passes_below c.loop-at-test.ensures in omega arith
 
 pub condition-conjunction-requires-in-loop-at : goal.condition-conjunction-requires-in-loop-at
 condition-conjunction-requires-in-loop-at t c =
@@ -60,9 +54,6 @@ pub conjunction-returns-in_err-at : goal.conjunction-returns-in_err-at
 unfolding conjunction_reader is_class
 conjunction-returns-in_err-at t c =
     unfit (chain_answers both_at c.in_err-at.ensures _ some_condition λ a. refused) (search rules)
-
-pub conjunction-overflow_add-at : goal.conjunction-overflow_add-at
-conjunction-overflow_add-at t c = let l = passes_below c.loop-at-test.ensures in omega arith
 
 pub conjunction-atom-requires-in-loop-at : goal.conjunction-atom-requires-in-loop-at
 conjunction-atom-requires-in-loop-at t c =

@@ -1,7 +1,7 @@
 -- What is left of `+expression_factor_opener_term`.
-use Rattle.std.proofs.Common.{rules, arith, true, false}
+use Rattle.std.proofs.Common.{rules}
 use Rattle.text.proofs.laws.CodeGrammarLaws.{factor_halts, factor_name, factor_opens, factor_unsigned, some_expression}
-use Rattle.text.proofs.laws.CodeReaderLaws.{and_give_answers, and_then_answers, chain_answers, chain_left, chosen_answers, expect_answers, expect_less, give_answers, goes_on, if_not_answers, joined_answers, passes_below, refused, seen, seen_less, stops, turn_less, unfit, unseen}
+use Rattle.text.proofs.laws.CodeReaderLaws.{and_give_answers, and_then_answers, chain_answers, chain_left, chosen_answers, expect_answers, expect_less, give_answers, goes_on, if_not_answers, joined_answers, refused, seen, seen_less, stops, turn_less, unfit, unseen}
 use Rattle.text.specs.definitions.Grammar.{apply_at, expression_reader, opener_reader, term_reader}
 use Rattle.text.specs.definitions.Tokens.{MINUS, ROUND_CLOSE, ROUND_OPEN}
 use Rattle.text.specs.inner_contracts.ParseAnswers.{is_either}
@@ -11,9 +11,6 @@ pub expression-returns-in_err-at : goal.expression-returns-in_err-at
 unfolding expression_reader term_reader is_either
 expression-returns-in_err-at t c =
     unfit (chain_answers apply_at c.in_err-at.ensures _ some_expression λ a. refused) (search rules)
-
-pub expression-overflow_add-at : goal.expression-overflow_add-at
-expression-overflow_add-at t c = let l = passes_below c.loop-at-test.ensures in omega arith
 
 pub expression-term-requires-in-loop-at : goal.expression-term-requires-in-loop-at
 expression-term-requires-in-loop-at t c =
@@ -39,9 +36,6 @@ expression-returns t c = chain_answers apply_at c.in_ok-at.ensures _ some_expres
 pub factor-returns-then-next_is : goal.factor-returns-then-next_is
 factor-returns-then-next_is t c = factor_name _ (seen c.if-next_is.ensures) c.dotted.ensures
 
-pub factor-overflow_add-result : goal.factor-overflow_add-result
-factor-overflow_add-result t c = let l = passes_below c.if-next_is_unsigned.ensures in omega arith
-
 pub factor-returns-then-next_is_unsigned : goal.factor-returns-then-next_is_unsigned
 factor-returns-then-next_is_unsigned t c = factor_unsigned _ c.if-next_is_unsigned.ensures
 
@@ -50,9 +44,6 @@ factor-returns-then-depth-eq0 t c = factor_halts (unseen c.if-next_is.ensures) c
 
 pub factor-returns : goal.factor-returns
 factor-returns t c = factor_opens (unseen c.if-next_is.ensures) c.if-next_is_unsigned.ensures _ c.if-depth-eq0.false c.opener.ensures
-
-pub opener-overflow_add-from : goal.opener-overflow_add-from
-opener-overflow_add-from t c = let l = passes_below c.if-next_is.ensures in omega arith
 
 pub opener-returns-in_err-open : goal.opener-returns-in_err-open
 unfolding opener_reader
@@ -79,9 +70,6 @@ opener-returns-then-next_is t c =
     and_then_answers c.in_ok-parameter.ensures some_expression λ e.
     expect_answers ROUND_CLOSE c.token-then-next_is.ensures λ t.
     give_answers _ _
-
-pub opener-overflow_add-from-then-next_is-2 : goal.opener-overflow_add-from-then-next_is-2
-opener-overflow_add-from-then-next_is-2 t c = let l = passes_below c.if-next_is-2.ensures in omega arith
 
 pub opener-expression-requires-then-next_is-2 : goal.opener-expression-requires-then-next_is-2
 opener-expression-requires-then-next_is-2 t c =
@@ -126,9 +114,6 @@ pub term-returns-in_err-at : goal.term-returns-in_err-at
 unfolding term_reader is_either
 term-returns-in_err-at t c =
     unfit (chain_answers apply_at c.in_err-at.ensures _ some_expression λ a. refused) (search rules)
-
-pub term-overflow_add-at : goal.term-overflow_add-at
-term-overflow_add-at t c = let l = passes_below c.loop-at-test.ensures in omega arith
 
 pub term-factor-requires-in-loop-at : goal.term-factor-requires-in-loop-at
 term-factor-requires-in-loop-at t c =

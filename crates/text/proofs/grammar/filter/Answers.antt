@@ -1,6 +1,6 @@
 -- What is left of `filter`.
-use Rattle.std.proofs.Common.{rules, arith}
-use Rattle.text.proofs.laws.CodeReaderLaws.{and_give_answers, chosen_answers, expect_answers, give_answers, if_not_answers, passes_below, refused, seen, unfit, unseen}
+use Rattle.std.proofs.Common.{rules}
+use Rattle.text.proofs.laws.CodeReaderLaws.{and_give_answers, chosen_answers, expect_answers, give_answers, if_not_answers, refused, seen, unfit, unseen}
 use Rattle.text.specs.definitions.Grammar.{filter_reader}
 use Rattle.text.specs.definitions.Tokens.{EQUALS, NAME}
 use Rattle.text.proofs.grammar.filter.Goals as goal
@@ -35,6 +35,3 @@ returns c =
 pub returns-then-not-next_is : goal.returns-then-not-next_is
 unfolding filter_reader
 returns-then-not-next_is c = if_not_answers (unseen c.if-not-next_is.ensures) _ (give_answers _ _)
-
-pub overflow_add-from : goal.overflow_add-from
-overflow_add-from c = let l = passes_below c.if-not-next_is.ensures in omega arith

@@ -1,14 +1,11 @@
 -- What is left of `kind`.
 use Rattle.std.proofs.Common.{refl, arith}
 use mathlib.Core.Logic.{inl, inr}
-use Rattle.text.proofs.laws.CodeReaderLaws.{seen_other, chosen_answers, either_seen, expect_answers, give_answers, if_not_answers, passes_below, unpassed}
+use Rattle.text.proofs.laws.CodeReaderLaws.{seen_other, chosen_answers, either_seen, expect_answers, give_answers, if_not_answers, unpassed}
 use Rattle.text.specs.definitions.Grammar.{kind_reader}
 use Rattle.text.specs.definitions.Tokens.{BOOL, REAL, WHOLE}
 use Rattle.text.specs.inner_contracts.ParseAnswers.{is_either}
 use Rattle.text.proofs.grammar.kind.Goals as goal
-
-pub overflow_add-result : goal.overflow_add-result
-overflow_add-result c = let l = passes_below c.if-next_is_either.ensures in omega arith
 
 pub returns-then-next_is_either : goal.returns-then-next_is_either
 unfolding kind_reader

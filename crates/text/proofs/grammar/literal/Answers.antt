@@ -1,17 +1,11 @@
 -- What is left of `literal`.
 use Rattle.std.proofs.Common.{refl, arith, true, false}
 use mathlib.Core.Logic.{inl, inr}
-use Rattle.text.proofs.laws.CodeReaderLaws.{seen_other, chosen_answers, either_seen, give_answers, if_not_answers, passes_below, seen, unpassed, unseen}
+use Rattle.text.proofs.laws.CodeReaderLaws.{seen_other, chosen_answers, either_seen, give_answers, if_not_answers, seen, unpassed, unseen}
 use Rattle.text.specs.definitions.Grammar.{literal_reader}
 use Rattle.text.specs.definitions.Tokens.{FALSE, TRUE}
 use Rattle.text.specs.inner_contracts.ParseAnswers.{is_either}
 use Rattle.text.proofs.grammar.literal.Goals as goal
-
-pub overflow_add-result : goal.overflow_add-result
-overflow_add-result c = let l = passes_below c.if-next_is_either.ensures in omega arith
-
-pub overflow_add-from : goal.overflow_add-from
-overflow_add-from c = let l = passes_below c.if-next_is.ensures in omega arith
 
 pub returns-then-next_is_either : goal.returns-then-next_is_either
 unfolding literal_reader

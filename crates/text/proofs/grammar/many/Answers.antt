@@ -4,9 +4,6 @@ use Rattle.text.proofs.laws.CodeReaderLaws.{passes_below}
 use Rattle.text.specs.inner_contracts.ParseAnswers.{item_read, item_unfit, none_begins}
 use Rattle.text.proofs.grammar.many.Goals as goal
 
-pub overflow_add-at : goal.overflow_add-at
-overflow_add-at g c = let l = passes_below c.loop-item-test.ensures in omega arith
-
 pub returns-in_err-at : goal.returns-in_err-at
 returns-in_err-at g c =
     let e : c.from_residual.result ≡ Err c.in_err-at.field-0.0 = search rules in

@@ -1,5 +1,4 @@
 -- What is left of `next_is_either`.
-use Rattle.std.proofs.Common.{true}
 use Rattle.text.proofs.laws.CodeReaderLaws.{either_first, either_second, first_of_two, second_of_two}
 use Rattle.text.specs.inner_contracts.ParseAnswers.{is_either}
 use Rattle.text.proofs.grammar.next_is_either.Goals as goal

@@ -1,5 +1,4 @@
 -- What is left of `next_is_unsigned`.
-use Rattle.std.proofs.Common.{true}
 use Rattle.text.proofs.laws.CodeReaderLaws.{first_of_two, second_of_two, unsigned_first, unsigned_second}
 use Rattle.text.specs.inner_contracts.ParseAnswers.{is_unsigned}
 use Rattle.text.proofs.grammar.next_is_unsigned.Goals as goal

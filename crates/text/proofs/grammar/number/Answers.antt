@@ -1,12 +1,8 @@
 -- What is left of `number`.
-use Rattle.std.proofs.Common.{arith}
-use Rattle.text.proofs.laws.CodeReaderLaws.{chosen_answers, expect_answers, give_answers, if_not_answers, passes_below, seen, unseen}
+use Rattle.text.proofs.laws.CodeReaderLaws.{chosen_answers, expect_answers, give_answers, if_not_answers, seen, unseen}
 use Rattle.text.specs.definitions.Grammar.{number_reader}
 use Rattle.text.specs.definitions.Tokens.{REAL_NUMBER}
 use Rattle.text.proofs.grammar.number.Goals as goal
-
-pub overflow_add-result : goal.overflow_add-result
-overflow_add-result c = let l = passes_below c.if-next_is.ensures in omega arith
 
 pub returns-then-next_is : goal.returns-then-next_is
 unfolding number_reader

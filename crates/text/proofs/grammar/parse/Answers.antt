@@ -1,5 +1,5 @@
 -- What is left of `parse`.
-use Rattle.std.proofs.Common.{rules, ◌≡◌, true, false, Err}
+use Rattle.std.proofs.Common.{rules, ◌≡◌, Err}
 use Rattle.text.proofs.laws.CodeGrammarLaws.{file_left, file_refused, file_whole}
 use Rattle.text.proofs.grammar.parse.Goals as goal
 

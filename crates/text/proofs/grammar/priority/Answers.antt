@@ -1,6 +1,5 @@
 -- What is left of `priority`.
-use Rattle.std.proofs.Common.{arith}
-use Rattle.text.proofs.laws.CodeReaderLaws.{chosen_answers, expect_answers, give_answers, if_not_answers, passes_below, seen, unseen}
+use Rattle.text.proofs.laws.CodeReaderLaws.{chosen_answers, expect_answers, give_answers, if_not_answers, seen, unseen}
 use Rattle.text.specs.definitions.Grammar.{priority_reader}
 use Rattle.text.specs.definitions.Tokens.{WHOLE_NUMBER}
 use Rattle.text.proofs.grammar.priority.Goals as goal
@@ -8,9 +7,6 @@ use Rattle.text.proofs.grammar.priority.Goals as goal
 pub returns-then-not-next_is : goal.returns-then-not-next_is
 unfolding priority_reader
 returns-then-not-next_is c = if_not_answers (unseen c.if-not-next_is.ensures) _ (give_answers _ _)
-
-pub overflow_add-from : goal.overflow_add-from
-overflow_add-from c = let l = passes_below c.if-not-next_is.ensures in omega arith
 
 pub returns : goal.returns
 unfolding priority_reader

@@ -1,6 +1,6 @@
 -- What is left of `target`.
-use Rattle.std.proofs.Common.{rules, arith}
-use Rattle.text.proofs.laws.CodeReaderLaws.{chosen_answers, expect_answers, give_answers, if_not_answers, passes_below, refused, seen, unfit, unseen}
+use Rattle.std.proofs.Common.{rules}
+use Rattle.text.proofs.laws.CodeReaderLaws.{chosen_answers, expect_answers, give_answers, if_not_answers, refused, seen, unfit, unseen}
 use Rattle.text.specs.definitions.Grammar.{target_reader}
 use Rattle.text.specs.definitions.Tokens.{NAME}
 use Rattle.text.proofs.grammar.target.Goals as goal
@@ -26,6 +26,3 @@ unfolding target_reader
 returns-then-not-next_is c =
     expect_answers NAME c.in_ok-name.ensures λ n.
     if_not_answers (unseen c.if-not-next_is.ensures) _ (give_answers _ _)
-
-pub overflow_add-name : goal.overflow_add-name
-overflow_add-name c = let l = passes_below c.if-not-next_is.ensures in omega arith

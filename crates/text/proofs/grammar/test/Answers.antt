@@ -1,6 +1,6 @@
 -- What is left of `test`.
-use Rattle.std.proofs.Common.{rules, arith}
-use Rattle.text.proofs.laws.CodeReaderLaws.{and_give_answers, chosen_answers, expect_answers, give_answers, if_not_answers, passes_below, refused, seen, unfit, unseen}
+use Rattle.std.proofs.Common.{rules}
+use Rattle.text.proofs.laws.CodeReaderLaws.{and_give_answers, chosen_answers, expect_answers, give_answers, if_not_answers, refused, seen, unfit, unseen}
 use Rattle.text.specs.definitions.Grammar.{test_reader}
 use Rattle.text.specs.definitions.Tokens.{EQUALS}
 use Rattle.text.proofs.grammar.test.Goals as goal
@@ -24,6 +24,3 @@ returns c =
 pub returns-then-next_is : goal.returns-then-next_is
 unfolding test_reader
 returns-then-next_is c = chosen_answers (seen c.if-next_is.ensures) _ λ t. give_answers _ _
-
-pub overflow_add-result : goal.overflow_add-result
-overflow_add-result c = let l = passes_below c.if-next_is.ensures in omega arith

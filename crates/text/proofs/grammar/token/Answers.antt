@@ -1,11 +1,7 @@
 -- What is left of `token`.
-use Rattle.std.proofs.Common.{arith}
-use Rattle.text.proofs.laws.CodeReaderLaws.{passes_below, seen, seen_answers, unfit_answers, unseen}
+use Rattle.text.proofs.laws.CodeReaderLaws.{seen, seen_answers, unfit_answers, unseen}
 use Rattle.text.specs.definitions.Readers.{give}
 use Rattle.text.proofs.grammar.token.Goals as goal
-
-pub overflow_add-result : goal.overflow_add-result
-overflow_add-result c = let l = passes_below c.if-next_is.ensures in omega arith
 
 pub returns-then-next_is : goal.returns-then-next_is
 returns-then-next_is c = seen_answers (seen c.if-next_is.ensures)

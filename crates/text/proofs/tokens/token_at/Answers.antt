@@ -1,7 +1,6 @@
 -- What is left of `token_at`.
 use Rattle.std.proofs.Common.{of_calls, rules, sym, arith, ◌≡◌, get_or, true, false}
 use Rattle.text.specs.definitions.Bytes.{is_name_byte, is_digit, is_comment_byte}
-use Rattle.text.specs.inner_contracts.TokenTable.{EndsRun}
 use Rattle.text.proofs.steps.RunSteps.{run_ends}
 use Rattle.text.proofs.steps.StepLaws.{name_at, number_at, digits_at, comment_at}
 use Rattle.text.proofs.tokens.token_at.Goals as goal
