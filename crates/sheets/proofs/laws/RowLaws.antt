@@ -9,8 +9,8 @@ use native.Mathlib.Omega.{arith}
 use lib.Dec.{lit≤}
 use lib.IntN.{ℤ, pos, negsuc}
 use lib.Ieee.{nan, inf, fin, binary64, to_bits, is_nan}
-use lib.ListN.{length, get_or, take, drop, replicate, length-append, length-drop, drop_of_length-le, length-take}
-use lib.Seq.{drop-cons, take_all, take-suc, get_or-take, length-take-le}
+use lib.ListN.{length, get_or, take, drop, replicate, length-append, length-drop, length-take}
+use lib.Seq.{take_all, take-suc, length-take-le}
 use Rattle.values.specs.declared.Value.{Value}
 use Rattle.values.specs.declared.Value.TheVariants.{Whole, Truth, Real, Unset}
 use Rattle.values.specs.definitions.Bytes.{overwritten}

@@ -1,5 +1,5 @@
 -- of the rows below number k those that meet the byte are added
-use Rattle.std.proofs.Common.{◌≡◌, ◌≤◌, ◌+◌, ◌*◌}
+use Rattle.std.proofs.Common.{◌≡◌, ◌+◌, ◌*◌}
 use Rattle.cell_sets.specs.definitions.Sets.{has_bit}
 use Rattle.cell_sets.specs.inner_contracts.Adding.{Added}
 use Rattle.cell_sets.specs.inner_contracts.Meeting.{byte_meets}

@@ -1,5 +1,5 @@
 -- the set has the cells of the entities below number e that moved
-use Rattle.std.proofs.Common.{◌≡◌, ◌≤◌, ◌*◌}
+use Rattle.std.proofs.Common.{◌≡◌, ◌*◌}
 use Rattle.cell_sets.specs.inner_contracts.Moving.{MovedSet}
 use Rattle.cell_sets.proofs.moving.find_moved.Given as goal
 
