@@ -111,7 +111,7 @@ fn is_real_spot(columns: &Columns<'_>, spot: usize) -> bool
     columns.class_at(at + 3) == REAL
 }
 
-// Which of the chosen cells are real, in the order of the text.
+/// Which of the chosen cells are real, in the order of the text.
 pub fn real_cells(columns: &Columns<'_>, chosen: &Chosen<'_>) -> [bool; MOST_CHOSEN]
     ensures { of_members RealsRead columns.now chosen.now.spots.now (length chosen.now.spots.now) result }
 {
@@ -135,7 +135,7 @@ fn read_spot(flags: &[u8], cells: &[u8], spot: usize) -> Value
     store.read_cell(e, m)
 }
 
-// What the chosen cells read now, in the order of the text.
+/// What the chosen cells read now, in the order of the text.
 pub fn read_chosen(columns: &Columns<'_>, state: &[u8], chosen: &Chosen<'_>) -> [Value; MOST_CHOSEN]
     requires { StateImage.STATE ≤ length state.now }
     ensures { CellsRead columns.now.d.now state.now chosen.now.spots.now (length chosen.now.spots.now) result }

@@ -50,7 +50,7 @@ fn line_feeds(readings: &[u8]) -> usize
     readings.iter().filter(|&&b| b == b'\n').count()
 }
 
-// Is memory of so many bytes shorter than the stated size? A product that could overflow is not formed.
+/// Is memory of so many bytes shorter than the stated size? A product that could overflow is not formed.
 #[tactic(auto, using(crate::proofs::steps::LineSteps::size_short, crate::proofs::steps::LineSteps::size_told))]
 pub fn is_short(readings: &[u8], size: usize) -> bool
     ensures { result ≡ ltb size (sheet_size readings.now) }
@@ -109,6 +109,7 @@ fn put_day(
     let mut folds = no_folds();
     let mut end: usize = 0;
     let mut at = from;
+    // no loop over parts between line feeds: a last line feed ends a line, and begins none
     while at < readings.len() {
         let stop = line_end(readings, at);
         if let Some(number) = step(rules, header, &readings[at..stop], state) {
@@ -134,7 +135,7 @@ fn copy_state(state: &[u8], copy: &mut [u8])
     copy.copy_from_slice(&state[..STATE]);
 }
 
-// The sheet on a bench in columns, whose rules' names are resolved.
+/// The sheet on a bench in columns, whose rules' names are resolved.
 pub fn put_sheet(
     rules: &Rules<'_>,
     state: &[u8],

@@ -33,6 +33,7 @@ fn print_rest(text: &[u8], at: usize, so_far: u64) -> u32
     print as u32
 }
 
+/// The fingerprint of a text. Three bytes a turn: the call is to be fast, and the rest is `print_rest`'s.
 #[tactic(auto, using(crate::proofs::steps::PrintSteps::print_begins, crate::proofs::steps::PrintSteps::three_steps))]
 pub fn fingerprint(text: &[u8]) -> u32
     ensures { result ≡ fingerprint text.now }

@@ -30,7 +30,7 @@ fn takes_cell(present: &[u8], inputs: &Inputs<'_>, i: usize) -> bool
     present_after(present[e], inputs.flags[e])
 }
 
-// Do all the cells of n entities?
+/// Do all the cells of n entities?
 #[tactic(auto, using(crate::proofs::steps::JudgeSteps::call_fails, crate::proofs::steps::JudgeSteps::call_passes, cycles::proofs::laws::TableLaws::each_ends))]
 pub fn takes_cells(n: usize, present: &[u8], inputs: &Inputs<'_>) -> bool
     requires { (n ≤ length present.now) × (n ≤ length inputs.now.flags.now) × (Planes.ENTITY_CELL_BYTES * n ≤ length inputs.now.cells.now) }
@@ -44,6 +44,7 @@ pub fn takes_cells(n: usize, present: &[u8], inputs: &Inputs<'_>) -> bool
     true
 }
 
+/// Is it the number of a sender's last line, or the next one?
 #[tactic(auto, unfolding(crate::specs::definitions::Line::in_turn))]
 pub fn in_turn(last: u32, number: u64) -> bool
     ensures { result ≡ in_turn last number }
@@ -66,7 +67,7 @@ fn same_reading(columns: &Columns<'_>, kept: &[u8], cells: &[u8], i: usize) -> b
     same_bytes(&kept[at..end], &cells[at..end])
 }
 
-// Are a line's readings those that a sender's plane keeps?
+/// Are a line's readings those that a sender's plane keeps?
 #[tactic(auto, using(crate::proofs::steps::JudgeSteps::flags_differ, crate::proofs::steps::JudgeSteps::readings_begin, crate::proofs::steps::JudgeSteps::readings_go_on))]
 pub fn same_readings(columns: &Columns<'_>, plane: &[u8], inputs: &Inputs<'_>) -> bool
     requires plane_room { Planes.ENTITY_BYTES * entities_of columns.now ≤ length plane.now }

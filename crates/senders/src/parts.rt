@@ -21,7 +21,7 @@ use cycles::{Plane, cell_token, is_sort, number, plane_fits, put_number, put_pla
 use text::classes::ACTION;
 use values::{cell, put_bytes, put_cell, same_bytes};
 
-// Where the part of the sender at a place begins in the image.
+/// Where the part of the sender at a place begins in the image.
 pub fn part_at(n: usize, place: usize) -> usize
     requires { (n ≤ CountFaults.MOST_ENTITIES) × (place ≤ Sender.MOST_SENDERS) }
     ensures { result ≡ image_size n place }
@@ -31,7 +31,7 @@ pub fn part_at(n: usize, place: usize) -> usize
 
 // ---- names
 
-// The name in a part; none where its length is too great.
+/// The name in a part; none where its length is too great.
 pub fn name_of(part: &[u8]) -> &[u8]
     requires { StateImage.NAME_PLACE ≤ length part.now }
     ensures { (length result.now ≤ Sender.MOST_NAME_BYTES) × (get_or part.now 0 0 ≤ Sender.MOST_NAME_BYTES → result.now ≡ part_name part.now) }
@@ -58,7 +58,7 @@ fn has_name(part: &[u8], name: &[u8]) -> bool
     same_bytes(name, &part[1..end])
 }
 
-// The place of the sender of that name among `count` parts of so many bytes.
+/// The place of the sender of that name among `count` parts of so many bytes.
 #[tactic(auto, using(crate::proofs::steps::PartSteps::places_begin, crate::proofs::steps::PartSteps::place_found))]
 pub fn place_of(parts: &[u8], size: usize, count: usize, name: &[u8]) -> Option<usize>
     requires { (StateImage.SENDER_HEAD_BYTES ≤ size) × (count * size ≤ length parts.now) × (length name.now ≤ Sender.MOST_NAME_BYTES) }
@@ -126,7 +126,7 @@ fn is_sender_part(columns: &Columns<'_>, part: &[u8]) -> bool
     )
 }
 
-// Are these `count` parts of senders, no two of one name?
+/// Are these `count` parts of senders, no two of one name?
 #[tactic(auto, using(crate::proofs::steps::PartSteps::parts_begin, crate::proofs::steps::PartSteps::part_fails))]
 pub fn are_senders(columns: &Columns<'_>, parts: &[u8], count: usize) -> bool
     requires few_entities { entities_of columns.now ≤ CountFaults.MOST_ENTITIES }
@@ -160,23 +160,20 @@ fn put_kept_cell(classes: &[u8], token: usize, fired: &[u8], i: usize, inputs: &
     }
 }
 
-// Makes of a line's inputs, of n entities, what is kept of them: of an action what was fired, of any other cell its reading, which stands there.
-#[tactic(auto, using(crate::proofs::steps::KeptSteps::none_kept, crate::proofs::steps::KeptSteps::rest_kept, crate::proofs::steps::KeptSteps::all_kept))]
+/// Makes of a line's inputs, of n entities, what is kept of them: of an action what was fired, of any other cell its reading, which stands there.
 pub fn put_kept(columns: &Columns<'_>, n: usize, fired: &[u8], inputs: &mut [u8])
     requires { (Planes.ENTITY_CELL_BYTES * n ≤ length fired.now) × (Planes.ENTITY_CELL_BYTES * n ≤ length inputs.old) }
     ensures { of_members KeptPut columns.now inputs.old fired.now (Planes.ENTITY_CELLS * n) inputs.old
         inputs.new }
 {
-    let end = ENTITY_CELLS * n;
-    let mut i = 0;
-    while i < end {
-        let token = cell_token(columns.d, i);
-        if NO_TOKEN <= token {
-            // its entity has no further member
-            i = i - i % ENTITY_CELLS + ENTITY_CELLS;
-        } else {
+    for e in 0..n {
+        for m in 0..ENTITY_CELLS {
+            let i = ENTITY_CELLS * e + m;
+            let token = cell_token(columns.d, i);
+            if NO_TOKEN <= token {
+                break; // the entity has no further member
+            }
             put_kept_cell(columns.classes, token, fired, i, inputs);
-            i += 1;
         }
     }
 }
@@ -191,7 +188,7 @@ fn put_zeros(memory: &mut [u8], at: usize, count: usize)
     memory[at..end].fill(0);
 }
 
-// Puts a sender's part of n entities at the front of memory.
+/// Puts a sender's part of n entities at the front of memory.
 pub fn put_sender(memory: &mut [u8], n: usize, name: &[u8], last: u32, flags: &[u8], cells: &[u8])
     requires name_len_bound { (length name.now ≤ Sender.MOST_NAME_BYTES) × (n ≤ length flags.now) × (Planes.ENTITY_CELL_BYTES * n ≤ length cells.now) }
     requires n_bound { (n ≤ CountFaults.MOST_ENTITIES) × (sender_size n ≤ length memory.old) }

@@ -23,7 +23,7 @@ use cycles::layout::{ENTITY_BYTES, ENTITY_CELLS, MOST_CELL_BYTES};
 use cycles::record::{Sent, clear_cells, clear_flags, read_sent, read_values};
 use cycles::{Inputs, Rules, number};
 
-// The last number of the sender at a place; 0 for one that is not known.
+// The last number of the sender at a place; 0 for one that is not known, as the definitions have it: its first line has number 1.
 #[tactic(auto, using(crate::proofs::steps::ResentSteps::last_unknown_read))]
 fn last_of(state: &[u8], n: usize, place: usize) -> u32
     requires { (n ≤ CountFaults.MOST_ENTITIES) × (place < Sender.MOST_SENDERS) × (StateImage.STATE ≤ length state.now) }

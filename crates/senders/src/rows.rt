@@ -28,7 +28,7 @@ fn put_row(columns: &Columns<'_>, name: &[u8], last: u32, cells: &[u8], row: &mu
     put_fields(columns.classes, columns.d, cells, row, at)
 }
 
-// The row of the sender at a place.
+/// The row of the sender at a place.
 #[tactic(auto, using(crate::proofs::steps::RowSteps::place_too_many))]
 pub fn show_place(columns: &Columns<'_>, state: &[u8], place: usize, row: &mut [u8]) -> usize
     requires { (StateImage.STATE ≤ length state.now) × (Row.MOST_ROW_BYTES ≤ length row.old) }
@@ -54,7 +54,7 @@ pub fn show_place(columns: &Columns<'_>, state: &[u8], place: usize, row: &mut [
     )
 }
 
-// The row of the sender of a name: of one that is not known, 0 and nothing fired.
+/// The row of the sender of a name: of one that is not known, 0 and nothing fired.
 #[tactic(auto, using(crate::proofs::steps::RowSteps::shown_too_many))]
 pub fn show(columns: &Columns<'_>, state: &[u8], name: &[u8], row: &mut [u8]) -> usize
     requires name_len_bound { length name.now ≤ Sender.MOST_NAME_BYTES }

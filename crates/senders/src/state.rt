@@ -11,7 +11,7 @@ use checking::Columns;
 use checking::layout::{ENTITY_COUNT_ROW, MOST_ENTITIES};
 use cycles::{are_stores, number, put_fresh_stores, put_number};
 
-// Whether memory is a state of the bench whose text has that fingerprint.
+/// Whether memory is a state of the bench whose text has that fingerprint.
 #[tactic(auto, using(crate::proofs::steps::StateSteps::state_read))]
 pub fn is_state(columns: &Columns<'_>, print: u32, state: &[u8]) -> bool
     requires { StateImage.STATE ≤ length state.now }
@@ -35,7 +35,7 @@ pub fn is_state(columns: &Columns<'_>, print: u32, state: &[u8]) -> bool
     are_senders(columns, &state[senders..], count)
 }
 
-// Writes the fresh state.
+/// Writes the fresh state.
 pub fn put_fresh(columns: &Columns<'_>, literals: &[u32], print: u32, state: &mut [u8])
     requires { StateImage.STATE ≤ length state.old }
     ensures { of_literals FreshStatePut columns.now literals.now print state.old state.new }

@@ -135,6 +135,9 @@ module _ {classes d inputs fired : List ℕ} where
             (rest_put inputs fired w.file i (none_behind t h w c) l (12 - i % 12) (omega arith) (omega arith) (p.is text offsets lengths w c));
       }
 
+    pub kept_until : {j : ℕ} → i ≡ j → KeptSoFar classes d inputs fired j inputs now
+    kept_until e = rw e at p
+
     pub all_kept : (n : ℕ) → i ≡ n → n * 9 ≤ length inputs → KeptPut classes d inputs fired n inputs now
     all_kept n e h = record {
       is = λ text offsets lengths w c. (put_in_front (rw e at (p.is text offsets lengths w c)) h).is;

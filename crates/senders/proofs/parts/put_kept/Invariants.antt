@@ -1,15 +1,10 @@
--- The cells that the loop has passed are what is kept.
+-- The cells of the entities before number e are what is kept, and of its members before number m.
 use Rattle.senders.proofs.steps.KeptSteps.{KeptSoFar}
-use Rattle.std.proofs.Common.{length, ◌*◌, ◌-◌, ◌≡◌, ◌≤◌}
+use Rattle.std.proofs.Common.{◌*◌, ◌+◌}
 use Rattle.senders.proofs.parts.put_kept.Given as goal
 
-abbrev pub invariant-loop-i : goal.invariant-loop-i
-invariant-loop-i l =
-    record {
-      within : l.i ≤ 12 * l.n;
-      long : length l.inputs ≡ length l.fn.inputs;
-      kept : KeptSoFar l.columns.classes.now l.columns.d.now l.fn.inputs l.fired l.i l.fn.inputs l.inputs;
-    }
+abbrev pub invariant-loop-e : goal.invariant-loop-e
+invariant-loop-e l = KeptSoFar l.columns.classes.now l.columns.d.now l.fn.inputs l.fired (12 * l.e) l.fn.inputs l.inputs
 
-abbrev pub decreases-loop-i : goal.decreases-loop-i
-decreases-loop-i l = 12 * l.n - l.i
+abbrev pub invariant-loop-m : goal.invariant-loop-m
+invariant-loop-m l = KeptSoFar l.columns.classes.now l.columns.d.now l.fn.inputs l.fired (12 * l.e + l.m) l.fn.inputs l.inputs
