@@ -16,15 +16,6 @@ use crate::table::{first_of, row};
 use text::classes::{ACTION, ATTRIBUTE, COLON, ENTITY, EVENT, INTERFACE, RULES, WHEN};
 use text::walks::class_at;
 
-fn one_less(n: usize) -> usize
-    ensures { result ≡ n - 1 }
-{
-    if n == 0 {
-        return 0;
-    }
-    n - 1
-}
-
 // A fault at token number i if no more items may come.
 #[tactic(auto, using(crate::proofs::steps::CountScanLaws::past_none, crate::proofs::steps::CountScanLaws::past_one), unfolding(crate::specs::inner_contracts::FoundFaults::found_as))]
 fn over(offsets: &[u16], left: usize, i: usize) -> Option<Fault>
@@ -45,32 +36,26 @@ fn declaration_fault(classes: &[u8], offsets: &[u16], end: usize) -> Option<Faul
     ensures { found_as result
         ≡ earliest (declared_scan classes.now offsets.now end 0 CountFaults.MOST_INTERFACES CountFaults.MOST_MEMBERS CountFaults.MOST_ENTITIES) }
 {
-    let mut interfaces: usize = MOST_INTERFACES;
-    let mut members: usize = MOST_MEMBERS;
-    let mut entities: usize = MOST_ENTITIES;
+    let mut interfaces = MOST_INTERFACES;
+    let mut members = MOST_MEMBERS;
+    let mut entities = MOST_ENTITIES;
     let mut found = None;
-    let mut i: usize = 0;
-    while i < end {
-        let class = class_at(classes, i);
-        let here = i;
-        i += 1;
-        if class == INTERFACE {
-            found = earlier(found, over(offsets, interfaces, here));
-            interfaces = one_less(interfaces);
-            members = MOST_MEMBERS;
-            continue;
-        }
-        if class < ATTRIBUTE {
-            continue;
-        }
-        if class <= ACTION {
-            found = earlier(found, over(offsets, members, here));
-            members = one_less(members);
-            continue;
-        }
-        if class == ENTITY {
-            found = earlier(found, over(offsets, entities, here));
-            entities = one_less(entities);
+    for i in 0..end {
+        match class_at(classes, i) {
+            INTERFACE => {
+                found = earlier(found, over(offsets, interfaces, i));
+                interfaces = interfaces.saturating_sub(1);
+                members = MOST_MEMBERS;
+            }
+            ATTRIBUTE..=ACTION => {
+                found = earlier(found, over(offsets, members, i));
+                members = members.saturating_sub(1);
+            }
+            ENTITY => {
+                found = earlier(found, over(offsets, entities, i));
+                entities = entities.saturating_sub(1);
+            }
+            _ => {}
         }
     }
     found
@@ -83,37 +68,33 @@ fn rule_fault(classes: &[u8], offsets: &[u16], from: usize) -> Option<Fault>
         ≡ earliest (ruled_scan classes.now offsets.now (length classes.now - from) from CountFaults.MOST_RULES CountFaults.MOST_VARIABLES
         CountFaults.MOST_CLAUSES CountFaults.MOST_CALLS) }
 {
-    let mut rules: usize = MOST_RULES;
-    let mut variables: usize = MOST_VARIABLES;
-    let mut clauses: usize = MOST_CLAUSES;
-    let mut calls: usize = MOST_CALLS;
+    let mut rules = MOST_RULES;
+    let mut variables = MOST_VARIABLES;
+    let mut clauses = MOST_CLAUSES;
+    let mut calls = MOST_CALLS;
     let mut found = None;
-    let mut i = from;
-    while i < classes.len() {
-        let class = class_at(classes, i);
-        let here = i;
-        i += 1;
-        if class == WHEN {
-            found = earlier(found, over(offsets, rules, here));
-            rules = one_less(rules);
-            variables = MOST_VARIABLES;
-            clauses = MOST_CLAUSES;
-            calls = MOST_CALLS;
-            continue;
-        }
-        if class == COLON {
-            found = earlier(found, over(offsets, variables, one_less(here)));
-            variables = one_less(variables);
-            continue;
-        }
-        if class == EVENT {
-            found = earlier(found, over(offsets, clauses, here));
-            clauses = one_less(clauses);
-            continue;
-        }
-        if class == ACTION {
-            found = earlier(found, over(offsets, calls, here));
-            calls = one_less(calls);
+    for i in from..classes.len() {
+        match class_at(classes, i) {
+            WHEN => {
+                found = earlier(found, over(offsets, rules, i));
+                rules = rules.saturating_sub(1);
+                variables = MOST_VARIABLES;
+                clauses = MOST_CLAUSES;
+                calls = MOST_CALLS;
+            }
+            COLON => {
+                found = earlier(found, over(offsets, variables, i.saturating_sub(1)));
+                variables = variables.saturating_sub(1);
+            }
+            EVENT => {
+                found = earlier(found, over(offsets, clauses, i));
+                clauses = clauses.saturating_sub(1);
+            }
+            ACTION => {
+                found = earlier(found, over(offsets, calls, i));
+                calls = calls.saturating_sub(1);
+            }
+            _ => {}
         }
     }
     found

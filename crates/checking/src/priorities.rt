@@ -28,12 +28,9 @@ pub fn priority_fault(classes: &[u8], offsets: &[u16], values: &[u32]) -> Option
     ensures { PriorityChecked classes.now offsets.now values.now result }
 {
     let mut found = None;
-    let mut i: usize = 0;
-    while i < classes.len() {
-        let class = class_at(classes, i);
-        i += 1;
-        if class == RANK {
-            found = earlier(found, above(offsets, values, i));
+    for i in 0..classes.len() {
+        if class_at(classes, i) == RANK {
+            found = earlier(found, above(offsets, values, i + 1));
         }
     }
     found

@@ -13,24 +13,19 @@ use values::Kind;
 pub fn row(d: &[u16], i: usize) -> usize
     ensures { (result ≡ get_or d.now i 0) × (result < 65536) }
 {
-    if d.len() <= i {
-        return 0;
-    }
-    d[i] as usize
+    d.get(i).map_or(0, |&n| usize::from(n))
 }
 
 // The first token of a class from number `from` on; the count of tokens if there is none.
 pub fn first_of(classes: &[u8], class: u8, from: usize) -> usize
     ensures { FirstOf classes.now class from result }
 {
-    let mut i = from;
-    while i < classes.len() {
+    for i in from..classes.len() {
         if classes[i] == class {
             return i;
         }
-        i += 1;
     }
-    i
+    from.max(classes.len())
 }
 
 // The row of member number m of interface number `face`, or 0.

@@ -5,6 +5,3 @@ use Rattle.checking.proofs.counts.rule_fault.Given as goal
 
 abbrev pub invariant-loop-i : goal.invariant-loop-i
 invariant-loop-i l = Ruling l.classes l.offsets (length l.classes) l.from l.i l.rules l.variables l.clauses l.calls l.found
-
-abbrev pub decreases-loop-i : goal.decreases-loop-i
-decreases-loop-i l = length l.classes - l.i

@@ -5,6 +5,3 @@ use Rattle.checking.proofs.priorities.priority_fault.Given as goal
 
 abbrev pub invariant-loop-i : goal.invariant-loop-i
 invariant-loop-i l = Prioritizing l.classes l.offsets l.values (length l.classes) l.i l.found
-
-abbrev pub decreases-loop-i : goal.decreases-loop-i
-decreases-loop-i l = length l.classes - l.i

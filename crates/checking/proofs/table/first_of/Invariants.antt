@@ -9,6 +9,3 @@ invariant-loop-i l =
       high : l.i ≤ max l.from (length l.classes);
       before : (k : ℕ) → k < l.i → l.from ≤ k → get_or l.classes k 0 ≡ l.class → ⊥;
     }
-
-abbrev pub decreases-loop-i : goal.decreases-loop-i
-decreases-loop-i l = length l.classes - l.i
