@@ -19,8 +19,7 @@ use crate::world::Worlds;
 use cell_sets::has_bit;
 use checking::layout::{
     ENTITY_COUNT_ROW, ENTITY_INTERFACE_ROWS, MOST_ENTITIES, MOST_ENTITIES_8, MOST_INTERFACES,
-    MOST_INTERFACES_8, MOST_RULES, MOST_VARIABLES, MOST_VARIABLES_8, RULE_COUNT_ROW, RULE_ROWS,
-    SCOPE_ROWS,
+    MOST_INTERFACES_8, MOST_RULES, MOST_VARIABLES_8, RULE_COUNT_ROW, RULE_ROWS, SCOPE_ROWS,
 };
 
 // Does each variable of rule number k have its entity, if the first `level` of them do?
@@ -170,9 +169,7 @@ fn try_rules(rules: &Rules<'_>, stores: &Stores<'_>, set: u64, area: &mut [u8])
         };
         let none = Worlds {
             rules: &*rules,
-            b: Binding {
-                entities: [0; MOST_VARIABLES],
-            },
+            b: Binding { entities: 0 },
             stores: &*stores,
         };
         bind(&none, &trial, 0, area);

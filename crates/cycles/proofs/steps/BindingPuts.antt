@@ -1,5 +1,5 @@
 -- All rules for all bindings in memory: what the walk over a rule's variables and, for each of them, over the entities puts.
-use Prim.Native.Nat.{ℕ, zero, suc, ◌+◌, ◌-◌, ◌≤◌, ◌<◌}
+use Prim.Native.Nat.{ℕ, zero, suc, ◌+◌, ◌≤◌, ◌<◌, ◌%◌, ◌*◌}
 use native.Mathlib.Numerals.{add-one}
 use native.Mathlib.Omega.{arith}
 use mathlib.Core.Path.{◌≡◌, refl, sym, ap, ◌∙◌}
@@ -11,7 +11,6 @@ use lib.Ieee.Fits.{and_r}
 use lib.ListN.{length, get_or, get_elem?, drop, set}
 use lib.Seq.{get_or-set_same, get_or-set_other}
 use borrow.Author.Tests.{leb-true, leb-false, ltb-true, ltb-false, eqb-true, eqb-false}
-use Rattle.std.proofs.lemmas.Bool.{le-ltb}
 use Rattle.values.specs.definitions.Bytes.{same_bytes}
 use Rattle.text.specs.definitions.Syntax.{Entity}
 use Rattle.text.proofs.laws.ListLaws.{some_injective, none_some}
@@ -115,42 +114,48 @@ front_at [] rest v h = absurd (omega arith)
 front_at (e ∷ es) rest zero h = refl
 front_at (e ∷ es) rest (suc v) h = front_at es rest v (omega arith)
 
-last_at : (es : List ℕ) (e v : ℕ) {x : ℕ} → get_elem? (es ++ e ∷ []) v ≡ some x → length es ≤ v → (v ≡ length es) × (x ≡ e)
-last_at [] e zero h l = (refl, sym (some_injective h))
-last_at [] e (suc v) h l = absurd (none_some h)
-last_at (a ∷ es) e zero h l = absurd (omega arith)
-last_at (a ∷ es) e (suc v) h l = let z = last_at es e v h (omega arith) in (ap suc z.0, z.1)
-
-bound_at : (b : Binding) (v : ℕ) → bound b (32 + v) ≡ get_or b.entities v 0
-unfolding bound
-bound_at b v = let e : 32 + v - 32 ≡ v = omega arith in rw (le-ltb (32 + v) 32 (omega arith), e) refl
-
-module _ {b : Binding} {level : ℕ} where
-  -- past the last variable there is nothing to say
-  pub no_variable : {e : ℕ} {r : Binding} → 3 ≤ level → EntityAdded b level e r
-  no_variable h = record { gives = λ es s m g. absurd (omega arith); keeps = λ v l m. absurd (omega arith) }
-
-  pub entity_set : {e : ℕ} → length b.entities ≡ 3 → EntityAdded b level e (record { entities = set b.entities level e })
-  entity_set {e} room = record { gives = gives; keeps = keeps }
+module _ {b : Binding} {level e : ℕ} (byte : e < 256) where
+  pub added_first : level ≡ 0 → EntityAdded b level e (record { entities = e })
+  unfolding bound
+  added_first l = record { gives = go; keeps = λ v h m. absurd (omega arith) }
     where
-      keeps : (v : ℕ) → v < level → level < 3 → bound (record { entities = set b.entities level e }) (32 + v) ≡ bound b (32 + v)
-      keeps v l m =
-          bound_at (record { entities = set b.entities level e }) v
-          ∙ get_or-set_other b.entities level v e 0 (λ z. omega arith) ∙ sym (bound_at b v)
+      go : (es : List ℕ) → length es ≡ level → level < 3 → Gives b es → Gives (record { entities = e }) (es ++ e ∷ [])
+      go [] s m g zero x h = omega (arith, some_injective h)
+      go [] s m g (suc v) x h = absurd (none_some h)
+      go (a ∷ es) s m g v x h = absurd (omega arith)
 
-      gives : (es : List ℕ) → length es ≡ level → level < 3 → Gives b es → Gives (record { entities = set b.entities level e }) (es ++ e ∷ [])
-      gives es s m g v x h = go (ltb v level) refl
-        where
-          go : (t : Bool) → ltb v level ≡ t → x ≡ bound (record { entities = set b.entities level e }) (32 + v)
-          go true q =
-              let l = ltb-true v level q in
-              g v x (sym (front_at es (e ∷ []) v (omega arith)) ∙ h) ∙ sym (keeps v l m)
-          go false q =
-              let l = ltb-false v level q in
-              let z = last_at es e v h (omega arith) in
-              let same : level ≡ v = omega (arith, z.0) in
-              z.1 ∙ sym (bound_at (record { entities = set b.entities level e }) v ∙ ap (λ i. get_or (set b.entities level e) i 0) (sym same)
-              ∙ get_or-set_same b.entities level e 0 (omega (arith, room)))
+  pub added_second : level ≡ 1 → EntityAdded b level e (record { entities = b.entities % 256 + 256 * e })
+  unfolding bound
+  added_second l = record { gives = go; keeps = same }
+    where
+      same : (v : ℕ) → v < level → level < 3 → bound (record { entities = b.entities % 256 + 256 * e }) (32 + v) ≡ bound b (32 + v)
+      same zero h m = omega arith
+      same (suc v) h m = absurd (omega arith)
+
+      go : (es : List ℕ) → length es ≡ level → level < 3 → Gives b es → Gives (record { entities = b.entities % 256 + 256 * e }) (es ++ e ∷ [])
+      go [] s m g v x h = absurd (omega arith)
+      go (a ∷ []) s m g zero x h = omega (arith, g 0 x h)
+      go (a ∷ []) s m g (suc zero) x h = omega (arith, some_injective h)
+      go (a ∷ []) s m g (suc (suc v)) x h = absurd (none_some h)
+      go (a ∷ c ∷ es) s m g v x h = absurd (omega arith)
+
+  pub added_third : (level ≡ 0 → ⊥) → (level ≡ 1 → ⊥) → EntityAdded b level e (record { entities = b.entities % 65536 + 65536 * e })
+  unfolding bound
+  added_third n o = record { gives = go; keeps = same }
+    where
+      same : (v : ℕ) → v < level → level < 3 → bound (record { entities = b.entities % 65536 + 65536 * e }) (32 + v) ≡ bound b (32 + v)
+      same zero h m = omega arith
+      same (suc zero) h m = omega arith
+      same (suc (suc v)) h m = absurd (omega arith)
+
+      go : (es : List ℕ) → length es ≡ level → level < 3 → Gives b es → Gives (record { entities = b.entities % 65536 + 65536 * e }) (es ++ e ∷ [])
+      go [] s m g v x h = absurd (n (sym s))
+      go (a ∷ []) s m g v x h = absurd (o (sym s))
+      go (a ∷ c ∷ []) s m g zero x h = omega (arith, g 0 x h)
+      go (a ∷ c ∷ []) s m g (suc zero) x h = omega (arith, g 1 x h)
+      go (a ∷ c ∷ []) s m g (suc (suc zero)) x h = omega (arith, some_injective h)
+      go (a ∷ c ∷ []) s m g (suc (suc (suc v))) x h = absurd (none_some h)
+      go (a ∷ c ∷ i ∷ es) s m g v x h = absurd (omega arith)
 
 -- ---- what one rule puts
 
@@ -350,3 +355,6 @@ module _ {classes values d refs scopes flags cells previous_flags previous_cells
 
 -- what a loop that finds a range needs
 pub ruleset range_turns = (range_begins, range_skips, range_takes)
+
+-- what one more entity of a binding needs
+pub ruleset entity_added = (added_first, added_second, added_third)

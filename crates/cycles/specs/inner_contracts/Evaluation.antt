@@ -1,6 +1,6 @@
 -- What the evaluator of one rule at one binding works on: columns that stand for tokens and for what their names mean, memory that stands
 -- for a store, and memory that takes writes. What it promises holds in every world for which the columns and the memory stand.
-use Rattle.std.specs.Prelude.{ℕ, ◌+◌, ◌-◌, ◌*◌, ◌/◌, ◌%◌, ◌<◌, ◌≤◌, ◌≡◌, Bool, cond, ◌⊎◌, ltb, eqb, length, get_or, drop}
+use Rattle.std.specs.Prelude.{ℕ, ◌+◌, ◌*◌, ◌/◌, ◌%◌, ◌<◌, ◌≤◌, ◌≡◌, Bool, cond, ◌⊎◌, ltb, eqb, length, get_or, drop}
 use mathlib.Core.List.{List, [], ◌∷◌, flat_map}
 use Rattle.std.specs.Prelude as Optional
 use Rattle.std.proofs.Math.Option.{Option, none, some}
@@ -31,9 +31,12 @@ use Rattle.cycles.specs.definitions.Planes.{ENTITY_CELLS, ENTITY_CELL_BYTES, MOS
 
 -- ---- references
 
--- the entity that a reference means: an entity, or a variable
+-- the entity that a reference means: an entity, or a variable. A binding has the variables' entities as the bytes of
+-- one number, the first variable's the lowest
 unfoldable pub bound : Binding → ℕ → ℕ
-bound b r = cond (ltb r FIRST_VARIABLE) r (get_or b.entities (r - FIRST_VARIABLE) 0)
+bound b r =
+    cond (ltb r FIRST_VARIABLE) r
+    (cond (eqb r FIRST_VARIABLE) (b.entities % 256) (cond (eqb r (FIRST_VARIABLE + 1)) (b.entities / 256 % 256) (b.entities / 65536 % 256)))
 
 -- what a reference says of a look-up, among so many entities: member m of entity e, or nothing, where m is no member's number
 pub data Locates (count : ℕ) (p : Option Spot) (e m : ℕ) : Type 0 where
