@@ -101,8 +101,8 @@ fn put_day(
     state: &mut [u8],
     sheet: &mut [u8],
 ) -> usize
-    requires in_bounds { StateImage.STATE ≤ length state.old }
-    requires readings_in_bounds { Layout.MOST_CHOSEN * Sizes.MOST_CLOSING_BYTES + Sizes.MOST_LINE_BYTES * length (lines (drop from readings.now)) ≤ length sheet.old }
+    requires state { StateImage.STATE ≤ length state.old }
+    requires room { Layout.MOST_CHOSEN * Sizes.MOST_CLOSING_BYTES + Sizes.MOST_LINE_BYTES * length (lines (drop from readings.now)) ≤ length sheet.old }
     ensures { of_rules DayPut rules.now header.now.columns.now (length header.now.columns.now) chosen.now.spots.now (length chosen.now.spots.now) readings.now from state.old sheet.old sheet.new result }
 {
     let count = chosen.spots.len();
@@ -143,8 +143,8 @@ pub fn put_sheet(
     cells: &[u8],
     sheet: &mut [u8],
 ) -> Result<usize, SheetError>
-    requires in_bounds { StateImage.STATE ≤ length state.now }
-    requires readings_in_bounds { sheet_size readings.now ≤ length sheet.old }
+    requires state { StateImage.STATE ≤ length state.now }
+    requires room { sheet_size readings.now ≤ length sheet.old }
     ensures { of_bench SheetPut rules.now state.now readings.now cells.now sheet.old sheet.new (sheeted_as result) }
 {
     let bench = &rules.columns;

@@ -130,7 +130,7 @@ fn is_sender_part(columns: &Columns<'_>, part: &[u8]) -> bool
 #[tactic(auto, using(crate::proofs::steps::PartSteps::parts_begin, crate::proofs::steps::PartSteps::part_fails))]
 pub fn are_senders(columns: &Columns<'_>, parts: &[u8], count: usize) -> bool
     requires few_entities { entities_of columns.now ≤ CountFaults.MOST_ENTITIES }
-    requires count_bound { (count ≤ Sender.MOST_SENDERS) × (count * sender_size (entities_of columns.now) ≤ length parts.now) }
+    requires parts { (count ≤ Sender.MOST_SENDERS) × (count * sender_size (entities_of columns.now) ≤ length parts.now) }
     ensures { of_members PartsTest columns.now parts.now count result }
 {
     let size = SENDER_HEAD_BYTES + ENTITY_BYTES * columns.row(ENTITY_COUNT_ROW);
@@ -190,8 +190,8 @@ fn put_zeros(memory: &mut [u8], at: usize, count: usize)
 
 /// Puts a sender's part of n entities at the front of memory.
 pub fn put_sender(memory: &mut [u8], n: usize, name: &[u8], last: u32, flags: &[u8], cells: &[u8])
-    requires name_len_bound { (length name.now ≤ Sender.MOST_NAME_BYTES) × (n ≤ length flags.now) × (Planes.ENTITY_CELL_BYTES * n ≤ length cells.now) }
-    requires n_bound { (n ≤ CountFaults.MOST_ENTITIES) × (sender_size n ≤ length memory.old) }
+    requires sender { (length name.now ≤ Sender.MOST_NAME_BYTES) × (n ≤ length flags.now) × (Planes.ENTITY_CELL_BYTES * n ≤ length cells.now) }
+    requires room { (n ≤ CountFaults.MOST_ENTITIES) × (sender_size n ≤ length memory.old) }
     ensures { memory.new
         ≡ part_of n name.now last flags.now cells.now ++ drop (sender_size n) memory.old }
 {

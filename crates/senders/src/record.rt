@@ -71,7 +71,7 @@ fn follow(
     state: &mut [u8],
 )
     requires sender { (entities_of rules.now.columns ≤ CountFaults.MOST_ENTITIES) × (place < Sender.MOST_SENDERS) × (length name.now ≤ Sender.MOST_NAME_BYTES) }
-    requires in_bounds { (CountFaults.MOST_ENTITIES ≤ length flags.now) × (Planes.MOST_CELL_BYTES ≤ length cells.old) × (StateImage.STATE ≤ length state.old) }
+    requires room { (CountFaults.MOST_ENTITIES ≤ length flags.now) × (Planes.MOST_CELL_BYTES ≤ length cells.old) × (StateImage.STATE ≤ length state.old) }
     ensures { of_rules Followed rules.now name.now place last flags.now cells.old state.old state.new }
 {
     let n = rules.row(ENTITY_COUNT_ROW);
@@ -99,7 +99,7 @@ fn settle(
     state: &mut [u8],
 ) -> Result<Turn, LineError>
     requires sender { (entities_of rules.now.columns ≤ CountFaults.MOST_ENTITIES) × (place < Sender.MOST_SENDERS) × (length name.now ≤ Sender.MOST_NAME_BYTES) }
-    requires in_bounds { (CountFaults.MOST_ENTITIES ≤ length flags.now) × (Planes.MOST_CELL_BYTES ≤ length cells.old) × (StateImage.STATE ≤ length state.old) }
+    requires room { (CountFaults.MOST_ENTITIES ≤ length flags.now) × (Planes.MOST_CELL_BYTES ≤ length cells.old) × (StateImage.STATE ≤ length state.old) }
     ensures { of_rules Settled rules.now name.now place line flags.now cells.old state.old state.new (judged_as result) }
 {
     let n = rules.row(ENTITY_COUNT_ROW);

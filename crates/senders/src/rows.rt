@@ -57,8 +57,8 @@ pub fn show_place(columns: &Columns<'_>, state: &[u8], place: usize, row: &mut [
 /// The row of the sender of a name: of one that is not known, 0 and nothing fired.
 #[tactic(auto, using(crate::proofs::steps::RowSteps::shown_too_many))]
 pub fn show(columns: &Columns<'_>, state: &[u8], name: &[u8], row: &mut [u8]) -> usize
-    requires name_len_bound { length name.now ≤ Sender.MOST_NAME_BYTES }
-    requires in_bounds { (StateImage.STATE ≤ length state.now) × (Row.MOST_ROW_BYTES ≤ length row.old) }
+    requires name { length name.now ≤ Sender.MOST_NAME_BYTES }
+    requires room { (StateImage.STATE ≤ length state.now) × (Row.MOST_ROW_BYTES ≤ length row.old) }
     ensures { of_members Shown columns.now state.now name.now row.old row.new result }
 {
     let n = columns.row(ENTITY_COUNT_ROW);

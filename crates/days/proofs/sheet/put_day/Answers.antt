@@ -4,7 +4,7 @@ use Rattle.days.proofs.sheet.put_day.Goals as goal
 use Rattle.days.proofs.sheet.put_day.Goals.{in-Some, in_default}
 
 pub loop-at-init : goal.loop-at-init
-loop-at-init c = going_begin _ _ _ _ _ _ _ _ _ _ _ _ _ c.requires.in_bounds c.requires.readings_in_bounds c.no_folds-folds.ensures
+loop-at-init c = going_begin _ _ _ _ _ _ _ _ _ _ _ _ _ c.requires.state c.requires.room c.no_folds-folds.ensures
 
 pub loop-at-preserved : goal.loop-at-preserved
 loop-at-preserved c =

@@ -15,11 +15,11 @@ returns-in_default-read c =
     sheet_no_header _ _ _ _ _ _ _ _ _ _ _ _ c.fingerprint.ensures c.is_state.ensures c.if-not-is_state.false c.in-Some.ensures
     c.in-Some.chosen.few c.line_end-end.ensures c.in_default-read.ensures (omega arith)
 
-pub put_day-requires-clause-readings_in_bounds : goal.put_day-requires-clause-readings_in_bounds
-put_day-requires-clause-readings_in_bounds c = room_for_day _ c.line_end-end.ensures c.requires.readings_in_bounds
+pub put_day-requires-clause-room : goal.put_day-requires-clause-room
+put_day-requires-clause-room c = room_for_day _ c.line_end-end.ensures c.requires.room
 
 pub returns : goal.returns
 returns c =
     sheet_made _ _ _ _ _ _ _ _ _ _ _ _ c.fingerprint.ensures c.is_state.ensures c.if-not-is_state.false c.in-Some.ensures
-    c.in-Some.chosen.few c.line_end-end.ensures c.in-Some-read.ensures.1 c.in-Some-read.ensures.0 c.requires.in_bounds
-    (λ i. omega (arith, c.type_inv.state i)) c.requires.readings_in_bounds c.copy_state.ensures c.put_day.ensures
+    c.in-Some.chosen.few c.line_end-end.ensures c.in-Some-read.ensures.1 c.in-Some-read.ensures.0 c.requires.state
+    (λ i. omega (arith, c.type_inv.state i)) c.requires.room c.copy_state.ensures c.put_day.ensures

@@ -7,6 +7,6 @@ pub returns : goal.returns
 returns c =
     let l = simp length-set at c.put_bytes-end.auto.s in
     let e = c.put_bytes-end.ensures.end in
-    let n : c.put_bytes-end.result + (25 - c.put_bytes-end.result) ≡ 25 = omega (arith, c.requires.name_len_bound.0) in
-    sender_put c.args.n c.args.last c.args.name.now c.args.flags.now c.args.cells.now c.args.memory.now c.requires.name_len_bound.0
-    c.put_bytes-end.ensures (rw n at c.put_zeros.ensures) c.put_number.ensures c.put_plane.ensures c.requires.n_bound.1 (omega arith)
+    let n : c.put_bytes-end.result + (25 - c.put_bytes-end.result) ≡ 25 = omega (arith, c.requires.sender.0) in
+    sender_put c.args.n c.args.last c.args.name.now c.args.flags.now c.args.cells.now c.args.memory.now c.requires.sender.0
+    c.put_bytes-end.ensures (rw n at c.put_zeros.ensures) c.put_number.ensures c.put_plane.ensures c.requires.room.1 (omega arith)
