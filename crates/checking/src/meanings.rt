@@ -36,8 +36,7 @@ pub fn declaration(columns: &Columns<'_>, start: usize, i: usize) -> usize
     ensures { of_tokens Declaration columns.now start i result }
 {
     let size = columns.classes.len();
-    let mut n = start;
-    while n < size {
+    for n in start..size {
         let class = columns.class_at(n + 1);
         if class == END {
             return size;
@@ -45,7 +44,6 @@ pub fn declaration(columns: &Columns<'_>, start: usize, i: usize) -> usize
         if declares(columns, class, n, i) {
             return n;
         }
-        n += 1;
     }
     size
 }
@@ -68,14 +66,12 @@ pub fn repeated(columns: &Columns<'_>, start: usize) -> Option<Fault>
     ensures { of_tokens Repeated columns.now start result }
 {
     let mut found = None;
-    let mut n = start;
-    while n < columns.classes.len() {
+    for n in start..columns.classes.len() {
         let class = columns.class_at(n + 1);
         if class == END {
             return found;
         }
         found = earlier(found, repeated_at(columns, start, class, n));
-        n += 1;
     }
     found
 }

@@ -41,8 +41,7 @@ fn variable_reference(columns: &Columns<'_>, start: usize, i: usize) -> u16
 {
     let size = columns.classes.len();
     let mut k = FIRST_VARIABLE_16;
-    let mut n = start;
-    while n < size {
+    for n in start..size {
         if NO_REFERENCE <= k {
             return NO_REFERENCE;
         }
@@ -53,11 +52,9 @@ fn variable_reference(columns: &Columns<'_>, start: usize, i: usize) -> u16
         if declares(columns, class, n, i) {
             return k;
         }
-        n += 1;
-        if class != COLON {
-            continue;
+        if class == COLON {
+            k += 1;
         }
-        k += 1;
     }
     NO_REFERENCE
 }
@@ -133,19 +130,16 @@ pub fn resolve_names(columns: &Columns<'_>, refs: &mut [u16])
         refs.new }
 {
     let mut start = 0;
-    let mut i = first_of(columns.classes, WHEN, 0);
-    while i < columns.classes.len() {
+    for i in first_of(columns.classes, WHEN, 0)..columns.classes.len() {
         let class = columns.class_at(i);
-        let here = i;
-        i += 1;
         if class == WHEN {
-            start = here;
+            start = i;
             continue;
         }
         if class != NAME {
             continue;
         }
-        refs[here] = row_resolved(columns, start, here);
+        refs[i] = row_resolved(columns, start, i);
     }
 }
 
@@ -156,19 +150,16 @@ fn declaration_number(classes: &[u8], start: usize, v: u8) -> usize
 {
     let size = classes.len();
     let mut left = v;
-    let mut n = start;
-    while n < size {
+    for n in start..size {
         let class = class_at(classes, n + 1);
         if class == LAST {
             return size;
         }
-        let here = n;
-        n += 1;
         if class != COLON {
             continue;
         }
         if left == 0 {
-            return here;
+            return n;
         }
         left -= 1;
     }
@@ -247,8 +238,7 @@ pub fn resolve_scopes(columns: &Columns<'_>, scopes: &mut [u8])
         scopes.old scopes.new }
 {
     let count = columns.row(RULE_COUNT_ROW);
-    let mut k: u8 = 0;
-    while k < MOST_RULES_8 {
+    for k in 0..MOST_RULES_8 {
         let rule = k as usize;
         if count <= rule {
             return;
@@ -256,7 +246,6 @@ pub fn resolve_scopes(columns: &Columns<'_>, scopes: &mut [u8])
         let start = columns.row(RULE_ROWS + rule);
         let v = variables_of(columns, start);
         put_variables(scopes, k, v);
-        k += 1;
     }
 }
 

@@ -1,11 +1,7 @@
 -- What the loop of `resolve_scopes` keeps.
 use Rattle.checking.specs.inner_contracts.OfColumns.{of_file}
-use Rattle.std.proofs.Common.{◌-◌}
 use Rattle.checking.proofs.steps.ScopeLaws.{Scoping}
 use Rattle.checking.proofs.resolver.resolve_scopes.Given as goal
 
 abbrev pub invariant-loop-k : goal.invariant-loop-k
 invariant-loop-k l = of_file Scoping l.columns l.fn.scopes l.scopes l.k
-
-abbrev pub decreases-loop-k : goal.decreases-loop-k
-decreases-loop-k l = 64 - l.k
