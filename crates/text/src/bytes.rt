@@ -329,7 +329,7 @@ pub fn class_of_byte(b: u8) -> ByteClass
 }
 
 /// "Letters, digits or `_`".
-pub fn is_name_byte(b: u8) -> bool
+pub(crate) fn is_name_byte(b: u8) -> bool
     ensures { result ≡ is_name_byte b }
 {
     matches!(class_of_byte(b), Letter | Digit | Underscore)
@@ -337,7 +337,7 @@ pub fn is_name_byte(b: u8) -> bool
 
 /// "Digits".
 #[tactic(auto, using(crate::proofs::laws::ClassLaws::digit_byte))]
-pub fn is_digit(b: u8) -> bool
+pub(crate) fn is_digit(b: u8) -> bool
     ensures { result ≡ is_digit b }
 {
     matches!(class_of_byte(b), Digit)
@@ -345,7 +345,7 @@ pub fn is_digit(b: u8) -> bool
 
 /// What a comment goes on with. Of the blanks, the line feed ends it.
 #[tactic(auto, using(crate::proofs::laws::ClassLaws::no_comment, crate::proofs::laws::ClassLaws::early_in_comment, crate::proofs::laws::ClassLaws::late_in_comment))]
-pub fn is_comment_byte(b: u8) -> bool
+pub(crate) fn is_comment_byte(b: u8) -> bool
     ensures { result ≡ is_comment_byte b }
 {
     match class_of_byte(b) {
