@@ -59,17 +59,12 @@ fn literal_value(classes: &[u8], values: &[u32], i: usize) -> Value
     if classes.len() <= i {
         return Value::Unset;
     }
-    let class = classes[i];
-    if class == TRUE {
-        return Value::Truth(true);
+    match classes[i] {
+        TRUE => Value::Truth(true),
+        FALSE => Value::Truth(false),
+        MINUS => number_value(classes, values, true, i + 1),
+        _ => number_value(classes, values, false, i),
     }
-    if class == FALSE {
-        return Value::Truth(false);
-    }
-    if class == MINUS {
-        return number_value(classes, values, true, i + 1);
-    }
-    number_value(classes, values, false, i)
 }
 
 // ---- initial values

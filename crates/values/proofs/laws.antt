@@ -4,6 +4,7 @@ pub mod WholeLaws
 pub mod DivisionLaws
 pub mod RealLaws
 pub mod ByteLaws
+pub mod OneByte
 pub mod PutLaws
 pub mod DigitLaws
 pub mod StorableLaws

@@ -1,5 +1,6 @@
 // The text form of a value: put into lent memory, and read. What puts it answers the offset after it.
-ghost use Rattle.std.specs.Prelude.{◌≡◌, ◌+◌, ◌≤◌, ◌<◌, length, Some, IfSome};
+ghost use Rattle.std.specs.Prelude.{◌≡◌, [], ◌∷◌, ◌+◌, ◌≤◌, ◌<◌, length, Some, IfSome};
+ghost use Rattle.values.specs.definitions.Bytes.{same_bytes};
 ghost use Rattle.values.specs.inner_contracts.Puts.{Put};
 ghost use Rattle.values.specs.definitions.Forms.{digit_byte, digit_of, decimal_digits, hexadecimal, scanned, decimal, whole_text, printed, magnitude};
 ghost use Rattle.values.specs.definitions.Forms.{unsigned_whole, negative_whole, whole_field, truth_field, finite_real, real_field};
@@ -205,14 +206,22 @@ pub fn read_real(s: &[u8]) -> Field
     finite_real(scan(s, 16).ok_or(Malformed)?)
 }
 
+// Whether a run of bytes is this one byte. Most fields are `-`, and the comparison of slices is a call.
+#[tactic(auto, using(crate::proofs::laws::OneByte::byte_same, crate::proofs::laws::OneByte::byte_not_alone))]
+fn is_byte(s: &[u8], b: u8) -> bool
+    ensures { result ≡ same_bytes s.now (b ∷ []) }
+{
+    matches!(s, [c] if *c == b)
+}
+
 /// Reads a field of an event's column: `-` says nothing, `?` unset.
 pub fn read_event(s: &[u8], kind: Kind) -> Field
     ensures { result ≡ event_field kind s.now }
 {
-    if same_bytes(s, b"-") {
+    if is_byte(s, b'-') {
         return Ok(None);
     }
-    if same_bytes(s, b"?") {
+    if is_byte(s, b'?') {
         return Ok(Some(Value::Unset));
     }
     match kind {
@@ -226,7 +235,7 @@ pub fn read_event(s: &[u8], kind: Kind) -> Field
 pub fn read_presence(s: &[u8]) -> Field
     ensures { result ≡ presence_field s.now }
 {
-    if same_bytes(s, b"-") {
+    if is_byte(s, b'-') {
         return Ok(None);
     }
     read_truth(s)
