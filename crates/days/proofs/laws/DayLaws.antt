@@ -19,7 +19,6 @@ use Rattle.senders.specs.definitions.Sender.{State}
 use Rattle.senders.specs.definitions.Answer.{Answer, refused, accepted}
 use Rattle.senders.specs.definitions.Line.{Accepted, new, resent, line}
 use Rattle.senders.specs.definitions.Turns.{state_after, turns}
-use Rattle.senders.proofs.laws.SoundLine.{accepted_line_sound}
 use Rattle.sheets.specs.definitions.Rows.{PrintedLine}
 use Rattle.days.specs.definitions.DaySheet.{printed_for, printed_lines, line_feeds}
 use Rattle.values.specs.declared.Value.{Value}

@@ -1,6 +1,5 @@
 -- Where a line ends, how many line feeds a text has, and the numbers of new lines.
 use Prim.Native.Nat.{ℕ, zero, suc, ◌+◌, ◌-◌, ◌*◌, ◌/◌, ◌≤◌, ◌<◌}
-use native.Mathlib.Numerals.{add-one}
 use native.Mathlib.Omega.{arith}
 use mathlib.Core.Path.{◌≡◌, refl, sym, ap, ◌∙◌}
 use mathlib.Core.Bool.{Bool, true, false, cond}
@@ -12,10 +11,9 @@ use Rattle.std.proofs.lemmas.List.Sums.{fails_before_first, sum_by-cons}
 use Rattle.std.proofs.lemmas.Option.{none-some}
 use lib.Dec.{eqb, ltb}
 use lib.ListN.{length, get_or, take, drop, length-drop}
-use lib.Seq.{drop-cons, drop-length, take-suc, get_or-drop}
+use lib.Seq.{get_or-drop}
 use borrow.Author.Tests.{lt-ltb, le-ltb, ltb-true, ltb-false, eqb-true}
 use Rattle.cycles.specs.definitions.Readings.{PartOfLine}
-use Rattle.cycles.proofs.laws.ReadingsLaws.{part_append}
 use Rattle.senders.specs.inner_contracts.Judging.{Judged}
 use Rattle.senders.specs.inner_contracts.Judging.{Refused, New, Resent}
 use Rattle.senders.specs.definitions.Sender.{Sender}

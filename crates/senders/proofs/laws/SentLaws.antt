@@ -12,7 +12,7 @@ use Rattle.text.specs.definitions.Syntax.{File}
 use Rattle.checking.specs.inner_contracts.DirectoryReads.{Few}
 use Rattle.checking.specs.inner_contracts.Directory.{Bench}
 use Rattle.cycles.specs.declared.record.Sent.{Sent as Reads}
-use Rattle.std.specs.Prelude.{Option as Read, Some, None}
+use Rattle.std.specs.Prelude.{Option as Read, None}
 use Rattle.std.proofs.lemmas.Option.{none-some, same_Some}
 use Rattle.cycles.specs.definitions.Header.{Column, header}
 use Rattle.cycles.specs.definitions.Record.{Sent, record_of, Input, inputs_in, inputs_of, presence_in, given_in}

@@ -5,7 +5,7 @@ use mathlib.Core.Path.{◌≡◌, sym, ap, ◌∙◌}
 use mathlib.Core.Bool.{Bool, true, false, cond}
 use mathlib.Core.List.{List, ◌∷◌, ◌++◌, append_assoc}
 use mathlib.Core.Option.{none}
-use lib.ListN.{length, set, take, drop, replicate, length-drop, length-replicate, take-append-drop}
+use lib.ListN.{length, set, take, drop, replicate, length-drop, take-append-drop}
 use lib.Seq.{length-take-le, drop_at, drop-drop}
 use Rattle.values.specs.definitions.Bytes.{low_first, overwritten}
 use Rattle.values.specs.definitions.Cells.{cell_bytes, cell_at, with_cell}

@@ -9,7 +9,7 @@ use lib.Dec.{T}
 use lib.Ieee.Bits.{is_true}
 use lib.ListN.{length, get_or, set, drop, get_elem?, replicate, get_or-replicate}
 use lib.Seq.{drop-drop}
-use Rattle.values.specs.definitions.Bytes.{word_at, overwritten}
+use Rattle.values.specs.definitions.Bytes.{word_at}
 use Rattle.values.specs.definitions.Cells.{unpacked, cell_at}
 use Rattle.values.specs.definitions.Forms.{decimal, printed}
 use Rattle.values.specs.inner_contracts.Puts.{Put}
