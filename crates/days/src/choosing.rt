@@ -111,14 +111,15 @@ fn is_real_spot(columns: &Columns<'_>, spot: usize) -> bool
     columns.class_at(at + 3) == REAL
 }
 
-/// Which of the chosen cells are real, in the order of the text.
-pub fn real_cells(columns: &Columns<'_>, chosen: &Chosen<'_>) -> [bool; MOST_CHOSEN]
-    ensures { of_members RealsRead columns.now chosen.now.spots.now (length chosen.now.spots.now) result }
+/// Which of a few cells are real, given by their numbers, the last one first.
+pub fn real_cells(columns: &Columns<'_>, spots: &[u16]) -> [bool; MOST_CHOSEN]
+    requires { length spots.now ≤ Layout.MOST_CHOSEN }
+    ensures { of_members RealsRead columns.now spots.now (length spots.now) result }
 {
     let mut reals = [false; MOST_CHOSEN];
-    let count = chosen.spots.len();
+    let count = spots.len();
     for k in 0..count {
-        reals[k] = is_real_spot(columns, chosen.spots[count - 1 - k] as usize);
+        reals[k] = is_real_spot(columns, spots[count - 1 - k] as usize);
     }
     reals
 }

@@ -122,7 +122,7 @@ fn put_day(
         }
         at = stop + 1;
     }
-    let told = real_cells(&rules.columns, chosen);
+    let told = real_cells(&rules.columns, chosen.spots);
     let reals = told;
     put_closings(sheet, end, &reals[..count], folds)
 }

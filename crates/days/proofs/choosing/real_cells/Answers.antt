@@ -4,7 +4,7 @@ use Rattle.days.proofs.laws.ChosenReads.{back_next, reals_read}
 use Rattle.days.proofs.choosing.real_cells.Goals as goal
 
 pub loop-k-preserved : goal.loop-k-preserved
-loop-k-preserved c = back_next _ _ _ _ c.loop-k.invariant (omega arith) c.args.chosen.now.few c.is_real_spot.ensures
+loop-k-preserved c = back_next _ _ _ _ c.loop-k.invariant (omega arith) c.requires c.is_real_spot.ensures
 
 pub returns : goal.returns
-returns c = reals_read c.args.chosen.now.few (omega arith) c.loop-k.invariant
+returns c = reals_read c.requires (omega arith) c.loop-k.invariant

@@ -5,4 +5,4 @@ use Rattle.days.proofs.laws.ChosenReads.{BackRead}
 use Rattle.days.proofs.choosing.real_cells.Given as goal
 
 abbrev pub invariant-loop-k : goal.invariant-loop-k
-invariant-loop-k l = BackRead (RealRead l.columns.classes.now l.columns.d.now) false l.chosen.spots.now (length l.chosen.spots.now) l.k l.reals
+invariant-loop-k l = BackRead (RealRead l.columns.classes.now l.columns.d.now) false l.spots (length l.spots) l.k l.reals
