@@ -1,9 +1,11 @@
 // Why a call is refused, and the number that a call answers.
 ghost use Rattle.std.specs.Prelude.{◌≡◌, ◌≤◌, ◌<◌, length, MatchResult};
 ghost use Rattle.engine.specs.inner_contracts.Refusals.{code_of, refusal_answer, answer_of};
-ghost use Rattle.engine.specs.declared.refusal.Refusal.TheVariants.{ShortMemory};
+ghost use Rattle.engine.specs.declared.refusal.Refusal.TheVariants.{ShortMemory, Line, Sheet};
 
 use checking::{Fault, coded};
+use days::sheet::SheetError;
+use senders::LineError;
 
 // So many lengths can stand above a number.
 const LENGTHS: usize = 72057594037927936;
@@ -17,8 +19,8 @@ pub enum Refusal {
     Header, // a line of names
     IllFormedSender, // of a row that is asked for
     Text(Fault), // a bench file, for its fault
-    Line(u8), // a line of values, by the number of the state's answer
-    Sheet(u8), // a day sheet, by its number
+    Line(LineError), // a line of values
+    Sheet(SheetError), // a day sheet
 }
 
 impl Refusal {
@@ -33,9 +35,25 @@ impl Refusal {
             Refusal::NoState => 33,
             Refusal::IllFormedSender => 43,
             Refusal::Text(fault) => fault.kind.code(),
-            Refusal::Line(code) => code,
-            Refusal::Sheet(code) => code,
+            Refusal::Line(error) => error.code(),
+            Refusal::Sheet(error) => error.code(),
         }
+    }
+}
+
+impl From<LineError> for Refusal {
+    ghost from_gives = { λ e r. r ≡ Line e };
+
+    fn from(error: LineError) -> Refusal {
+        Refusal::Line(error)
+    }
+}
+
+impl From<SheetError> for Refusal {
+    ghost from_gives = { λ e r. r ≡ Sheet e };
+
+    fn from(error: SheetError) -> Refusal {
+        Refusal::Sheet(error)
     }
 }
 

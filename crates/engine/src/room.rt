@@ -14,6 +14,7 @@ ghost use Rattle.engine.specs.definitions.BenchImage;
 ghost use Rattle.engine.specs.definitions.Calls;
 ghost use Rattle.engine.specs.definitions.Calls.{length_answer, checked, freshened, header_on_bench, row_on_bench, line_on_bench, sheet_on_bench};
 ghost use Rattle.engine.specs.declared.refusal.Refusal.TheVariants as refused;
+ghost use Rattle.engine.specs.inner_contracts.Benches.{RulesLent};
 ghost use Rattle.engine.specs.inner_contracts.LineMemory.{InState, HeaderRead, NoHeader, RecordTaken};
 ghost use Rattle.engine.specs.inner_contracts.Refusals.{answer_of};
 
@@ -174,10 +175,9 @@ impl<'a> ResolvedBench<'a> {
     {
         let ResolvedBench { rules } = self;
         let header = Header::new(columns, count);
-        match advance(rules, &header, values, state) {
-            Err(error) => Err(Refusal::Line(error.code())),
-            Ok(Turn::New { place, .. }) => Ok(show_place(&rules.columns, state, place, row)),
-            Ok(Turn::Retransmission { place }) => Ok(show_place(&rules.columns, state, place, row)),
+        match advance(rules, &header, values, state)? {
+            Turn::New { place, .. } => Ok(show_place(&rules.columns, state, place, row)),
+            Turn::Retransmission { place } => Ok(show_place(&rules.columns, state, place, row)),
         }
     }
 
@@ -200,8 +200,15 @@ impl<'a> ResolvedBench<'a> {
         self.take_record(&columns, count, values, state, row)
     }
 
+    /// The bench's columns, and what its rules' names resolve to.
+    pub fn rules(&self) -> &Rules<'a>
+        ensures { RulesLent self.now result.now }
+    {
+        &self.rules
+    }
+
     /// Is the memory a state of the bench? Else it is refused.
-    fn check_state(&self, state: &[u8]) -> Result<(), Refusal>
+    pub fn check_state(&self, state: &[u8]) -> Result<(), Refusal>
         requires { StateImage.STATE ≤ length state.now }
         ensures { MatchResult result (λ _. InState self.now state.now true) (λ e. (e ≡ refused.NoState) × InState self.now state.now false) }
     {
@@ -225,10 +232,7 @@ impl<'a> ResolvedBench<'a> {
             ≡ sheet_on_bench (fingerprint self.now) (accepted_file self.now) state.now readings.now cells.now sheet.old }
     {
         let ResolvedBench { rules } = self;
-        match put_sheet(rules, state, readings, cells, sheet) {
-            Err(error) => Err(Refusal::Sheet(error.code())),
-            Ok(length) => Ok(length),
-        }
+        Ok(put_sheet(rules, state, readings, cells, sheet)?)
     }
 }
 

@@ -16,7 +16,9 @@ use Rattle.cycles.specs.inner_contracts.HeaderReads as Columns
 use Rattle.cycles.specs.inner_contracts.HeaderReads.{MOST_COLUMNS, HeaderIs}
 use Rattle.cycles.specs.inner_contracts.RowMemory.{InFront}
 use Rattle.cycles.specs.inner_contracts.TotalMachine.{cycle}
+use Rattle.senders.specs.declared.turn.LineError.{LineError}
 use Rattle.senders.specs.inner_contracts.Judging.{Judged}
+use Rattle.senders.specs.inner_contracts.Judging.{code_of as line_code}
 use Rattle.senders.specs.inner_contracts.Judging.{Refused as Refuses, New, Resent}
 use Rattle.senders.specs.definitions.Sender.{Sender, State, kept}
 use Rattle.senders.specs.definitions.Answer.{Answer, refused, accepted, or_refused, if_accepted}
@@ -36,6 +38,7 @@ use Rattle.senders.proofs.laws.SenderLaws.{kept_there, there_self, kept_self}
 use Rattle.senders.proofs.laws.StateLaws.{state_decoded, no_state}
 use Rattle.senders.proofs.laws.StandsLaws.{fingerprint_below, memory_stands}
 use Rattle.std.specs.Prelude.{Result, Ok, Err}
+use Rattle.std.specs.Result.{IsErrAnd}
 use Rattle.engine.specs.declared.refusal.Refusal.{Refusal}
 use Rattle.engine.specs.declared.refusal.Refusal.TheVariants.{NoState, Header, Line}
 use Rattle.engine.specs.definitions.Calls.{length_answer, with_row, AfterLine, line_refused, followed, line_row, line_accepted, line_answered, line_in_state, line_on_bench}
@@ -50,6 +53,11 @@ use Rattle.engine.specs.inner_contracts.LineMemory.{
   LineTaken,
   RecordTaken,
 }
+
+-- an error that `?` carries on
+pub told_err : {T E : Type 0} {r : Result T E} {e : E} → IsErrAnd r (λ x. x ≡ e) → r ≡ Err e
+told_err {r = Ok x} h = elim h [ ]
+told_err {r = Err x} h = ap Err h
 
 -- ---- what a judgement says of a state's answer
 
@@ -178,19 +186,19 @@ module _ {text classes offsets lengths literals d refs scopes : List ℕ} (b : R
 
   module _ {columns : List ℕ} {count : ℕ} {values state w new_state : List ℕ} {j : Judged}
       (advances : Advanced classes literals d refs scopes columns count values state new_state j) where
-    pub record_refused : {code : ℕ} → j ≡ Refuses code → RecordTaken text columns count values state w new_state w (Err (Line code))
+    pub record_refused : {error : LineError} → j ≡ Refuses (line_code error) → RecordTaken text columns count values state w new_state w (Err (Line error))
     unfolding line_in_state line_answered line_refused state_memory
-    record_refused {code} q = record {
+    record_refused {error} q = record {
       short = tt;
       is = on_file (λ f. (s : State) → state_of (fingerprint text) f state ≡ some s → (names : List ℕ) → ColumnsOf f names columns count
-          → LineTaken text f s names values state w new_state w (Err (Line code)))
+          → LineTaken text f s names values state w new_state w (Err (Line error)))
           (λ s is names c.
           let f = its_file in
           let print = fingerprint text in
           let moves = advances.is text offsets lengths b print s is names c.columns_of c.header_is c.numbers_are in
           let i = judged_refused s.senders _ (sym moves.judged ∙ q) in
           let left : new_state ≡ state = moves.left ∙ ap (λ (a : Answer Accepted). state_memory print f s a state) i in
-          line_taken b s names values is i (ap (λ (m : List ℕ). after_line (Err (Line code)) m w) left ∙ sym (line_answers text f s state names values w is i)));
+          line_taken b s names values is i (ap (λ (m : List ℕ). after_line (Err (Line error)) m w) left ∙ sym (line_answers text f s state names values w is i)));
     }
 
     module _ {at r : ℕ} {new_row : List ℕ} (shows : PlaceShown classes d new_state at w new_row r) where

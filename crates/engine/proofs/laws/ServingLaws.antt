@@ -29,8 +29,8 @@ use Rattle.senders.specs.inner_contracts.SenderMemory.{StateTest}
 use Rattle.senders.specs.inner_contracts.RowMemory.{Shown, FreshStatePut}
 use Rattle.senders.proofs.laws.SenderLaws.{name_short}
 use Rattle.senders.proofs.laws.StateLaws.{state_decoded, no_state}
-use Rattle.days.specs.inner_contracts.SheetMemory.{Sheeted}
-use Rattle.days.specs.inner_contracts.SheetMemory.{Refused, Length}
+use Rattle.days.specs.declared.sheet.SheetError.{SheetError}
+use Rattle.days.specs.inner_contracts.SheetMemory.{sheeted_as, code_of as sheet_code}
 use Rattle.days.specs.definitions.DaySheet.{sheet_if_state}
 use Rattle.days.specs.inner_contracts.SheetMemory.{SheetIs, SheetPut}
 use Rattle.std.specs.Prelude.{Result, Ok, Err}
@@ -80,15 +80,17 @@ refused_says text d u e s = subst (Says text u d) e s
 -- ---- a sheet
 
 -- what is put says of the call
-abbrev pub sheeted : Sheeted → Result ℕ Refusal
-sheeted (Refused code) = Err (refused_as.Sheet code)
-sheeted (Length n) = Ok n
+abbrev pub sheeted : Result ℕ SheetError → Result ℕ Refusal
+sheeted (Err error) = Err (refused_as.Sheet error)
+sheeted (Ok n) = Ok n
 
-sheet_said : (a : Answer (List ℕ)) (m : List ℕ) {new : List ℕ} (t : Sheeted) → SheetIs a m new t
+sheet_said : (a : Answer (List ℕ)) (m : List ℕ) {new : List ℕ} (t : Result ℕ SheetError) → SheetIs a m new (sheeted_as t)
     → record { answer = answer_of (sheeted t); sheet = new } ≡ sheet_answered a m
 unfolding sheet_answered with_row
-sheet_said (refused code) m t (e, i) = rw (e, i)
-sheet_said (accepted bytes) m t (e, i) = rw (e, i.is)
+sheet_said (refused code) m (Err error) (e, i) = let z : code ≡ sheet_code error = cc in rw (z, i)
+sheet_said (refused code) m (Ok n) (e, i) = let z : ◌≡◌ {A = ℕ} 0 1 = cc in absurd (omega arith)
+sheet_said (accepted bytes) m (Ok n) (e, i) = let z : n ≡ length bytes = cc in rw (z, i.is)
+sheet_said (accepted bytes) m (Err error) (e, i) = let z : ◌≡◌ {A = ℕ} 0 1 = cc in absurd (omega arith)
 
 -- ---- an accepted text
 
@@ -152,8 +154,8 @@ module _ {text classes offsets lengths literals d refs scopes : List ℕ} (stand
         rw (accepted_is c, o, n, length_told shows.short, i.is, i.count)
 
 module _ {text classes offsets lengths literals d refs scopes : List ℕ} (b : ResolvedBench text classes offsets lengths literals d refs scopes) where
-  pub sheet_is : {state readings cells out new : List ℕ} {t k : Sheeted}
-      → SheetPut text classes offsets lengths literals d refs scopes state readings cells out new t → t ≡ k
+  pub sheet_is : {state readings cells out new : List ℕ} {t k : Result ℕ SheetError}
+      → SheetPut text classes offsets lengths literals d refs scopes state readings cells out new (sheeted_as t) → t ≡ k
       → record { answer = answer_of (sheeted k); sheet = new } ≡ sheet_on_bench (fingerprint text) (accepted_file text) state readings cells out
   unfolding sheet_on_bench
   sheet_is {state} {readings} {cells} {out} {new} {t} puts e =

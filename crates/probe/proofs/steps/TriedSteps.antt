@@ -1,21 +1,17 @@
 -- The set of the rules that a line tries: what the parts of the code say of it.
 use Prim.Native.Nat.{ℕ, ◌+◌, ◌-◌, ◌*◌, ◌^◌, ◌≤◌, ◌<◌}
 use native.Mathlib.Omega.{arith}
-use mathlib.Core.Path.{◌≡◌, ap, ◌∙◌, subst}
+use mathlib.Core.Path.{◌≡◌, sym, ap, ◌∙◌, subst}
 use mathlib.Core.Bool.{Bool, true, false, not}
 use mathlib.Core.List.{List, ◌++◌}
+use mathlib.Core.Option.{some}
 use lib.ListN.{length, get_or, take, drop, length-drop}
 use lib.Seq.{drop-drop}
 use borrow.Author.Tests.{lt-ltb, le-ltb}
 use Rattle.values.specs.definitions.Bytes.{low_first, overwritten}
 use Rattle.values.proofs.laws.ByteLaws.{overwritten_parts}
 use Rattle.text.specs.definitions.Syntax.{Rule, File}
-use Rattle.text.specs.inner_contracts.TokenTable.{TokenColumns}
-use Rattle.std.specs.Prelude.{Ok, Err}
-use Rattle.checking.specs.declared.faults.Fault.{Fault}
-use Rattle.checking.specs.declared.check.CheckError.TheVariants.{Refused}
-use Rattle.checking.specs.definitions.Verdict.{file_of, accepted_file}
-use Rattle.checking.specs.inner_contracts.CheckedBench.{Checked, Checks}
+use Rattle.checking.specs.definitions.Verdict.{verdict, refused_at, file_of, accepted_file}
 use Rattle.checking.proofs.laws.VerdictLaws.{accepted_is_file}
 use Rattle.cycles.specs.definitions.Quiescence.{is_quiescent}
 use Rattle.cycles.specs.definitions.Planes.{entity_count, decode_stores}
@@ -23,18 +19,18 @@ use Rattle.cycles.specs.inner_contracts.Evaluation.{Stored}
 use Rattle.cycles.specs.inner_contracts.AllRules.{RulesGiven, RulesTried}
 use Rattle.cycles.proofs.laws.PlaneTestLaws.{behind, behind_all}
 use Rattle.cycles.proofs.laws.StoredLaws.{decoded_stored}
-use Rattle.reads.specs.inner_contracts.RulesResolved.{RulesResolved}
+use Rattle.cycles.specs.declared.rules.Rules.{Rules}
 use Rattle.senders.specs.definitions.Fingerprint.{fingerprint}
-use Rattle.senders.specs.definitions.StateImage.{STATE, decode}
-use Rattle.senders.specs.inner_contracts.SenderMemory.{StateTest}
+use Rattle.senders.specs.definitions.StateImage.{STATE, decode, is_state}
 use Rattle.senders.specs.inner_contracts.Advancing.{ResolvedBench}
 use Rattle.senders.proofs.laws.StateLaws.{state_decoded, no_state}
 use Rattle.engine.specs.definitions.BenchImage.{BENCH, text_in}
 use Rattle.engine.specs.definitions.Calls.{fingerprint_of}
-use Rattle.engine.proofs.laws.LineLaws.{state_told}
-use Rattle.engine.proofs.laws.ServingLaws.{text_accepted, accepted_says, refused_says}
+use Rattle.engine.specs.inner_contracts.Benches.{RulesLent}
+use Rattle.engine.specs.inner_contracts.LineMemory.{InState}
+use Rattle.engine.proofs.laws.ServingLaws.{text_accepted}
 use Rattle.probe.specs.definitions.Tried.{seen_before, tried_set, tried_written, tried_between, tried_on_bench, tried_call}
-use Rattle.probe.specs.inner_contracts.TriedMemory.{TriedBetween, tried_in_text, PutTried}
+use Rattle.probe.specs.inner_contracts.TriedMemory.{TriedBetween, tried_in_text}
 use Rattle.probe.proofs.laws.BitsLaws.{bits_told}
 
 -- ---- the set
@@ -87,57 +83,49 @@ module _ {d scopes before after : List ℕ} {n r : ℕ} (e : n ≡ get_or d 1 0)
 
 -- ---- an accepted text
 
-module _ {text classes offsets lengths d before after tried : List ℕ} {print : ℕ} (p : print ≡ fingerprint text) {is : Bool}
-    (tests : StateTest print classes d before is) where
-  pub none_before : is ≡ false → PutTried text classes offsets lengths d before after tried tried 33
+module _ {text before : List ℕ} where
+  pub none_before : InState text before false → (after tried : List ℕ) → record { answer = 33; tried = tried } ≡ tried_in_text text before after tried
   unfolding tried_on_bench tried_between
-  none_before q = record {
-    is = λ literals c. rw (accepted_is_file text c.accepts, no_state (fingerprint text) c.bench.file before (state_told p tests q c));
-  }
+  none_before i after tried = rw (i.accepted, no_state (fingerprint text) i.file before i.told)
 
-  module _ (q : is ≡ true) {is_after : Bool} (tests_after : StateTest print classes d after is_after) where
-    pub none_after : is_after ≡ false → PutTried text classes offsets lengths d before after tried tried 33
+  module _ (i : InState text before true) {after : List ℕ} where
+    same_file : {is : Bool} (j : InState text after is) → j.file ≡ i.file
+    same_file j = let z = sym j.accepted ∙ i.accepted in cc
+
+    told_after : {is : Bool} (j : InState text after is) → is_state (fingerprint text) i.file after ≡ is
+    told_after {is} j = subst (λ (f : File). is_state (fingerprint text) f after ≡ is) (same_file j) j.told
+
+    pub none_after : InState text after false → (tried : List ℕ) → record { answer = 33; tried = tried } ≡ tried_in_text text before after tried
     unfolding tried_on_bench tried_between
-    none_after n = record {
-      is = λ literals c.
-          rw (
-            accepted_is_file text c.accepts,
-            state_decoded (fingerprint text) c.bench.file before (state_told p tests q c),
-            no_state (fingerprint text) c.bench.file after (state_told p tests_after n c),
-          );
-    }
+    none_after j tried =
+        rw (i.accepted, state_decoded (fingerprint text) i.file before i.told, no_state (fingerprint text) i.file after (told_after j))
 
-    pub set_put : is_after ≡ true → {refs scopes new_refs new_scopes : List ℕ}
-        → RulesResolved text classes offsets lengths d refs scopes new_refs new_scopes → {set : ℕ} → TriedBetween d new_scopes before after set
-        → 8 ≤ length tried → {new : List ℕ} → new ≡ overwritten tried 0 (low_first 8 set)
-        → PutTried text classes offsets lengths d before after tried new 0
+    pub set_put : InState text after true → {rules : Rules} → RulesLent text rules → {set : ℕ}
+        → TriedBetween rules.columns.d.now rules.scopes.now before after set
+        → (tried : List ℕ) {new : List ℕ} → 8 ≤ length tried → new ≡ overwritten tried 0 (low_first 8 set)
+        → record { answer = 0; tried = new } ≡ tried_in_text text before after tried
     unfolding tried_on_bench tried_between tried_written
-    set_put n {new_refs} {new_scopes} resolves {set} found room {new} e = record {
-      is = λ literals c.
-          let b : ResolvedBench text classes offsets lengths literals d new_refs new_scopes =
-          record { checked = c; references = resolves.references; scopes_are = resolves.scopes_are; reads_are = resolves.reads_are } in
-          let s = found.is text classes offsets lengths literals new_refs b in
-          rw (
-            accepted_is_file text c.accepts,
-            state_decoded (fingerprint text) c.bench.file before (state_told p tests q c),
-            state_decoded (fingerprint text) c.bench.file after (state_told p tests_after n c),
-          )
-          (ap (λ (m : List ℕ). record { answer = 0; tried = m })
-          (e ∙ overwritten_parts tried 0 (low_first 8 set) room ∙ ap (λ (k : ℕ). low_first 8 k ++ drop 8 tried) s));
-    }
+    set_put j {rules} lent {set} found tried {new} room e =
+        let b = lent.resolved in
+        let is_file : accepted_file text ≡ some b.checked.bench.file =
+        subst (λ (t : List ℕ). accepted_file t ≡ some b.checked.bench.file) lent.text_is (accepted_is_file _ b.checked.accepts) in
+        let same : b.checked.bench.file ≡ i.file = let z = sym is_file ∙ i.accepted in cc in
+        let s = subst (λ (f : File). set ≡ tried_set f (seen_before (decode f after)) (seen_before (decode f before))) same
+        (found.is _ _ _ _ _ _ b) in
+        rw (
+          i.accepted,
+          state_decoded (fingerprint text) i.file before i.told,
+          state_decoded (fingerprint text) i.file after (told_after j),
+        )
+        (ap (λ (m : List ℕ). record { answer = 0; tried = m })
+        (e ∙ overwritten_parts tried 0 (low_first 8 set) room ∙ ap (λ (k : ℕ). low_first 8 k ++ drop 8 tried) s))
 
--- ---- a text, by the check's answer
+-- ---- a text that is refused
 
-module _ {text d e : List ℕ} {t u : TokenColumns} {r : Checked} (checks : Checks text t u d e r) where
-  pub text_refused : {f : Fault} → r ≡ Err (Refused f) → (before after : List ℕ) {tried : List ℕ}
-      → record { answer = 32; tried = tried } ≡ tried_in_text text before after tried
-  unfolding tried_on_bench accepted_file file_of
-  text_refused q before after = rw (refused_says text e u q checks.says)
-
-  pub text_taken : {n : ℕ} → r ≡ Ok n → {before after tried new : List ℕ} {a : ℕ}
-      → PutTried text (take (n - 0) u.classes) u.offsets u.lengths e before after tried new a
-      → record { answer = a; tried = new } ≡ tried_in_text text before after tried
-  text_taken {n} q s = let z : n - 0 ≡ n = omega arith in s.is u.values (rw z (accepted_says q checks.says).stands)
+pub text_refused : (text : List ℕ) {code at : ℕ} → verdict text ≡ refused_at code at → (before after tried : List ℕ)
+    → record { answer = 32; tried = tried } ≡ tried_in_text text before after tried
+unfolding tried_on_bench accepted_file file_of
+text_refused text v before after tried = rw v
 
 -- ---- the lent memory
 

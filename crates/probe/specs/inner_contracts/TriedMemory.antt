@@ -1,7 +1,6 @@
 -- What code promises that finds the rules which a line tries, of a bench in columns and two state images.
 use Rattle.std.specs.Prelude.{ℕ, ◌≡◌, List}
 use Rattle.checking.specs.definitions.Verdict.{accepted_file}
-use Rattle.checking.specs.inner_contracts.CheckedBench.{CheckedBench}
 use Rattle.senders.specs.definitions.Fingerprint.{fingerprint}
 use Rattle.senders.specs.definitions.StateImage.{decode}
 use Rattle.senders.specs.inner_contracts.Advancing.{ResolvedBench}
@@ -15,8 +14,3 @@ pub record TriedBetween (d scopes before after : List ℕ) (r : ℕ) : Type 0 wh
 -- what is answered for a text
 abbrev pub tried_in_text : (text before after tried : List ℕ) → AfterTried
 tried_in_text text before after tried = tried_on_bench (fingerprint text) (accepted_file text) before after tried
-
--- for an accepted text, for which the columns and the directory stand
-pub record PutTried (text classes offsets lengths d before after tried new_tried : List ℕ) (r : ℕ) : Type 0 where
-  pub is : (literals : List ℕ) → CheckedBench text classes offsets lengths literals d
-      → record { answer = r; tried = new_tried } ≡ tried_in_text text before after tried

@@ -1,10 +1,10 @@
-use Rattle.std.proofs.Common.{ap}
-use Rattle.days.specs.inner_contracts.SheetMemory.{sheeted_as}
+use Rattle.engine.proofs.laws.LineLaws.{told_err}
 use Rattle.engine.proofs.laws.ServingLaws.{sheet_is}
 use Rattle.engine.proofs.room.ResolvedBench.put_sheet.Goals as goal
 
-pub returns-in-Err : goal.returns-in-Err
-returns-in-Err c = rw (← c.self.view_is, c.code.ensures) (sheet_is c.self.invariant c.put_sheet.ensures (ap sheeted_as c.in-Err.is))
+pub returns-in_err-put_sheet : goal.returns-in_err-put_sheet
+returns-in_err-put_sheet c =
+    rw (← c.self.view_is, told_err c.from_residual.ensures.1) (sheet_is c.self.invariant c.put_sheet.ensures c.in_err-put_sheet.was)
 
-pub returns-in-Ok : goal.returns-in-Ok
-returns-in-Ok c = rw (← c.self.view_is) (sheet_is c.self.invariant c.put_sheet.ensures (ap sheeted_as c.in-Ok.is))
+pub returns : goal.returns
+returns c = rw (← c.self.view_is) (sheet_is c.self.invariant c.put_sheet.ensures c.in_ok-put_sheet.was)
