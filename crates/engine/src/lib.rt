@@ -7,6 +7,7 @@
 #![tactic(auto)]
 
 pub mod bench; // the bench image
+pub mod line; // a line on a bench in columns
 pub mod refusal; // why a call is refused
 pub mod room; // an accepted text in columns
 pub mod serve; // a call on a bench's text

@@ -19,16 +19,17 @@ ghost use Rattle.engine.specs.inner_contracts.LineMemory.{InState, HeaderRead, N
 ghost use Rattle.engine.specs.inner_contracts.Refusals.{answer_of};
 
 use crate::bench::put_bench;
+use crate::line::{take_line, take_record};
 use crate::refusal::Refusal;
 use checking::check::{CheckError, check};
 use checking::layout::DIRECTORY;
 use checking::{Columns, Fault};
 use cycles::header::{Header, read_header};
-use cycles::layout::{MOST_COLUMNS, SCOPES_BYTES};
+use cycles::layout::SCOPES_BYTES;
 use cycles::{Rules, put_row_header};
 use days::sheet::put_sheet;
 use senders::fingerprint::fingerprint;
-use senders::{Turn, advance, is_sender, is_state, put_fresh, show, show_place};
+use senders::{is_sender, is_state, put_fresh, show};
 use std::marker::Model;
 
 /// An accepted text in columns, a row for each token, with room to resolve its rules' names. Clauses see the text.
@@ -173,16 +174,16 @@ impl<'a> ResolvedBench<'a> {
         requires room { (StateImage.STATE ≤ length state.old) × (Calls.ROW ≤ length row.old) }
         ensures { RecordTaken self.now columns.now count values.now state.old row.old state.new row.new result }
     {
-        let ResolvedBench { rules } = self;
-        let header = Header::new(columns, count);
-        match advance(rules, &header, values, state)? {
-            Turn::New { place, .. } => Ok(show_place(&rules.columns, state, place, row)),
-            Turn::Retransmission { place } => Ok(show_place(&rules.columns, state, place, row)),
-        }
+        take_record(
+            &self.rules,
+            &Header::new(columns, count),
+            values,
+            state,
+            row,
+        )
     }
 
     /// Takes a header and a record: the length of the sender's row, or a refusal.
-    #[tactic(auto, using(crate::proofs::laws::LineLaws::line_no_state, crate::proofs::laws::LineLaws::line_no_header))]
     pub fn take_line(
         &self,
         names: &[u8],
@@ -194,10 +195,7 @@ impl<'a> ResolvedBench<'a> {
         ensures { record { answer = answer_of result; state = state.new; row = row.new }
             ≡ line_on_bench (fingerprint self.now) (accepted_file self.now) state.old names.now values.now row.old }
     {
-        self.check_state(state)?;
-        let mut columns = [0u16; MOST_COLUMNS];
-        let count = self.read_header(names, &mut columns)?;
-        self.take_record(&columns, count, values, state, row)
+        take_line(&self.rules, names, values, state, row)
     }
 
     /// The bench's columns, and what its rules' names resolve to.

@@ -5,7 +5,7 @@ use mathlib.Core.Path.{◌≡◌, refl, sym, ap, ◌∙◌, subst}
 use mathlib.Core.Bool.{Bool, true, false}
 use mathlib.Core.List.{List}
 use mathlib.Core.Option.{Option, none, some}
-use lib.ListN.{take, get_elem?}
+use lib.ListN.{length, take, get_elem?}
 use lib.Seq.{take-append_seam}
 use Rattle.text.specs.definitions.Syntax.{File}
 use Rattle.checking.specs.definitions.Verdict.{accepted_file}
@@ -13,7 +13,7 @@ use Rattle.checking.specs.inner_contracts.CheckedBench.{CheckedBench}
 use Rattle.checking.proofs.laws.VerdictLaws.{accepted_is_file}
 use Rattle.cycles.specs.definitions.Header.{Column, header}
 use Rattle.cycles.specs.inner_contracts.HeaderReads as Columns
-use Rattle.cycles.specs.inner_contracts.HeaderReads.{MOST_COLUMNS, HeaderIs}
+use Rattle.cycles.specs.inner_contracts.HeaderReads.{MOST_COLUMNS, HeaderIs, backwards}
 use Rattle.cycles.specs.inner_contracts.RowMemory.{InFront}
 use Rattle.cycles.specs.inner_contracts.TotalMachine.{cycle}
 use Rattle.senders.specs.declared.turn.LineError.{LineError}
@@ -234,6 +234,19 @@ module _ {text classes offsets lengths literals d refs scopes : List ℕ} (b : R
 
       pub record_new : {n : ℕ} → j ≡ New at n → RecordTaken text columns count values state w new_state new_row (Ok r)
       record_new q = record_row (λ xs a e. judged_new xs a (e ∙ q))
+
+-- .. under a header that has the first of the columns that are lent
+pub record_of_header : {text taken columns values state w new_state new_row : List ℕ} {count : ℕ} {r : Result ℕ Refusal}
+    → length taken ≡ count → backwards count taken ≡ backwards count columns
+    → RecordTaken text taken (length taken) values state w new_state new_row r → RecordTaken text columns count values state w new_state new_row r
+record_of_header {taken = taken} size same t = record {
+  short = t.short;
+  is = λ f a s e names c. t.is f a s e names (record {
+    columns_of = c.columns_of;
+    header_is = c.header_is;
+    numbers_are = c.numbers_are ∙ sym same ∙ ap (λ (k : ℕ). backwards k taken) (sym size);
+  });
+}
 
 -- ---- a header and a record
 

@@ -12,8 +12,20 @@ use Rattle.senders.specs.definitions.Turns.{state_after}
 use Rattle.senders.specs.definitions.Fingerprint.{fingerprint}
 use Rattle.senders.specs.definitions.StateImage.{is_state, state_of}
 use Rattle.engine.specs.declared.refusal.Refusal.{Refusal}
-use Rattle.engine.specs.inner_contracts.Refusals.{code_of, answer_of}
+use Rattle.cycles.specs.declared.rules.Rules.{Rules}
+use Rattle.cycles.specs.inner_contracts.Bundles.{of_bench}
+use Rattle.senders.specs.inner_contracts.Advancing.{ResolvedBench}
+use Rattle.engine.specs.inner_contracts.Refusals.{code_of, refusal_answer, answer_of}
 use Rattle.engine.specs.definitions.Calls.{ROW, AfterLine, line_row, line_in_state}
+
+-- a row has no more bytes than the memory for it, and above the number of a line's refusal nothing stands
+abbrev pub ShortRow : Result ℕ Refusal → Type 0
+ShortRow (Err refusal) = refusal_answer refusal ≡ code_of refusal
+ShortRow (Ok n) = n ≤ ROW
+
+-- what holds of the text, where the rules that are lent are those of an accepted one with its names resolved
+abbrev pub Standing : Rules → (List ℕ → Type 0) → Type 0
+Standing r p = of_bench ResolvedBench r → p r.columns.text.now
 
 abbrev pub after_line : Result ℕ Refusal → List ℕ → List ℕ → AfterLine
 after_line r state row = record { answer = answer_of r; state = state; row = row }
