@@ -98,7 +98,7 @@ fn judged(
     let priorities = priority_fault(classes, offsets, values);
     let counts = count_fault(classes, offsets);
     build(classes, d);
-    link_entities(text, classes, offsets, lengths, d);
+    link_entities(text, offsets, lengths, d);
     let columns = Columns {
         text,
         classes,

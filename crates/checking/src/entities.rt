@@ -23,7 +23,7 @@ use text::walks::class_at;
 
 // Writes the interface of each entity into the directory, by its number; NO_INTERFACE if the file has none of that name.
 #[tactic(auto, using(crate::proofs::steps::LinkLaws::not_linked, crate::proofs::steps::LinkLaws::linking_none))]
-pub fn link_entities(text: &[u8], classes: &[u8], offsets: &[u16], lengths: &[u8], d: &mut [u16])
+pub fn link_entities(text: &[u8], offsets: &[u16], lengths: &[u8], d: &mut [u16])
     ensures { EntitiesLinked text.now offsets.now lengths.now d.old d.new }
 {
     if d.len() < DIRECTORY {
@@ -31,9 +31,10 @@ pub fn link_entities(text: &[u8], classes: &[u8], offsets: &[u16], lengths: &[u8
     }
     let count = row(d, ENTITY_COUNT_ROW).min(MOST_ENTITIES);
     for e in 0..count {
+        // names are found without the tokens' classes
         let columns = Columns {
             text,
-            classes,
+            classes: &[],
             offsets,
             lengths,
             d,

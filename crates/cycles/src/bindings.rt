@@ -117,7 +117,8 @@ fn bind(worlds: &Worlds<'_, '_>, trial: &Trial<'_>, level: u8, area: &mut [u8])
     let mut marks = [false; MOST_ENTITIES];
     mark_candidates(rules, &stores.current, face, range, &mut marks);
     let candidates = Candidates { level, first, end };
-    narrow(worlds, trial.guards, candidates, &mut marks);
+    let guards = trial.guards.as_slice();
+    narrow(worlds, guards, candidates, &mut marks);
     for e in first..end {
         let with = Worlds {
             rules: &*rules,

@@ -142,12 +142,12 @@ fn narrow_by(worlds: &Worlds<'_, '_>, candidates: Candidates, guard: &Guard, mar
 }
 
 /// Takes the marks of those candidates with which a guard of the next level fails.
-pub fn narrow(worlds: &Worlds<'_, '_>, guards: &Guards, candidates: Candidates, marks: &mut [bool])
+pub fn narrow(worlds: &Worlds<'_, '_>, guards: &[Guard], candidates: Candidates, marks: &mut [bool])
     requires { candidates.end ≤ length marks.old }
-    ensures { Narrows worlds.now.rules.now worlds.now.stores.now.current worlds.now.stores.now.previous worlds.now.b guards.now.items candidates.level candidates.first candidates.end marks.old
+    ensures { Narrows worlds.now.rules.now worlds.now.stores.now.current worlds.now.stores.now.previous worlds.now.b guards.now candidates.level candidates.first candidates.end marks.old
         marks.new }
 {
-    for guard in guards.as_slice() {
+    for guard in guards {
         if guard.level as usize == candidates.level as usize + 1 {
             narrow_by(worlds, candidates, guard, marks);
         }

@@ -33,7 +33,7 @@ pub struct Chosen<'a> {
 impl<'a> Chosen<'a> {
     /// The list that is read into the first `count` of those numbers.
     #[tactic(auto, using(cycles::proofs::laws::ColumnLaws::backwards_taken))]
-    fn new(spots: &'a [u16], count: usize) -> Self
+    pub fn new(spots: &'a [u16], count: usize) -> Self
         requires { (count ≤ Layout.MOST_CHOSEN) × (count ≤ length spots.now) × ((k : ℕ) → k < count → get_or spots.now k 0 < Choosing.NO_SPOT) }
         ensures size { length result.spots.now ≡ count }
         ensures same { backwards count result.spots.now ≡ backwards count spots.now }
@@ -111,7 +111,7 @@ fn is_real_spot(columns: &Columns<'_>, spot: usize) -> bool
     columns.class_at(at + 3) == REAL
 }
 
-/// Which of a few cells are real, given by their numbers, the last one first.
+/// Which of a few cells are real, in the order of the text; the cells by their numbers, the last one first.
 pub fn real_cells(columns: &Columns<'_>, spots: &[u16]) -> [bool; MOST_CHOSEN]
     requires { length spots.now ≤ Layout.MOST_CHOSEN }
     ensures { of_members RealsRead columns.now spots.now (length spots.now) result }

@@ -261,7 +261,7 @@ impl<const N: usize> Room<N> {
 
     /// The bench that a text is, or why it is none.
     pub fn read<'a>(&'a mut self, text: &'a [u8]) -> Result<AcceptedBench<'a>, Fault>
-        requires { (length text.now ≤ N) ⊎ (Verdict.MOST_BYTES ≤ N) }
+        requires { (length text.now ≤ N) ⊎ ((Verdict.MOST_BYTES ≤ N) ⊎ (Verdict.MOST_BYTES < length text.now)) }
         ensures { MatchResult result (λ b. b ≡ text.now) (λ fault. verdict text.now ≡ refused_at (fault_code fault.kind) fault.at) }
     {
         let Room {

@@ -4,7 +4,7 @@
 
 pub mod rows; // what a line prints
 
-ghost use Rattle.std.specs.Prelude.{◌≡◌, ◌≤◌, ◌⊎◌, length, eqb, MatchOption, MatchResult};
+ghost use Rattle.std.specs.Prelude.{◌≡◌, ◌≤◌, ◌<◌, ◌⊎◌, length, eqb, MatchOption, MatchResult};
 ghost use Rattle.std.specs.List.{position};
 ghost use Rattle.checking.specs.definitions.Verdict;
 ghost use Rattle.cycles.specs.definitions.Readings.{PartOfLine};
@@ -71,7 +71,7 @@ pub fn start<'a, const N: usize>(
     text: &'a [u8],
     out: &mut [u8],
 ) -> Result<Replay<'a>, usize>
-    requires text { (length text.now ≤ N) ⊎ (Verdict.MOST_BYTES ≤ N) }
+    requires text { (length text.now ≤ N) ⊎ ((Verdict.MOST_BYTES ≤ N) ⊎ (Verdict.MOST_BYTES < length text.now)) }
     requires room { Feeding.ROOM ≤ length out.old }
     ensures { MatchResult result (Started text.now) (BenchRefused text.now out.new) }
 {

@@ -1,5 +1,5 @@
 -- A call on a text: what the parts that serve it say of it.
-use Prim.Native.Nat.{ℕ, ◌-◌, ◌*◌, ◌≤◌}
+use Prim.Native.Nat.{ℕ, ◌-◌, ◌*◌, ◌≤◌, ◌<◌}
 use native.Mathlib.Omega.{arith}
 use mathlib.Core.Path.{◌≡◌, refl, sym, ap, ◌∙◌, subst}
 use mathlib.Core.Bool.{Bool, true, false, ◌||◌}
@@ -7,7 +7,7 @@ use mathlib.Core.List.{List, []}
 use mathlib.Core.Option.{none, some}
 use lib.Dec.{leb, ltb}
 use lib.ListN.{length, take, drop, length-take}
-use borrow.Author.Tests.{le-leb, le-ltb}
+use borrow.Author.Tests.{le-leb, le-ltb, lt-ltb}
 use Rattle.values.specs.definitions.Bytes.{word_at}
 use Rattle.text.specs.inner_contracts.TokenTable.{TokenColumns, lacks_rows}
 use Rattle.checking.specs.declared.faults.Fault.{Fault}
@@ -254,8 +254,14 @@ enough_room text t d a b c e f =
     )
     (or_true (ltb MOST_BYTES (length text)))
 
--- room for a text of n bytes, or for any text
-pub room_enough : (text : List ℕ) (t : TokenColumns) (d : List ℕ) {n : ℕ} → (length text ≤ n) ⊎ (MOST_BYTES ≤ n) → n ≤ length t.classes
+-- a text that is too long is told apart before any column is
+room_if_long : (text : List ℕ) (t : TokenColumns) (d : List ℕ) → MOST_BYTES < length text → 355 ≤ length d → has_room text t d ≡ true
+unfolding has_room
+room_if_long text t d h f = rw (le-leb 355 (length d) f, lt-ltb MOST_BYTES (length text) h) refl
+
+-- room for a text of n bytes, or for any text, or for one that is too long whatever the room
+pub room_enough : (text : List ℕ) (t : TokenColumns) (d : List ℕ) {n : ℕ} → (length text ≤ n) ⊎ ((MOST_BYTES ≤ n) ⊎ (MOST_BYTES < length text)) → n ≤ length t.classes
     → n ≤ length t.offsets → n ≤ length t.lengths → n ≤ length t.values → 355 ≤ length d → has_room text t d ≡ true
 room_enough text t d (inl h) a b c e f = enough_room text t d (omega arith) (omega arith) (omega arith) (omega arith) f
-room_enough text t d (inr h) a b c e f = room_for_all text t d (omega arith) (omega arith) (omega arith) (omega arith) f
+room_enough text t d (inr (inl h)) a b c e f = room_for_all text t d (omega arith) (omega arith) (omega arith) (omega arith) f
+room_enough text t d (inr (inr h)) a b c e f = room_if_long text t d h f

@@ -19,7 +19,7 @@ loop-e-init t c = turns_begin (c.requires.ranges c.scope-face.result _ c.if-face
 pub loop-e-preserved : goal.loop-e-preserved
 loop-e-preserved t c =
     let few = incomplete_few c.args.worlds.now.rules.now.scopes.now c.args.trial.now.k c.args.level c.is_complete.ensures c.if-is_complete.false in
-    let marked = c.narrow.ensures.narrows c.args.worlds.now.rules.now.columns.d.now c.args.worlds.now.rules.now.scopes.now c.args.trial.now.k c.scope-face.result c.requires.guards_found (marks_mean c.mark_candidates.ensures) in
+    let marked = c.narrow.ensures.narrows c.args.worlds.now.rules.now.columns.d.now c.args.worlds.now.rules.now.scopes.now c.args.trial.now.k c.scope-face.result (rw c.as_slice-guards.ensures.value c.requires.guards_found) (marks_mean c.mark_candidates.ensures) in
     let ranged = c.requires.ranges c.scope-face.result _ c.if-face-ge-MOST_INTERFACES.false in
     elim c.if-marks-e.branch [
       | then-marks-e w ↦

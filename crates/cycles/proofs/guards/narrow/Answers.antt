@@ -1,4 +1,5 @@
 -- What is left of `narrow`.
+use Rattle.std.proofs.Common.{refl}
 use Rattle.cycles.proofs.steps.GuardLaws.{narrowed}
 use Rattle.cycles.proofs.guards.narrow.Goals as goal
 use Rattle.cycles.proofs.guards.narrow.Goals.{then-guard-candidates, else-guard-candidates}
@@ -7,6 +8,6 @@ pub loop-guard-preserved : goal.loop-guard-preserved
 loop-guard-preserved c = elim c.if-guard-candidates.branch [
   | then-guard-candidates w ↦
       rw w.marks-is
-      (narrowed c.as_slice-guard-items.ensures.value _ c.loop-guard-test.true w.if-guard-candidates.true c.loop-guard.invariant w.narrow_by.ensures)
+      (narrowed refl _ c.loop-guard-test.true w.if-guard-candidates.true c.loop-guard.invariant w.narrow_by.ensures)
   | else-guard-candidates w ↦ rw w.marks-is c.loop-guard.invariant
 ]
