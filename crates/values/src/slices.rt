@@ -20,14 +20,15 @@ pub fn put_word(s: &mut [u8], at: usize, w: u64)
 }
 
 /// Puts `t` over what stands from `at` on, and gives the offset after it.
-#[tactic(auto, using(crate::proofs::laws::PutLaws::put_part))]
+// Byte by byte: `copy_from_slice` calls `memmove`, and the archive for C needs `memcpy` and `memset` alone.
 pub fn put_bytes(s: &mut [u8], at: usize, t: &[u8]) -> usize
     requires { at + length t.now ≤ length s.old }
     ensures { Put t.now s.old at s.new result }
 {
-    let end = at + t.len();
-    s[at..end].copy_from_slice(t);
-    end
+    for i in 0..t.len() {
+        s[at + i] = t[i];
+    }
+    at + t.len()
 }
 
 /// Whether two runs of bytes are one.

@@ -13,12 +13,7 @@ use Rattle.values.proofs.laws.ByteLaws.{part_overwritten, overwritten_append, le
 pub put_none : (l : List ℕ) (at : ℕ) → Put [] l at l at
 put_none l at = record { end = sym (add-zero at); is = refl }
 
--- a part of a slice written anew, as `copy_from_slice` leaves it
-pub put_part : (l : List ℕ) (at : ℕ) (bs new : List ℕ) (k : ℕ) → at + length bs ≤ length l → k ≡ length bs → new ≡ bs
-    → Put bs l at (put_mid at k l new) (at + length bs)
-put_part l at bs new k h e f = record { end = refl; is = part_overwritten l at bs new k h e f }
-
--- and as `fill` leaves it
+-- a part of a slice filled with one byte, as `fill` leaves it
 pub put_filled : (l : List ℕ) (at n b : ℕ) (new : List ℕ) (k : ℕ) → at + n ≤ length l → k ≡ n → new ≡ replicate k b
     → Put (replicate n b) l at (put_mid at k l new) (at + n)
 put_filled l at n b new k h e f = record {
