@@ -110,11 +110,20 @@ impl<'a> Output<'a> {
         }
     }
 
-    // Feeds the file of that name, which is closed then, and what a last line prints. A file that cannot be opened gives no chunk.
+    // Feeds the file of that name, which is closed then. A file that cannot be opened gives no chunk.
+    #[tactic(auto, using(crate::proofs::steps::PassingLaws::file_none))]
+    fn pass_path(&mut self, replay: &mut Replay<'_>, path: &[u8])
+        ensures { FilePassed replay.old replay.new }
+    {
+        let Some(mut file) = open_file(self.rt, path) else {
+            return;
+        };
+        self.pass_file(replay, &mut file);
+    }
+
+    // Feeds the readings, and what a last line prints that no line feed ends.
     fn pass_readings(&mut self, replay: &mut Replay<'_>, path: &[u8]) {
-        if let Some(mut file) = open_file(self.rt, path) {
-            self.pass_file(replay, &mut file);
-        }
+        self.pass_path(replay, path);
         let used = replay.finish(&mut self.buffer);
         self.put(used);
     }
