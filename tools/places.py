@@ -385,4 +385,5 @@ def main():
 
 
 ORDER = [line.split(':')[0].split()[0] for line in open('crates.txt', encoding='utf-8') if line.strip()]
-main()
+if __name__ == '__main__':
+    main()

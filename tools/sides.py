@@ -8,6 +8,9 @@ its name, first in the same file, then in the same crate), public types with the
 """
 import collections, glob, io, os, re, subprocess, sys, tarfile, tempfile
 
+sys.dont_write_bytecode = True
+from places import close
+
 FN = re.compile(r'^([ \t]*)(pub )((?:unsafe )?(?:const )?(?:extern "C" )?)fn (\w+)', re.M)
 CLAUSE = re.compile(r'\s*(requires|ensures)(\*?)(?: (\w+))? \{')
 TYPE = re.compile(r'^pub (?:struct|enum|type|trait|const|static) (\w+)', re.M)
@@ -16,15 +19,6 @@ DECLARED = re.compile(r'^(?:(?:abbrev|unfoldable|opaque) )*pub (?:record |data )
 
 def bare(text, mark):
     return re.sub(r'("(?:\\.|[^"\\\n])*")|%s[^\n]*' % mark, lambda m: m.group(1) or '', text)
-
-
-def close(text, at, pair):
-    depth = 0
-    for i in range(at, len(text)):
-        depth += (text[i] == pair[0]) - (text[i] == pair[1])
-        if depth == 0:
-            return i
-    return len(text)
 
 
 def flat(text):
