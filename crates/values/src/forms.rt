@@ -1,5 +1,5 @@
 // The text form of a value: put into lent memory, and read. What puts it answers the offset after it.
-ghost use Rattle.std.specs.Prelude.{◌≡◌, [], ◌∷◌, ◌+◌, ◌≤◌, ◌<◌, length, Some, IfSome};
+ghost use Rattle.std.specs.Prelude.{◌≡◌, [], ◌∷◌, ◌+◌, ◌≤◌, ◌<◌, drop, length, Some, IfSome};
 ghost use Rattle.values.specs.definitions.Bytes.{same_bytes};
 ghost use Rattle.values.specs.inner_contracts.Puts.{Put};
 ghost use Rattle.values.specs.definitions.Forms.{digit_byte, digit_of, decimal_digits, hexadecimal, scanned, decimal, whole_text, printed, magnitude};
@@ -138,6 +138,17 @@ pub fn magnitude(digits: &[u8]) -> Option<u64>
         _ if digits.len() > 10 => None,
         _ => scan(digits, 10),
     }
+}
+
+/// The same of the digits from `from` on; none where none are left.
+#[tactic(auto, unfolding(crate::specs::definitions::Forms::led))]
+pub fn magnitude_from(s: &[u8], from: usize) -> Option<u64>
+    ensures { result ≡ magnitude (drop from s.now) }
+{
+    if s.len() <= from {
+        return None;
+    }
+    magnitude(&s[from..])
 }
 
 fn unsigned_whole(n: u64) -> Field

@@ -8,8 +8,8 @@ pub mod forms; // a value as text
 
 pub use cells::{Packed, cell, finite_bits, identical, of_kind, pack, put_cell, unpack};
 pub use forms::{
-    digit_byte, digit_of, magnitude, put_decimal, put_value, put_whole, read_event, read_presence,
-    read_real, read_truth, read_whole, scan,
+    digit_byte, digit_of, magnitude, magnitude_from, put_decimal, put_value, put_whole, read_event,
+    read_presence, read_real, read_truth, read_whole, scan,
 };
 pub use operators::{
     as_real, differ, equal, fit, is_set, negate, operate, real_op, settle, whole_op,
