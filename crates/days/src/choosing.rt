@@ -74,8 +74,8 @@ fn spot_called(columns: &Columns<'_>, field: &[u8]) -> Option<usize>
     member_spot(columns, &field[0..end], &field[last..size])
 }
 
-// Reads the chosen cells, the last one first, and answers how many they are.
-fn read_spots(columns: &Columns<'_>, cells: &[u8], spots: &mut [u16]) -> Option<usize>
+/// Reads the numbers of the chosen cells, the last one first, and answers how many they are; none, where the text is no list.
+pub fn read_spots(columns: &Columns<'_>, cells: &[u8], spots: &mut [u16]) -> Option<usize>
     requires { Layout.MOST_CHOSEN ≤ length spots.old }
     ensures read { of_names ChosenRead columns.now cells.now spots.new (unwrap_or result Choosing.NO_LIST) }
     ensures few { IfSome result (λ count. count ≤ Layout.MOST_CHOSEN) }

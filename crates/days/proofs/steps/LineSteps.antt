@@ -67,7 +67,7 @@ module _ (s : List ℕ) (at : ℕ) (h : at ≤ length s) {o : Option ℕ} (q : o
 
 -- ---- line feeds
 
-feeds_by_count : (s : List ℕ) → count_by (λ b. eqb b 10) s ≡ line_feeds s
+pub feeds_by_count : (s : List ℕ) → count_by (λ b. eqb b 10) s ≡ line_feeds s
 unfolding line_feeds
 feeds_by_count [] = refl
 feeds_by_count (b ∷ s) = sum_by-cons (λ x. cond (eqb x 10) 1 0) b s ∙ go (eqb b 10) (feeds_by_count s)

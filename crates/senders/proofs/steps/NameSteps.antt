@@ -36,7 +36,7 @@ pub no_first_letter : (x : List ℕ) → 0 < length x → is_letter (get_or x 0 
 unfolding is_sender
 no_first_letter x h e = rw (first_byte x h, e)
 
-every_all : (x : List ℕ) → list_all is_name_byte x ≡ every is_name_byte x
+pub every_all : (x : List ℕ) → list_all is_name_byte x ≡ every is_name_byte x
 unfolding every
 every_all [] = refl
 every_all (b ∷ x) = ap (λ (t : Bool). is_name_byte b && t) (every_all x)

@@ -79,7 +79,7 @@ answer_shift at n (read a k) = let e : at + (n + k) ≡ at + n + k = omega arith
 answer_shift at n (unfit_after k) = let e : at + (n + k) ≡ at + n + k = omega arith in rw e
 
 -- one reader for another that makes the same of the tokens that are left
-instead : {A : Type 0} {r s : Parser A} {cs : List ℕ} (p : Parsed) {q : Parsed} → ((us : List Token) → classes_of us ≡ classes_from cs p → s us ≡ r us)
+pub instead : {A : Type 0} {r s : Parser A} {cs : List ℕ} (p : Parsed) {q : Parsed} → ((us : List Token) → classes_of us ≡ classes_from cs p → s us ≡ r us)
     → ReadsAs cs s p q → ReadsAs cs r p q
 unfolding answer_from classes_from
 instead (Next at) same h = record {

@@ -10,10 +10,19 @@ use Rattle.std.specs.Result.{result_unwrap_or}
 use Rattle.text.specs.declared.grammar.Unfit.{Unfit}
 use Rattle.text.specs.definitions.Tokens.{Token}
 use Rattle.text.specs.definitions.Readers.{Parse, read, unfit_after, Parser}
-use Rattle.text.specs.inner_contracts.ParseAnswers.{Next, Refused, classes_of, parse_answer, answer_from, ReadsAs, ReadsFrom}
+use Rattle.text.specs.inner_contracts.ParseAnswers.{Parsed, Next, Refused, classes_of, parse_answer, answer_from, ReadsAs, ReadsFrom}
 use Rattle.text.specs.inner_contracts.Walks.{Rows, meant, vain, MeansAt, Walks, ReadThere, Ends}
 use Rattle.text.proofs.laws.CodeReaderLaws.{reads_onward}
 use Rattle.text.proofs.laws.WalkLaws.{walk_yields}
+
+-- what is refused has no next token
+pub refused_not_next : {p : Parsed} {i j : ℕ} → p ≡ Refused j → p ≡ Next i → ⊥
+refused_not_next r e = let z : ◌≡◌ {A = ℕ} 0 1 = cc in absurd (omega arith)
+
+pub next_same : {p : Parsed} {i j : ℕ} → p ≡ Next i → p ≡ Next j → i ≡ j
+next_same {p} {i} {j} e q =
+    let k : Next i ≡ Next j = sym e ∙ q in
+    cc
 
 -- tokens that have the classes of a column one by one have them all
 column_of : (ts : List Token) (cs : List ℕ) → length ts ≡ length cs

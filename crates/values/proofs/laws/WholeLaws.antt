@@ -1,13 +1,13 @@
 -- Wholes: what a test of an `i64` against the ends of 32 bits tells, that 64 bits hold each sum, difference and product, and the number of a
 -- whole in a cell.
 use mathlib.Core.Path.{◌≡◌, refl, sym, ap, ◌∙◌}
-use mathlib.Core.Bool.{Bool, true, false}
+use mathlib.Core.Bool.{Bool, true, false, false≢true}
 use Prim.Native.Nat.{ℕ, zero, suc, ◌+◌, ◌-◌, ◌*◌, ◌^◌, ◌≤◌, ◌<◌, zero-le}
 use native.Mathlib.Nat.{mul-le-mul_left, mul-le-mul_right, le_trans, lt_trans, lt_of_le_of_lt, le_of_lt}
 use native.Mathlib.Omega.{arith}
 use lib.Dec.{ltb, eqb, lit<}
-use lib.IntN.{ℤ, pos, negsuc, neg_ℤ, sub_ℕ, ◌-ℤ◌, ◌*ℤ◌}
-use lib.Signed.{mag}
+use lib.IntN.{ℤ, pos, negsuc, neg_ℤ, sub_ℕ, ◌+ℤ◌, ◌-ℤ◌, ◌*ℤ◌}
+use lib.Signed.{mag, lt_z}
 use mir.Syntax.{w32, w64}
 use mir.Val.{SFits, to_z, of_z}
 use mir.Facts.{to_z-of_z, to_z_pos, sfits_widen}
@@ -31,7 +31,49 @@ fitted_exceeds z f = go (ltb (mag z) (2 ^ 31)) refl
     go true e = absurd (f (record { sfits = ltb-true (mag z) (2 ^ 31) e }))
     go false e = rw e
 
--- ---- 64 bits hold each product of two numbers of 32
+-- ---- the ends of 32 bits
+
+pub too_low : (z : ℤ) → lt_z z (negsuc 2147483647) ≡ true → ltb (mag z) (2 ^ 31) ≡ false
+too_low (pos n) h = absurd (false≢true h)
+too_low (negsuc n) h = le-ltb n (2 ^ 31) (ltb-true 2147483647 n h)
+
+pub too_high : (z : ℤ) → lt_z (pos 2147483647) z ≡ true → ltb (mag z) (2 ^ 31) ≡ false
+too_high (pos n) h = le-ltb n (2 ^ 31) (ltb-true 2147483647 n h)
+too_high (negsuc n) h = absurd (false≢true h)
+
+below_end : (n : ℕ) → n ≤ 2147483647 → n < 2 ^ 31
+below_end n h = omega arith
+
+pub in_range : (z : ℤ) → lt_z z (negsuc 2147483647) ≡ false → lt_z (pos 2147483647) z ≡ false → mag z < 2 ^ 31
+in_range (pos n) l h = below_end n (ltb-false 2147483647 n h)
+in_range (negsuc n) l h = below_end n (ltb-false 2147483647 n l)
+
+-- ---- 64 bits hold each sum, difference and product of two numbers of 32
+
+apart_mag : (a b m : ℕ) → a ≤ m → b ≤ suc m → mag (sub_ℕ a b) ≤ m
+apart_mag a b m p q = go (ltb a b) refl
+  where
+    go : (t : Bool) → ltb a b ≡ t → mag (sub_ℕ a b) ≤ m
+    go true e = rw e (omega arith)
+    go false e = rw e (omega arith)
+
+-- the second may be 2 ^ 31, which a difference's second number is after its sign is turned
+sum_mag : (x y : ℤ) → mag x < 2 ^ 31 → mag y ≤ 2 ^ 31 → mag (x +ℤ y) < 2 ^ 63
+sum_mag (pos a) (pos b) p q = omega arith
+sum_mag (pos a) (negsuc b) p q = lt_of_le_of_lt (apart_mag a (suc b) (2 ^ 31) (omega arith) (omega arith)) (lit< tt)
+sum_mag (negsuc a) (pos b) p q = lt_of_le_of_lt (apart_mag b (suc a) (2 ^ 31) (omega arith) (omega arith)) (lit< tt)
+sum_mag (negsuc a) (negsuc b) p q = omega arith
+
+neg_mag : (y : ℤ) → mag y < 2 ^ 31 → mag (neg_ℤ y) ≤ 2 ^ 31
+neg_mag (pos zero) q = zero-le
+neg_mag (pos (suc n)) q = omega arith
+neg_mag (negsuc n) q = q
+
+pub add_mag : (x y : ℤ) → mag x < 2 ^ 31 → mag y < 2 ^ 31 → mag (x +ℤ y) < 2 ^ 63
+add_mag x y p q = sum_mag x y p (le_of_lt q)
+
+pub sub_mag : (x y : ℤ) → mag x < 2 ^ 31 → mag y < 2 ^ 31 → mag (x -ℤ y) < 2 ^ 63
+sub_mag x y p q = sum_mag x (neg_ℤ y) p (neg_mag y q)
 
 -- a number turned round is at most as far from 0
 pub turned_mag : (n m : ℕ) → n ≤ m → mag (neg_ℤ (pos n)) ≤ m
@@ -47,6 +89,14 @@ mul_mag (pos a) (pos b) p q = lt_of_le_of_lt (times_le a b (le_of_lt p) (le_of_l
 mul_mag (pos a) (negsuc b) p q = lt_of_le_of_lt (turned_mag (a * suc b) (2 ^ 62) (times_le a (suc b) (le_of_lt p) q)) (lit< tt)
 mul_mag (negsuc a) (pos b) p q = lt_of_le_of_lt (turned_mag (suc a * b) (2 ^ 62) (times_le (suc a) b p (le_of_lt q))) (lit< tt)
 mul_mag (negsuc a) (negsuc b) p q = lt_of_le_of_lt (times_le (suc a) (suc b) p q) (lit< tt)
+
+-- 0 - y, as an operation on two numbers
+unfoldable pub from_zero : ℤ → ℤ → ℤ
+from_zero x y = pos 0 -ℤ y
+
+pub from_zero_mag : (x y : ℤ) → mag x < 2 ^ 31 → mag y < 2 ^ 31 → mag (from_zero x y) < 2 ^ 63
+unfolding from_zero
+from_zero_mag x y p q = sub_mag (pos 0) y (lit< tt) q
 
 -- ---- an `i32` as an `i64`, which the program reads back from its bits twice
 
