@@ -74,12 +74,12 @@ fn find_ranges(rules: &Rules<'_>, store: &Store<'_>, n: u8) -> [Range; MOST_INTE
 
 // Marks the candidates for an interface, from number `first` on, below `end`.
 #[tactic(auto, using(crate::proofs::steps::BindingPuts::marks_more))]
-fn mark_candidates(rules: &Rules<'_>, store: &Store<'_>, face: u8, range: Range, marks: &mut [bool])
+fn mark_candidates(rules: &Rules<'_>, store: &Store<'_>, face: u8, range: Range, marks: &mut [u8])
     requires { range.end ≤ length marks.old }
     ensures { MarksSet rules.now.columns.d.now store.now.flags face range.first range.end marks.new }
 {
     for e in range.first..range.end {
-        marks[e as usize] = is_candidate(rules, store, face, e);
+        marks[e as usize] = u8::from(is_candidate(rules, store, face, e));
     }
 }
 
@@ -114,7 +114,7 @@ fn bind(worlds: &Worlds<'_, '_>, trial: &Trial<'_>, level: u8, area: &mut [u8])
     if MOST_ENTITIES_8 < end {
         return;
     }
-    let mut marks = [false; MOST_ENTITIES];
+    let mut marks = [0u8; MOST_ENTITIES];
     mark_candidates(rules, &stores.current, face, range, &mut marks);
     let candidates = Candidates { level, first, end };
     let guards = trial.guards.as_slice();
@@ -125,7 +125,7 @@ fn bind(worlds: &Worlds<'_, '_>, trial: &Trial<'_>, level: u8, area: &mut [u8])
             b: with_entity(b, level, e),
             stores: &*stores,
         };
-        if marks[e as usize] {
+        if marks[e as usize] != 0 {
             bind(&with, trial, level + 1, area);
         }
     }

@@ -32,9 +32,7 @@ fn call(world: &World<'_, '_>, priority: u8, at: usize, area: &mut [u8]) -> usiz
     let m = world.rules.member(name);
     let f = filter(world, e, target_end(world.rules, target), OPENERS);
     let made = world.store.is_present_at(e, m) && f.value && values::is_set(x.value);
-    if made {
-        put(area, priority, e, m, x.value);
-    }
+    put(area, made, priority, e, m, x.value);
     f.next
 }
 

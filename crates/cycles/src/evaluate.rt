@@ -1,5 +1,5 @@
 // What references mean under a binding, and the write of a value there.
-ghost use Rattle.std.specs.Prelude.{◌≡◌, ◌≤◌, true, length};
+ghost use Rattle.std.specs.Prelude.{◌≡◌, ◌≤◌, length};
 ghost use Rattle.cycles.specs.inner_contracts.Evaluation;
 ghost use Rattle.cycles.specs.inner_contracts.Evaluation.{bound, Put};
 ghost use Rattle.cycles.specs.inner_contracts.AllRules.{EntityAdded};
@@ -54,13 +54,16 @@ pub fn with_entity(b: Binding, level: u8, e: u8) -> Binding
     }
 }
 
-/// The write of a value to member m of entity e, by a rule of this priority, if there is such a member.
+/// The write of a value to member m of entity e, by a rule of this priority, if it is to be made and there is such a member.
 #[tactic(auto, using(crate::proofs::steps::EvaluationLaws::writes_put))]
-pub fn put(area: &mut [u8], priority: u8, e: u8, m: u8, v: Value)
+pub fn put(area: &mut [u8], made: bool, priority: u8, e: u8, m: u8, v: Value)
     requires in_bounds { Evaluation.MOST_PENDING_BYTES ≤ length area.old }
     requires priority_bound { priority ≤ PriorityFaults.MOST_PRIORITY }
-    ensures { Put area.old true priority e m v area.new }
+    ensures { Put area.old made priority e m v area.new }
 {
+    if !made {
+        return;
+    }
     if NO_MEMBER_8 <= m {
         return;
     }

@@ -53,14 +53,14 @@ pub struct Candidates {
 }
 
 // Takes the marks of those candidates with which the test fails.
-fn keep<F: Fn(Binding) -> bool>(marks: &mut [bool], b: Binding, candidates: Candidates, holds: F)
+fn keep<F: Fn(Binding) -> bool>(marks: &mut [u8], b: Binding, candidates: Candidates, holds: F)
     requires room { candidates.end ≤ length marks.old }
     requires callable { F.IsAlwaysCallable holds }
     ensures { MarksTaken (FailsWith b candidates.level (λ with. F.post holds with false)) marks.old marks.new }
 {
     for e in candidates.first..candidates.end {
-        if marks[e as usize] && !holds(with_entity(b, candidates.level, e)) {
-            marks[e as usize] = false;
+        if marks[e as usize] != 0 && !holds(with_entity(b, candidates.level, e)) {
+            marks[e as usize] = 0;
         }
     }
 }
@@ -71,7 +71,7 @@ fn keep_by_value(
     candidates: Candidates,
     guard: &Guard,
     equal: bool,
-    marks: &mut [bool],
+    marks: &mut [u8],
 )
     requires { candidates.end ≤ length marks.old }
     ensures { MarksTaken
@@ -97,7 +97,7 @@ fn keep_by_value(
 }
 
 // Takes the marks of those candidates with which a guard fails.
-fn narrow_by(worlds: &Worlds<'_, '_>, candidates: Candidates, guard: &Guard, marks: &mut [bool])
+fn narrow_by(worlds: &Worlds<'_, '_>, candidates: Candidates, guard: &Guard, marks: &mut [u8])
     requires { candidates.end ≤ length marks.old }
     ensures { MarksTaken
         (Fails worlds.now.rules.now worlds.now.b candidates.level worlds.now.stores.now.current worlds.now.stores.now.previous guard.now)
@@ -141,8 +141,8 @@ fn narrow_by(worlds: &Worlds<'_, '_>, candidates: Candidates, guard: &Guard, mar
     }
 }
 
-/// Takes the marks of those candidates with which a guard of the next level fails.
-pub fn narrow(worlds: &Worlds<'_, '_>, guards: &[Guard], candidates: Candidates, marks: &mut [bool])
+/// Takes the marks of those candidates with which a guard of the next level fails. Any byte but 0 is a mark.
+pub fn narrow(worlds: &Worlds<'_, '_>, guards: &[Guard], candidates: Candidates, marks: &mut [u8])
     requires { candidates.end ≤ length marks.old }
     ensures { Narrows worlds.now.rules.now worlds.now.stores.now.current worlds.now.stores.now.previous worlds.now.b guards.now candidates.level candidates.first candidates.end marks.old
         marks.new }

@@ -3,7 +3,7 @@ use Prim.Native.Nat.{ℕ, zero, suc, ◌+◌, ◌≤◌, ◌<◌, ◌%◌, ◌*�
 use native.Mathlib.Numerals.{add-one}
 use native.Mathlib.Omega.{arith}
 use mathlib.Core.Path.{◌≡◌, refl, sym, ap, ◌∙◌}
-use mathlib.Core.Bool.{Bool, true, false, true≢false, ◌||◌}
+use mathlib.Core.Bool.{Bool, true, false, true≢false, cond, ◌||◌}
 use mathlib.Core.List.{List, [], ◌∷◌, ◌++◌}
 use mathlib.Core.Option.{some}
 use lib.Dec.{T, leb, ltb, eqb}
@@ -209,25 +209,33 @@ module _ {classes values d refs scopes flags cells previous_flags previous_cells
 
 -- ---- marks of candidates
 
-module _ {d flags : List ℕ} {face first e : ℕ} (marks : List Bool) (before : MarksSet d flags face first e marks) (room : e < length marks)
-    {t : Bool} (is : t ≡ candidate d flags face e) where
-  pub marks_more : MarksSet d flags face first (e + 1) (set marks e t)
+module _ {d flags : List ℕ} {face first e : ℕ} (marks : List ℕ) (before : MarksSet d flags face first e marks) (room : e < length marks)
+    {t : Bool} (is : t ≡ candidate d flags face e) {v : ℕ} (mark : v ≡ cond t 1 0) where
+  pub marks_more : MarksSet d flags face first (e + 1) (set marks e v)
   marks_more = record { sets = λ x l h. go x l h (ltb x e) refl }
     where
-      go : (x : ℕ) → first ≤ x → x < e + 1 → (b : Bool) → ltb x e ≡ b → get_or (set marks e t) x false ≡ candidate d flags face x
-      go x l h true q = let below = ltb-true x e q in get_or-set_other marks e x t false (λ z. omega arith) ∙ before.sets x l below
+      go : (x : ℕ) → first ≤ x → x < e + 1 → (b : Bool) → ltb x e ≡ b → get_or (set marks e v) x 0 ≡ cond (candidate d flags face x) 1 0
+      go x l h true q = let below = ltb-true x e q in get_or-set_other marks e x v 0 (λ z. omega arith) ∙ before.sets x l below
       go x l h false q =
           let same : e ≡ x = omega (arith, ltb-false x e q) in
-          rw (← same) (get_or-set_same marks e t false room ∙ is)
+          rw (← same) (get_or-set_same marks e v 0 room ∙ mark ∙ ap (λ t. cond t 1 0) is)
 
 module _ {classes values d refs scopes flags cells previous_flags previous_cells : List ℕ} {k level : ℕ} {b : Binding} {face first end : ℕ}
-    {marks : List Bool} where
+    {marks : List ℕ} where
   pub marks_mean : MarksSet d flags face first end marks
       → Marked classes values d refs scopes flags cells previous_flags previous_cells k level b face first end marks
   marks_mean m = record {
-    unmarked = λ e l h z. no_candidate (sym (m.sets e l h) ∙ z);
-    marked = λ e l h z. sym (m.sets e l h) ∙ z;
+    unmarked = λ e l h z. no_candidate (not_one (candidate d flags face e) (sym (m.sets e l h) ∙ z));
+    marked = λ e l h n. one (candidate d flags face e) (λ z. n (m.sets e l h ∙ z));
   }
+    where
+      not_one : (t : Bool) → ◌≡◌ {A = ℕ} (cond t 1 0) 0 → t ≡ false
+      not_one true z = absurd (omega arith)
+      not_one false z = refl
+
+      one : (t : Bool) → (◌≡◌ {A = ℕ} (cond t 1 0) 0 → ⊥) → t ≡ true
+      one true n = refl
+      one false n = absurd (n refl)
 
 -- the entities before number e have had their turns for the next variable: the writes of the others are left
 pub record TurnsLeft (classes values d refs scopes flags cells previous_flags previous_cells : List ℕ) (k level : ℕ) (b : Binding)

@@ -77,12 +77,9 @@ none_written area true priority v = refl
 none_written area false priority v = refl
 
 module _ {area : List ℕ} {priority e m : ℕ} {v : Value} where
-  pub put_nothing : {made : Bool} {after : List ℕ} → made ≡ false → after ≡ area → Put area made priority e m v after
+  pub put_nothing : {made : Bool} → made ≡ false → Put area made priority e m v area
   unfolding puts written_if
-  put_nothing q a = record { written = λ count p k l. rw (q, a) }
-
-  pub put_asked : {made : Bool} {after put : List ℕ} → made ≡ true → after ≡ put → Put area true priority e m v put → Put area made priority e m v after
-  put_asked q a p = rw (q, a) p
+  put_nothing q = record { written = λ count p k l. rw q }
 
   pub put_missing : {made : Bool} → 12 ≤ m → Put area made priority e m v area
   put_missing {made} h = record { written = λ count p k l. go l }
@@ -91,17 +88,18 @@ module _ {area : List ℕ} {priority e m : ℕ} {v : Value} where
       go (located what q k l) = absurd (omega arith)
       go (missing q k) = rw q (none_written area made priority v)
 
-  pub put_made : {after : List ℕ} → m < 12 → after ≡ pended MOST_CELL_BYTES area (e * 12 + m) priority v → Put area true priority e m v after
+  pub put_made : {made : Bool} {after : List ℕ} → made ≡ true → m < 12 → after ≡ pended MOST_CELL_BYTES area (e * 12 + m) priority v
+      → Put area made priority e m v after
   unfolding puts written_if
-  put_made {after} h a = record { written = λ count p k l. go l }
+  put_made {made} {after} em h a = record { written = λ count p k l. go l }
     where
-      go : {count : ℕ} {p : Option Spot} → Locates count p e m → after ≡ puts area (written_if true p priority v)
-      go (located what q k l) = rw q a
+      go : {count : ℕ} {p : Option Spot} → Locates count p e m → after ≡ puts area (written_if made p priority v)
+      go (located what q k l) = rw (em, q) a
       go (missing q k) = absurd (omega arith)
 
 pub ruleset cells_read = (read_absent, read_present)
 
-pub ruleset writes_put = (put_missing, put_made)
+pub ruleset writes_put = (put_nothing, put_missing, put_made)
 
 -- ---- the tokens of a world
 

@@ -3,7 +3,7 @@
 use Prim.Native.Nat.{ℕ, zero, suc, ◌+◌, ◌/◌, ◌%◌, ◌≤◌, ◌<◌}
 use native.Mathlib.Omega.{arith}
 use mathlib.Core.Path.{◌≡◌, refl, sym, ap, ap₂, ◌∙◌, subst}
-use mathlib.Core.Bool.{Bool, true, false, true≢false}
+use mathlib.Core.Bool.{Bool, true, false}
 use Rattle.std.specs.Bool.{beq}
 use mathlib.Core.List.{List, [], ◌∷◌, ◌++◌, map}
 use mathlib.Core.Logic.{◌⊎◌, inl, inr}
@@ -251,12 +251,12 @@ module _ {classes values d refs scopes flags cells previous_flags previous_cells
 -- ---- marks
 
 module _ {Failing : ℕ → Type 0} where
-  pub taken_for : {Other : ℕ → Type 0} → ((e : ℕ) → Failing e → Other e) → {before after : List Bool} → MarksTaken Failing before after
+  pub taken_for : {Other : ℕ → Type 0} → ((e : ℕ) → Failing e → Other e) → {before after : List ℕ} → MarksTaken Failing before after
       → MarksTaken Other before after
   taken_for {Other} f {before} {after} t = record { takes = λ e. go e (t.takes e) }
     where
-      go : (e : ℕ) → (get_or after e false ≡ get_or before e false) ⊎ ((get_or after e false ≡ false) × Failing e)
-          → (get_or after e false ≡ get_or before e false) ⊎ ((get_or after e false ≡ false) × Other e)
+      go : (e : ℕ) → (get_or after e 0 ≡ get_or before e 0) ⊎ ((get_or after e 0 ≡ 0) × Failing e)
+          → (get_or after e 0 ≡ get_or before e 0) ⊎ ((get_or after e 0 ≡ 0) × Other e)
       go e (inl q) = inl q
       go e (inr (z, h)) = inr (z, f e h)
 
@@ -264,26 +264,26 @@ module _ {Failing : ℕ → Type 0} where
 still_marked : {classes values d refs scopes flags cells previous_flags previous_cells : List ℕ} {k level : ℕ} {b : Binding} {face first end : ℕ}
     {Failing : ℕ → Type 0}
     → ((e : ℕ) → Failing e → Needless classes values d refs scopes flags cells previous_flags previous_cells k level b face e)
-    → {before after : List Bool} → MarksTaken Failing before after
+    → {before after : List ℕ} → MarksTaken Failing before after
     → Marked classes values d refs scopes flags cells previous_flags previous_cells k level b face first end before
     → Marked classes values d refs scopes flags cells previous_flags previous_cells k level b face first end after
 still_marked {classes} {values} {d} {refs} {scopes} {flags} {cells} {previous_flags} {previous_cells} {k} {level} {b} {face} {first} {end} {Failing} needless
     {before} {after} taken m = record { unmarked = λ e f l z. without e f l z (taken.takes e); marked = λ e f l n. within e f l n (taken.takes e) }
   where
-    without : (e : ℕ) → first ≤ e → e < end → get_or after e false ≡ false → (get_or after e false ≡ get_or before e false) ⊎ ((get_or after e false ≡ false) × Failing e)
+    without : (e : ℕ) → first ≤ e → e < end → get_or after e 0 ≡ 0 → (get_or after e 0 ≡ get_or before e 0) ⊎ ((get_or after e 0 ≡ 0) × Failing e)
         → Needless classes values d refs scopes flags cells previous_flags previous_cells k level b face e
     without e f l z (inl q) = m.unmarked e f l (sym q ∙ z)
     without e f l z (inr (y, h)) = needless e h
 
-    within : (e : ℕ) → first ≤ e → e < end → get_or after e false ≡ true → (get_or after e false ≡ get_or before e false) ⊎ ((get_or after e false ≡ false) × Failing e)
+    within : (e : ℕ) → first ≤ e → e < end → (get_or after e 0 ≡ 0 → ⊥) → (get_or after e 0 ≡ get_or before e 0) ⊎ ((get_or after e 0 ≡ 0) × Failing e)
         → candidate d flags face e ≡ true
-    within e f l n (inl q) = m.marked e f l (sym q ∙ n)
-    within e f l n (inr (y, h)) = absurd (true≢false (sym n ∙ y))
+    within e f l n (inl q) = m.marked e f l (λ z. n (q ∙ z))
+    within e f l n (inr (y, h)) = absurd (n y)
 
 module _ {classes values refs flags cells previous_flags previous_cells : List ℕ} {b : Binding} {guards : List Guard} {level first end : ℕ} where
   -- one guard more
   pub narrowed : {items : List Guard} → items ≡ guards → {j : ℕ} (other : Guard) → j < length items → (get_or items j other).level ≡ level + 1
-      → {before marks after : List Bool}
+      → {before marks after : List ℕ}
       → Narrowed classes values refs flags cells previous_flags previous_cells b guards level first end before marks
       → MarksTaken (λ e. GuardFails classes values refs b level flags cells previous_flags previous_cells (get_or items j other) e (get_or items j other).kind)
       marks after

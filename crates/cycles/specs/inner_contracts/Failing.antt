@@ -17,8 +17,8 @@ use Rattle.cycles.specs.declared.guards.GuardKind.{GuardKind}
 use Rattle.cycles.specs.declared.guards.GuardKind.TheVariants.{EqualNow, UnequalBefore, Changes, Holds}
 
 -- marks are taken of no entities but those that fail
-pub record MarksTaken (Failing : ℕ → Type 0) (before after : List Bool) : Type 0 where
-  pub takes : (e : ℕ) → (get_or after e false ≡ get_or before e false) ⊎ ((get_or after e false ≡ false) × Failing e)
+pub record MarksTaken (Failing : ℕ → Type 0) (before after : List ℕ) : Type 0 where
+  pub takes : (e : ℕ) → (get_or after e 0 ≡ get_or before e 0) ⊎ ((get_or after e 0 ≡ 0) × Failing e)
 
 -- with entity e for the next variable a test fails
 pub record FailsWith (b : Binding) (level : ℕ) (Fails : Binding → Type 0) (e : ℕ) : Type 0 where

@@ -1,6 +1,6 @@
 -- Guards of a rule: what must hold at a binding for the rule to write anything there. They are found in the rule's tokens, once for all bindings,
 -- and stand in memory with the tokens that they speak of. A binding that fails one is given up before its later variables get entities.
-use Rattle.std.specs.Prelude.{ℕ, ◌+◌, ◌%◌, ◌<◌, ◌≤◌, ◌≡◌, List, [], Bool, true, false, ◌⊎◌, All, get_or, drop}
+use Rattle.std.specs.Prelude.{ℕ, ◌+◌, ◌%◌, ◌<◌, ◌≤◌, ◌≡◌, List, [], true, false, cond, ◌⊎◌, All, get_or, drop}
 use Rattle.std.proofs.Math.Option.{Option}
 use Rattle.values.specs.definitions.Value.{equal, differ}
 use Rattle.text.specs.definitions.Tokens.{Token, NAME, EVENT, FROM, WITH, ON}
@@ -85,21 +85,21 @@ module _ (classes values d refs scopes flags cells previous_flags previous_cells
         → Needless e
 
   -- of the entities from `first` on, below `end`: those without a mark need no turn, and those with one are candidates
-  pub record Marked (first end : ℕ) (marks : List Bool) : Type 0 where
-    pub unmarked : (e : ℕ) → first ≤ e → e < end → get_or marks e false ≡ false → Needless e
-    pub marked : (e : ℕ) → first ≤ e → e < end → get_or marks e false ≡ true → candidate d flags face e ≡ true
+  pub record Marked (first end : ℕ) (marks : List ℕ) : Type 0 where
+    pub unmarked : (e : ℕ) → first ≤ e → e < end → get_or marks e 0 ≡ 0 → Needless e
+    pub marked : (e : ℕ) → first ≤ e → e < end → (get_or marks e 0 ≡ 0 → ⊥) → candidate d flags face e ≡ true
 
 -- the marks of the candidates
-pub record MarksSet (d flags : List ℕ) (face first end : ℕ) (marks : List Bool) : Type 0 where
-  pub sets : (e : ℕ) → first ≤ e → e < end → get_or marks e false ≡ candidate d flags face e
+pub record MarksSet (d flags : List ℕ) (face first end : ℕ) (marks : List ℕ) : Type 0 where
+  pub sets : (e : ℕ) → first ≤ e → e < end → get_or marks e 0 ≡ cond (candidate d flags face e) 1 0
 
 -- where a guard of the next level fails, the entity loses its mark
 pub record Narrowed (classes values refs flags cells previous_flags previous_cells : List ℕ) (b : Binding) (guards : List Guard) (level first end : ℕ)
-    (before after : List Bool) : Type 0 where
+    (before after : List ℕ) : Type 0 where
   pub narrows : (d scopes : List ℕ) (k face : ℕ) → GuardsFound classes refs (get_or d (rule_row k) 0 + 1) guards
       → Marked classes values d refs scopes flags cells previous_flags previous_cells k level b face first end before
       → Marked classes values d refs scopes flags cells previous_flags previous_cells k level b face first end after
 
 -- the same over what is lent together
-abbrev pub Narrows : Rules → (current previous : StoreMemory) → Binding → (guards : List Guard) → (level first end : ℕ) → (before after : List Bool) → Type 0
+abbrev pub Narrows : Rules → (current previous : StoreMemory) → Binding → (guards : List Guard) → (level first end : ℕ) → (before after : List ℕ) → Type 0
 Narrows r current previous = Narrowed r.columns.classes.now r.literals.now r.references.now current.flags current.cells previous.flags previous.cells

@@ -2,7 +2,7 @@
 use Rattle.cycles.proofs.steps.BindingPuts.{bindings_complete, bindings_impossible, bindings_nowhere, incomplete_few, marks_mean, turn_saved, turn_takes, turns_begin, turns_end}
 use Rattle.std.proofs.Common.{refl, rules}
 use Rattle.cycles.proofs.bindings.+bind.Goals as goal
-use Rattle.cycles.proofs.bindings.+bind.Goals.{then-marks-e, else-marks-e}
+use Rattle.cycles.proofs.bindings.+bind.Goals.{then-marks-e-ne0, else-marks-e-ne0}
 
 pub returns-then-is_complete : goal.returns-then-is_complete
 returns-then-is_complete t c = search (rules, bindings_complete)
@@ -21,15 +21,15 @@ loop-e-preserved t c =
     let few = incomplete_few c.args.worlds.now.rules.now.scopes.now c.args.trial.now.k c.args.level c.is_complete.ensures c.if-is_complete.false in
     let marked = c.narrow.ensures.narrows c.args.worlds.now.rules.now.columns.d.now c.args.worlds.now.rules.now.scopes.now c.args.trial.now.k c.scope-face.result (rw c.as_slice-guards.ensures.value c.requires.guards_found) (marks_mean c.mark_candidates.ensures) in
     let ranged = c.requires.ranges c.scope-face.result _ c.if-face-ge-MOST_INTERFACES.false in
-    elim c.if-marks-e.branch [
-      | then-marks-e w ↦
+    elim c.if-marks-e-ne0.branch [
+      | then-marks-e-ne0 w ↦
           rw w.area-is
           (turn_takes ranged c.scope-face.ensures c.loop-e.invariant c.loop-e-test.true refl
-          (marked.marked _ c.loop-e.auto.e c.loop-e-test.true w.if-marks-e.true) few c.with_entity.ensures w.bind.ensures)
-      | else-marks-e w ↦
+          (marked.marked _ c.loop-e.auto.e c.loop-e-test.true w.if-marks-e-ne0.true) few c.with_entity.ensures w.bind.ensures)
+      | else-marks-e-ne0 w ↦
           rw w.area-is
           (turn_saved ranged c.scope-face.ensures c.loop-e.invariant c.loop-e-test.true
-          few c.with_entity.ensures (marked.unmarked _ c.loop-e.auto.e c.loop-e-test.true w.if-marks-e.false))
+          few c.with_entity.ensures (marked.unmarked _ c.loop-e.auto.e c.loop-e-test.true w.if-marks-e-ne0.false))
     ]
 
 pub returns : goal.returns
