@@ -14,6 +14,7 @@ pub mod BodyLaws
 pub mod UnsetLaws
 pub mod EntityLaws
 pub mod CheckedParts
+pub mod CodedParts
 pub mod RuleNames
 pub mod RuleVariables
 pub mod MeaningLaws

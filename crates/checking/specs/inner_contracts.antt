@@ -2,6 +2,7 @@
 pub mod Directory
 pub mod OfColumns
 pub mod FoundFaults
+pub mod CodedFaults
 pub mod Kinds
 pub mod DirectoryReads
 pub mod CountScan

@@ -3,6 +3,8 @@ ghost use Rattle.std.specs.Prelude.{◌≡◌};
 ghost use Rattle.checking.specs.definitions.Faults.{fault_unless, earliest};
 ghost use Rattle.checking.specs.inner_contracts.FoundFaults.{fault_code, found_as, merged};
 
+use crate::coded_faults::CodedFault;
+
 /// Why a text is refused.
 #[derive(Clone, Copy, Debug, PartialEq, Eq)]
 pub enum FaultKind {
@@ -41,6 +43,18 @@ impl FaultKind {
 pub struct Fault {
     pub kind: FaultKind,
     pub at: u32,
+}
+
+impl Fault {
+    /// With the number of its kind.
+    pub fn coded(self) -> CodedFault
+        ensures { (result.code ≡ fault_code self.kind) × (result.at ≡ self.at) }
+    {
+        CodedFault {
+            code: self.kind.code(),
+            at: self.at,
+        }
+    }
 }
 
 /// The earlier of two faults; the first where neither is earlier.

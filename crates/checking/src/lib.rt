@@ -2,6 +2,7 @@
 #![tactic(auto)]
 
 pub mod check; // the check of a text
+pub mod coded_faults; // faults by their numbers, of whatever list
 pub mod columns; // the columns and the directory, lent together
 pub mod conditions; // names and kinds of conditions and calls
 pub mod counts; // the counts of a file's items
@@ -22,6 +23,7 @@ pub mod table; // what the columns and the directory say
 ghost use Rattle.std.specs.Prelude.{◌≡◌, ◌+◌, ◌*◌, ◌<◌};
 
 pub use check::CheckError;
+pub use coded_faults::{CodedFault, CodedPart};
 pub use columns::Columns;
 pub use counts::count_fault;
 pub use directory::build;
