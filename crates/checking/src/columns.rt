@@ -1,5 +1,5 @@
 // The columns of a token table with the text they stand for, and the directory of its file, lent together; and what they say.
-ghost use Rattle.std.specs.Prelude.{◌≡◌, ◌<◌, ◌≤◌, min, length, get_or};
+ghost use Rattle.std.specs.Prelude.{◌≡◌, ◌<◌, ◌≤◌, min, length, get_or, drop};
 ghost use Rattle.std.proofs.Math.ListN.{get_elem?};
 ghost use Rattle.values.specs.definitions.Bytes.{same_bytes};
 ghost use Rattle.checking.specs.definitions.CountFaults;
@@ -75,24 +75,14 @@ impl<'a> Columns<'a> {
         ensures bytes { result.now ≡ name_of self.now i }
         ensures short { length result.now < 256 }
     {
-        let start = self.offset(i) as usize;
-        let size = walks::class_at(self.lengths, i) as usize;
-        let all = self.text.len();
-        if all <= start {
-            return &self.text[0..0];
-        }
-        if all - start <= size {
-            return &self.text[start..all];
-        }
-        let end = start + size;
-        &self.text[start..end]
+        table::name(self.text, self.offsets, self.lengths, i)
     }
 
     pub fn same_name(&self, i: usize, j: usize) -> bool
         ensures { result ≡ same_bytes (name_of self.now i)
             (name_of self.now j) }
     {
-        same_bytes(self.name(i), self.name(j))
+        table::same_name(self.text, self.offsets, self.lengths, i, j)
     }
 
     /// How many interfaces the directory has: 16 at most, even if its row says more.
@@ -124,14 +114,24 @@ impl<'a> Columns<'a> {
         self.row(RULE_COUNT_ROW).min(MOST_RULES)
     }
 
+    /// The rows of the directory from `base` on.
+    pub(crate) fn rows_from(&self, base: usize) -> &'a [u16]
+        ensures { result.now ≡ drop base self.now.d.now }
+    {
+        if self.d.len() <= base {
+            return &self.d[0..0];
+        }
+        &self.d[base..]
+    }
+
     /// The first of `count` items of the directory, in the rows from `base` on, that has this name.
-    #[tactic(auto, using(crate::proofs::laws::CalledLaws::items_passed))]
-    pub(crate) fn first_named(&self, base: usize, count: usize, name: &[u8]) -> Option<usize>
-        requires { (base < 4294967296) × (count < 65536) }
+    #[tactic(auto, using(crate::proofs::laws::CalledLaws::items_passed, crate::proofs::laws::CalledLaws::item_row))]
+    pub fn first_named(&self, base: usize, count: usize, name: &[u8]) -> Option<usize>
         ensures { of_names FirstNamed self.now base count name.now result }
     {
+        let items = self.rows_from(base);
         for k in 0..count {
-            if same_bytes(name, self.name(self.row(base + k) + 1)) {
+            if same_bytes(name, self.name(table::row(items, k) + 1)) {
                 return Some(k);
             }
         }

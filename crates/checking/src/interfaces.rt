@@ -1,20 +1,20 @@
 // The interfaces of a file: the faults of their names and of their members' names.
-ghost use Rattle.std.specs.Prelude.{◌<◌};
 ghost use Rattle.checking.specs.inner_contracts.DeclarationWalk.{RepeatedRows, InterfacesFound};
 ghost use Rattle.checking.specs.inner_contracts.OfColumns.{of_names};
 
 use crate::columns::Columns;
 use crate::faults::{Fault, FaultKind, earlier, unless};
 use crate::layout::{INTERFACE_ROWS, MEMBER_ROWS, MOST_MEMBERS};
+use crate::table::row;
 
 // The earliest of `count` items of the directory, in the rows from `base` on, that bears the name of one before it.
-pub(crate) fn repeated(columns: &Columns<'_>, base: usize, count: usize) -> Option<Fault>
-    requires { (base < 4294967296) × (count < 65536) }
+pub fn repeated(columns: &Columns<'_>, base: usize, count: usize) -> Option<Fault>
     ensures { of_names RepeatedRows columns.now base count result }
 {
+    let items = columns.rows_from(base);
     let mut found = None;
     for k in 0..count {
-        let i = columns.row(base + k) + 1;
+        let i = row(items, k) + 1;
         let before = columns.first_named(base, k, columns.name(i));
         let again = unless(
             before.is_none(),

@@ -74,6 +74,8 @@ pub const ALL_SCOPE_ROWS: usize = SCOPE_ROWS * MOST_RULES;
 
 pub const MOST_INTERFACES_8: u8 = MOST_INTERFACES as u8;
 
+pub const MOST_MEMBERS_8: u8 = MOST_MEMBERS as u8;
+
 pub const NO_MEMBER_8: u8 = NO_MEMBER as u8;
 
 pub const MOST_ENTITIES_8: u8 = MOST_ENTITIES as u8;
@@ -101,3 +103,11 @@ pub const MEMBER_ROWS_16: u16 = MEMBER_ROWS as u16;
 pub const ENTITY_ROWS_16: u16 = ENTITY_ROWS as u16;
 
 pub const RULE_ROWS_16: u16 = RULE_ROWS as u16;
+
+pub const MOST_MEMBERS_32: u32 = MOST_MEMBERS as u32;
+
+pub const INTERFACE_ROWS_32: u32 = INTERFACE_ROWS as u32;
+
+pub const MEMBER_ROWS_32: u32 = MEMBER_ROWS as u32;
+
+pub const ENTITY_ROWS_32: u32 = ENTITY_ROWS as u32;

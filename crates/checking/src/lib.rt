@@ -33,7 +33,7 @@ pub use interfaces::interface_faults;
 pub use names::{Span, entity_name, entity_span};
 pub use resolver::resolve;
 pub use rules::rule_faults;
-pub use table::{first_of, member_kind, member_sort, row};
+pub use table::{first_of, member_kind, member_sort, name, row, same_name};
 
 // A refusal's code and offset in one number.
 pub fn coded(code: u8, offset: u32) -> u64

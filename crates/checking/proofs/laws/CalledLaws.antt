@@ -7,7 +7,8 @@ use mathlib.Core.List.{List}
 use mathlib.Core.Option.{Option, none, some}
 use Rattle.std.specs.Prelude as code
 use Rattle.std.specs.Prelude.{Some, None, IfSome, unwrap_or, is_some, is_none, min}
-use lib.ListN.{length, get_or, get_elem?}
+use lib.ListN.{length, get_or, get_elem?, drop}
+use Rattle.std.proofs.Common.{get_or-drop}
 use Rattle.values.specs.definitions.Bytes.{same_bytes}
 use Rattle.text.specs.definitions.Tokens.{Token}
 use Rattle.text.specs.definitions.Syntax.{Name, Member, Interface, Entity, File}
@@ -206,6 +207,10 @@ row_interface {d = d} w few e x s =
         → get_elem? w.file.interfaces (number_or 16 o) ≡ item_of o
     go none q = number_beyond w.file.interfaces 16 few
     go (some r) q = found_at (λ (i : Interface). i.name) x.interface.bytes w.file.interfaces q
+
+-- a row of the directory, read from the rows after the first ones
+pub item_row : (d : List ℕ) (base k : ℕ) {rows : List ℕ} {at : ℕ} → rows ≡ drop base d → at ≡ get_or rows k 0 → at ≡ get_or d (base + k) 0
+item_row d base k e a = a ∙ ap (λ l. get_or l k 0) e ∙ get_or-drop base d k 0
 
 -- what the loop over the items needs
 pub ruleset items_passed = (passed_none, passed_all, passed_here, passed_on)
