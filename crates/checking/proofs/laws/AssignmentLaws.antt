@@ -11,7 +11,7 @@ use borrow.Author.Tests.{eq-eqb, ne_eqb}
 use Rattle.values.specs.definitions.Bytes.{same_bytes}
 use Rattle.values.specs.declared.Kind.{Kind}
 use Rattle.values.specs.definitions.Fitting.{kinds_fit}
-use Rattle.text.specs.definitions.Tokens.{Token, NAME, WHOLE_NUMBER, REAL_NUMBER, ATTRIBUTE, WHOLE, BOOL, REAL, MINUS}
+use Rattle.text.specs.definitions.Tokens.{Token, NAME, ATTRIBUTE, MINUS}
 use Rattle.text.specs.definitions.Syntax.{Name, Sort, attribute, event, action, Member, Interface, literal_kind, Assignment}
 use Rattle.text.specs.definitions.Grammar.{assignment_after}
 use Rattle.checking.specs.definitions.Faults.{fault_unless, earliest}
@@ -19,7 +19,7 @@ use Rattle.checking.specs.inner_contracts.FoundFaults.{Found, found_as}
 use Rattle.checking.specs.definitions.Scope.{Indexed as Numbered, here_or_later, look_up, is_found, is_attribute, member_named}
 use Rattle.checking.specs.definitions.NameFaults.{is_of_sort, member_faults}
 use Rattle.checking.specs.definitions.KindFaults.{kind_if_found, member_kind, assignment_kind_faults}
-use Rattle.checking.specs.inner_contracts.Directory.{name_in, ColumnsOf, Named, Bench, sort_class, kind_class, number_or, member_number}
+use Rattle.checking.specs.inner_contracts.Directory.{name_in, ColumnsOf, Named, Bench, sort_class, number_or, member_number}
 use Rattle.checking.specs.inner_contracts.DirectoryReads.{Few, MemberPart}
 use Rattle.checking.specs.inner_contracts.Kinds.{literal_class}
 use Rattle.checking.specs.inner_contracts.Sequences.{Sequence}

@@ -1,7 +1,7 @@
 -- The check's answer from that of `read` and the judgement of the file.
 use Prim.Native.Nat.{ℕ, ◌≤◌, ◌<◌}
 use native.Mathlib.Omega.{arith}
-use mathlib.Core.Path.{◌≡◌, refl, sym, ap, ◌∙◌, subst}
+use mathlib.Core.Path.{◌≡◌, refl, sym, ap, ◌∙◌}
 use mathlib.Core.Bool.{Bool, true, false, true≢false}
 use mathlib.Core.List.{List}
 use mathlib.Core.Option.{none, some}
@@ -25,7 +25,7 @@ use Rattle.std.specs.Prelude.{Some, None}
 use Rattle.checking.specs.declared.check.CheckError.TheVariants.{Refused, NoRoom}
 use Rattle.checking.specs.declared.faults.Fault.{Fault}
 use Rattle.checking.specs.inner_contracts.FoundFaults.{Found, found_as}
-use Rattle.checking.specs.definitions.Verdict.{refused_at, accepted, refused_by, MOST_BYTES, verdict, verdict_answer}
+use Rattle.checking.specs.definitions.Verdict.{accepted, refused_by, MOST_BYTES, verdict, verdict_answer}
 use Rattle.checking.specs.inner_contracts.Directory.{DIRECTORY, ColumnsOf}
 use Rattle.checking.specs.inner_contracts.FileWalk.{Columned, Judged}
 use Rattle.checking.specs.inner_contracts.CheckedBench.{ValuesOf, Checked, checked_answer, Accepts, Says, has_room, check_answer, Checks}

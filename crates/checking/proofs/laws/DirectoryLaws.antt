@@ -1,5 +1,5 @@
 -- What the columns and the directory say of a file: names by their rows, numbers by names, a member's sort and kind.
-use Prim.Native.Nat.{ℕ, zero, suc, ◌+◌, ◌-◌, ◌*◌, ◌≤◌, ◌<◌}
+use Prim.Native.Nat.{ℕ, zero, suc, ◌+◌, ◌-◌, ◌≤◌, ◌<◌}
 use native.Mathlib.Nat.{add-zero}
 use native.Mathlib.Omega.{arith}
 use mathlib.Core.Path.{◌≡◌, refl, sym, ap, ◌∙◌}
@@ -11,24 +11,12 @@ use lib.Seq.{take_all, take-nil}
 use Rattle.values.specs.definitions.Bytes.{same_bytes}
 use Rattle.text.specs.definitions.Tokens.{Token}
 use Rattle.values.specs.declared.Kind.{Kind}
-use Rattle.text.specs.definitions.Syntax.{Name, Member, Interface, Entity}
+use Rattle.text.specs.definitions.Syntax.{Name, Member, Interface}
 use Rattle.text.specs.definitions.Grammar.{name_of}
 use Rattle.text.proofs.laws.ListLaws.{none_some}
 use Rattle.checking.specs.definitions.Scope.{Indexed, here_or_later, look_up}
-use Rattle.checking.specs.inner_contracts.Directory.{
-  name_in,
-  ColumnsOf,
-  Named,
-  Bench,
-  sort_class,
-  kind_class,
-  number_or,
-  interface_number,
-  entity_number,
-  member_number,
-  member_row,
-}
-use Rattle.checking.specs.inner_contracts.DirectoryReads.{first_number, is_named, FirstNamed, NumberOf, FewMembers, MemberRow, MemberPart}
+use Rattle.checking.specs.inner_contracts.Directory.{name_in, ColumnsOf, Named, Bench, sort_class, kind_class, number_or, member_row}
+use Rattle.checking.specs.inner_contracts.DirectoryReads.{first_number, MemberRow, MemberPart}
 
 -- ---- items by their numbers
 

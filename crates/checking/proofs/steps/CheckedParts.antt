@@ -1,14 +1,13 @@
 -- What the check gives of an expression, a condition or a call, from what it gives of the parts.
 use Prim.Native.Nat.{ℕ}
 use mathlib.Core.Path.{◌≡◌, refl, sym, ap, ap₂, ◌∙◌}
-use mathlib.Core.Bool.{Bool, false}
+use mathlib.Core.Bool.{Bool}
 use mathlib.Core.List.{List, [], ◌++◌, append_assoc}
 use mathlib.Core.Option.{Option, some}
 use Rattle.std.specs.Prelude as code
 use Rattle.values.specs.declared.Kind.{Kind}
 use Rattle.values.specs.declared.Kind.TheVariants.{Wholes}
 use Rattle.values.specs.definitions.Fitting.{number_kind, operand_fits, operands_fit, kinds_fit}
-use Rattle.text.specs.definitions.Syntax.{Expression, to_real}
 use Rattle.std.specs.Prelude.{Some, None}
 use Rattle.checking.specs.declared.expressions.Kinded.{Kinded}
 use Rattle.checking.specs.declared.faults.Faults.{Faults}
@@ -16,10 +15,9 @@ use Rattle.checking.specs.declared.conditions.Part.{Part}
 use Rattle.checking.specs.definitions.Faults.{Fault, fault_unless, earliest}
 use Rattle.checking.specs.inner_contracts.FoundFaults.{Found, found_as, merged}
 use Rattle.checking.specs.inner_contracts.Kinds.{kind_as, real_of, number_of, operated_of}
-use Rattle.checking.specs.definitions.Scope.{Scope}
 use Rattle.checking.specs.definitions.NameFaults.{expression_name_faults}
 use Rattle.checking.specs.definitions.KindFaults.{kind_of, expression_kind_faults, matched_kind_faults}
-use Rattle.checking.specs.inner_contracts.RuleParts.{ExpressionChecked, LiteralChecked, RealChecked, NegatedChecked, AppliedChecked, NothingFound, Matched, After, Joined}
+use Rattle.checking.specs.inner_contracts.RuleParts.{LiteralChecked, RealChecked, NegatedChecked, AppliedChecked, NothingFound, Matched, After, Joined}
 use Rattle.checking.proofs.laws.FaultLaws.{earliest_append}
 use Rattle.checking.proofs.laws.KindLaws.{real_fits, real_bound, number_bound, operated_bound}
 

@@ -1,7 +1,7 @@
 -- The walk over the interfaces of a file: their names, and the names of each one's members.
 use Prim.Native.Nat.{ℕ, ◌+◌, ◌*◌, ◌≤◌, ◌<◌}
 use native.Mathlib.Omega.{arith}
-use mathlib.Core.Path.{◌≡◌, ◌∙◌}
+use mathlib.Core.Path.{◌≡◌}
 use mathlib.Core.List.{List, ◌++◌, map, flat_map}
 use mathlib.Core.Option.{Option}
 use Rattle.std.specs.Prelude.{min}

@@ -8,7 +8,6 @@ use mathlib.Core.List.{List, [], ◌∷◌, ◌++◌, map}
 use mathlib.Core.Option.{Option, none, some}
 use Rattle.std.specs.Prelude as code
 use Rattle.std.specs.Prelude.{Bool, Some, None, IfSome, unwrap_or, is_none}
-use lib.Dec.{eqb}
 use lib.ListN.{length, length-map, get_or, get_elem?, take, drop, drop_of_length-le}
 use lib.Seq.{length-take-le}
 use Rattle.text.specs.definitions.Syntax.{Name}

@@ -14,7 +14,7 @@ use Rattle.values.specs.definitions.Bytes.{same_bytes}
 use Rattle.text.specs.definitions.Tokens.{END, COLON}
 use Rattle.text.specs.definitions.Syntax.{Name}
 use Rattle.text.proofs.laws.WalkLaws.{class_inside}
-use Rattle.std.specs.Prelude.{Some, None}
+use Rattle.std.specs.Prelude.{None}
 use Rattle.checking.specs.definitions.Faults.{fault_unless, earliest}
 use Rattle.checking.specs.inner_contracts.FoundFaults.{Found, found_as, merged}
 use Rattle.checking.specs.definitions.Scope.{Indexed as Numbered, here_or_later, look_up, is_found}

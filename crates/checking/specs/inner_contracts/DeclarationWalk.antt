@@ -4,7 +4,7 @@ use mathlib.Core.List.{List, ◌++◌, map, flat_map}
 use Rattle.std.proofs.Math.Option.{some}
 use Rattle.std.proofs.Math.ListN.{get_elem?}
 use Rattle.text.specs.definitions.Tokens.{Token, NAME, BRACE_CLOSE, MINUS}
-use Rattle.text.specs.definitions.Syntax.{Name, Member, Interface, literal_kind, Assignment, Entity, File}
+use Rattle.text.specs.definitions.Syntax.{Name, literal_kind, Assignment, Entity, File}
 use Rattle.text.specs.definitions.Grammar.{assignment_after}
 use Rattle.checking.specs.inner_contracts.DirectoryItems.{ItemsOf}
 use Rattle.checking.specs.declared.faults.Faults.{Faults}
@@ -14,7 +14,7 @@ use Rattle.checking.specs.inner_contracts.FoundFaults.{Found, found_as}
 use Rattle.checking.specs.definitions.Scope.{look_up, is_found, is_attribute}
 use Rattle.checking.specs.definitions.NameFaults.{again_faults, member_faults, interface_name_faults, unset_faults, entity_name_faults}
 use Rattle.checking.specs.definitions.KindFaults.{assignment_kind_faults, entity_kind_faults}
-use Rattle.checking.specs.inner_contracts.Directory.{name_in, ColumnsOf, Named, NO_MEMBER, member_number, ENTITY_COUNT_ROW, ENTITY_INTERFACE_ROWS, DIRECTORY, DirectoryOf, Bench}
+use Rattle.checking.specs.inner_contracts.Directory.{name_in, ColumnsOf, Named, member_number, ENTITY_COUNT_ROW, ENTITY_INTERFACE_ROWS, DIRECTORY, DirectoryOf, Bench}
 use Rattle.checking.specs.definitions.CountFaults.{MOST_RULES}
 use Rattle.checking.specs.inner_contracts.DirectoryReads.{Few}
 use Rattle.checking.specs.inner_contracts.Kinds.{literal_class}

@@ -1,6 +1,6 @@
 -- What is found so far, with what is left to scan, is what all has.
 use Rattle.checking.proofs.steps.CountScanLaws.{Ruling}
-use Rattle.std.proofs.Common.{length, ◌-◌}
+use Rattle.std.proofs.Common.{length}
 use Rattle.checking.proofs.counts.rule_fault.Given as goal
 
 abbrev pub invariant-loop-i : goal.invariant-loop-i

@@ -1,5 +1,5 @@
 -- No token that the loop has passed is of the class.
-use Rattle.std.proofs.Common.{get_or, length, max, ℕ, ◌-◌, ◌<◌, ◌≡◌, ◌≤◌}
+use Rattle.std.proofs.Common.{get_or, length, max, ℕ, ◌<◌, ◌≡◌, ◌≤◌}
 use Rattle.checking.proofs.table.first_of.Given as goal
 
 abbrev pub invariant-loop-i : goal.invariant-loop-i
