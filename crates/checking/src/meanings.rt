@@ -9,7 +9,7 @@ use crate::columns::Columns;
 use crate::faults::{Fault, FaultKind, earlier, unless};
 use crate::layout::{ENTITY_INTERFACE_ROWS, INTERFACE_COUNT_ROW, NO_INTERFACE};
 use text::classes::{ACTION, COLON, END, EVENT, NAME};
-use text::walks::skip;
+use text::walks::{class_at, skip};
 use values::Kind;
 
 /// A member by its name: its kind, if it is there, and what is at fault in the name.
@@ -35,9 +35,10 @@ pub fn declares(columns: &Columns<'_>, class: u8, n: usize, i: usize) -> bool
 pub fn declaration(columns: &Columns<'_>, start: usize, i: usize) -> usize
     ensures { of_tokens Declaration columns.now start i result }
 {
-    let size = columns.classes.len();
+    let classes = columns.classes;
+    let size = classes.len();
     for n in start..size {
-        let class = columns.class_at(n + 1);
+        let class = class_at(classes, n + 1);
         if class == END {
             return size;
         }

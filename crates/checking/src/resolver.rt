@@ -39,13 +39,14 @@ pub struct Variables {
 fn variable_reference(columns: &Columns<'_>, start: usize, i: usize) -> u16
     ensures { of_tokens VariableReference columns.now start i result }
 {
-    let size = columns.classes.len();
+    let classes = columns.classes;
+    let size = classes.len();
     let mut k = FIRST_VARIABLE_16;
     for n in start..size {
         if NO_REFERENCE <= k {
             return NO_REFERENCE;
         }
-        let class = columns.class_at(n + 1);
+        let class = class_at(classes, n + 1);
         if class == LAST {
             return NO_REFERENCE;
         }
