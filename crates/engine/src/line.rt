@@ -5,7 +5,7 @@ ghost use Rattle.senders.specs.definitions.Fingerprint.{fingerprint};
 ghost use Rattle.senders.specs.definitions.StateImage;
 ghost use Rattle.engine.specs.definitions.Calls;
 ghost use Rattle.engine.specs.definitions.Calls.{line_on_bench};
-ghost use Rattle.engine.specs.inner_contracts.LineMemory.{Standing, ShortRow, RecordTaken, after_line};
+ghost use Rattle.engine.specs.inner_contracts.LineMemory.{Standing, StandingForAny, ShortRow, RecordTaken, after_line};
 
 use crate::refusal::Refusal;
 use cycles::Rules;
@@ -24,7 +24,7 @@ pub fn take_record(
 ) -> Result<usize, Refusal>
     requires { (StateImage.STATE ≤ length state.old) × (Calls.ROW ≤ length row.old) }
     ensures short { ShortRow result }
-    ensures taken { Standing rules.now (λ text. RecordTaken text header.now.columns.now (length header.now.columns.now) values.now state.old row.old state.new row.new result) }
+    ensures taken { StandingForAny rules.now (λ text. RecordTaken text header.now.columns.now (length header.now.columns.now) values.now state.old row.old state.new row.new result) }
 {
     match advance(rules, header, values, state)? {
         Turn::New { place, .. } => Ok(show_place(&rules.columns, state, place, row)),

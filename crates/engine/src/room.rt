@@ -3,12 +3,14 @@ ghost use Rattle.std.specs.Prelude.{ℕ, true, false, ◌≡◌, ◌≤◌, ◌<
 ghost use Rattle.text.specs.inner_contracts.TokenTable.{columns_of};
 ghost use Rattle.checking.specs.inner_contracts.CheckedBench.{has_room};
 ghost use Rattle.checking.specs.inner_contracts.FoundFaults.{fault_code};
+ghost use Rattle.cycles.specs.inner_contracts.Bundles.{of_bench};
 ghost use Rattle.cycles.specs.inner_contracts.HeaderReads;
 ghost use Rattle.cycles.specs.inner_contracts.ReadSets;
 ghost use Rattle.checking.specs.definitions.Verdict;
 ghost use Rattle.checking.specs.definitions.Verdict.{verdict, accepted_file, refused_at};
 ghost use Rattle.senders.specs.definitions.Fingerprint.{fingerprint};
 ghost use Rattle.senders.specs.definitions.StateImage;
+ghost use Rattle.senders.specs.inner_contracts.Advancing.{ResolvedBench as Resolved};
 ghost use Rattle.days.specs.definitions.DaySheet.{sheet_size};
 ghost use Rattle.engine.specs.definitions.BenchImage;
 ghost use Rattle.engine.specs.definitions.Calls;
@@ -116,6 +118,23 @@ impl<'a> AcceptedBench<'a> {
         Ok(show(columns, state, sender, row))
     }
 
+    /// Are both memories states of the bench? Else they are refused.
+    pub fn check_states(&self, before: &[u8], after: &[u8]) -> Result<(), Refusal>
+        requires { (StateImage.STATE ≤ length before.now) × (StateImage.STATE ≤ length after.now) }
+        ensures { MatchResult result (λ _. (InState self.now before.now true) × InState self.now after.now true)
+            (λ e. (e ≡ refused.NoState) × ((InState self.now before.now false) ⊎ ((InState self.now before.now true) × InState self.now after.now false))) }
+    {
+        let AcceptedBench { columns, .. } = self;
+        let print = fingerprint(columns.text);
+        if !is_state(columns, print, before) {
+            return Err(Refusal::NoState);
+        }
+        if !is_state(columns, print, after) {
+            return Err(Refusal::NoState);
+        }
+        Ok(())
+    }
+
     /// Resolves the names of the rules.
     #[tactic(auto, using(crate::proofs::laws::ServingLaws::rules_stand))]
     pub fn resolve(self) -> ResolvedBench<'a>
@@ -140,6 +159,14 @@ impl<'a> AcceptedBench<'a> {
 }
 
 impl<'a> ResolvedBench<'a> {
+    /// The bench of columns in which an accepted and resolved text stands.
+    pub fn new(rules: Rules<'a>) -> Self
+        requires { of_bench Resolved rules }
+        ensures { result ≡ rules.entry.columns.text.now }
+    {
+        ResolvedBench { rules }
+    }
+
     /// Writes the row of names: its length.
     pub fn put_header(&self, row: &mut [u8]) -> usize
         requires { Calls.ROW ≤ length row.old }
@@ -279,9 +306,9 @@ impl<const N: usize> Room<N> {
     }
 }
 
-// The bench that a text is, by its columns.
+/// The bench that a text is, by its columns in lent memory, or why it is none.
 #[tactic(auto, using(crate::proofs::laws::ServingLaws::text_stands, crate::proofs::laws::ServingLaws::text_refused))]
-fn read_into<'a>(
+pub fn read_into<'a>(
     text: &'a [u8],
     classes: &'a mut [u8],
     offsets: &'a mut [u16],

@@ -48,7 +48,7 @@ pub trait Call {
 }
 
 /// Checks a text and writes its image.
-#[derive(Drop)]
+#[derive(Clone, Copy)]
 pub struct Check;
 
 impl Call for Check {
@@ -72,7 +72,7 @@ impl Call for Check {
 }
 
 /// Writes the fresh state.
-#[derive(Drop)]
+#[derive(Clone, Copy)]
 pub struct Fresh;
 
 impl Call for Fresh {
@@ -96,7 +96,7 @@ impl Call for Fresh {
 }
 
 /// Takes a line: a header and a record.
-#[derive(Drop)]
+#[derive(Clone, Copy)]
 pub struct Line<'a> {
     pub names: &'a [u8],
     pub values: &'a [u8],
@@ -124,7 +124,7 @@ impl<'a> Call for Line<'a> {
 }
 
 /// Writes the row of names.
-#[derive(Drop)]
+#[derive(Clone, Copy)]
 pub struct Header;
 
 impl Call for Header {
@@ -147,7 +147,7 @@ impl Call for Header {
 }
 
 /// Writes the row that a state keeps for a sender.
-#[derive(Drop)]
+#[derive(Clone, Copy)]
 pub struct Row<'a> {
     pub state: &'a [u8],
     pub sender: &'a [u8],
@@ -173,7 +173,7 @@ impl<'a> Call for Row<'a> {
 }
 
 /// Writes the day sheet of readings, run on from a state that stays.
-#[derive(Drop)]
+#[derive(Clone, Copy)]
 pub struct Sheet<'a> {
     pub state: &'a [u8],
     pub readings: &'a [u8],

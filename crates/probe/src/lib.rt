@@ -15,7 +15,7 @@ use cycles::quiescence::tried_rules;
 use cycles::{Rules, Store, Stores};
 use engine::bench::text_of;
 use engine::refusal::{Refusal, answer, room_for};
-use engine::room::{ResolvedBench, Room};
+use engine::room::{AcceptedBench, Room};
 use senders::layout::{HEAD_BYTES, STATE};
 use values::put_word;
 
@@ -51,18 +51,18 @@ fn tried_between(rules: &Rules<'_>, before: &[u8], after: &[u8]) -> u64
 }
 
 // Puts the set of a bench, or refuses memory that is no state of it.
-#[tactic(auto, using(crate::proofs::steps::TriedSteps::none_before, crate::proofs::steps::TriedSteps::none_after))]
+#[tactic(auto, using(crate::proofs::steps::TriedSteps::not_both))]
 fn put_tried(
-    bench: &ResolvedBench<'_>,
+    bench: AcceptedBench<'_>,
     before: &[u8],
     after: &[u8],
     tried: &mut [u8],
 ) -> Result<usize, Refusal>
     requires { (StateImage.STATE ≤ length before.now) × (StateImage.STATE ≤ length after.now) × (Tried.SET_BYTES ≤ length tried.old) }
-    ensures { record { answer = answer_of result; tried = tried.new } ≡ tried_in_text bench.now before.now after.now tried.old }
+    ensures { record { answer = answer_of result; tried = tried.new } ≡ tried_in_text bench.entry before.now after.now tried.old }
 {
-    bench.check_state(before)?;
-    bench.check_state(after)?;
+    bench.check_states(before, after)?;
+    let bench = bench.resolve();
     let set = tried_between(bench.rules(), before, after);
     put_word(tried, 0, set);
     Ok(0)
@@ -81,7 +81,7 @@ fn put_for_text(
 {
     let mut room = Room::<MOST_BYTES>::new();
     match room.read(text) {
-        Ok(bench) => put_tried(&bench.resolve(), before, after, tried),
+        Ok(bench) => put_tried(bench, before, after, tried),
         Err(_) => Err(Refusal::NoBench),
     }
 }

@@ -257,13 +257,17 @@ pub state_told : {text classes d state : List ℕ} {print : ℕ} {is t : Bool} �
 state_told {text} {state = state} p tests q {offsets} {lengths} b =
     ap (λ (k : ℕ). is_state k b.bench.file state) (sym p) ∙ sym (tests.is text offsets lengths b.bench b.few) ∙ q
 
+pub checked_in_state : {text classes offsets lengths literals d state : List ℕ} (b : CheckedBench text classes offsets lengths literals d)
+    {print : ℕ} {is t : Bool} → print ≡ fingerprint text → StateTest print classes d state is → is ≡ t → InState text state t
+checked_in_state {text} b p tests q = record {
+  file = b.bench.file;
+  accepted = accepted_is_file text b.accepts;
+  told = state_told p tests q b;
+}
+
 pub in_state : {text classes offsets lengths literals d refs scopes state : List ℕ} (b : ResolvedBench text classes offsets lengths literals d refs scopes)
     {print : ℕ} {is t : Bool} → print ≡ fingerprint text → StateTest print classes d state is → is ≡ t → InState text state t
-in_state {text} b p tests q = record {
-  file = b.checked.bench.file;
-  accepted = accepted_is_file text b.checked.accepts;
-  told = state_told p tests q b.checked;
-}
+in_state b = checked_in_state b.checked
 
 -- on memory that is no state, and on one that is: under no header, and under one
 pub line_no_state : {text state : List ℕ} → InState text state false → (names values w : List ℕ)

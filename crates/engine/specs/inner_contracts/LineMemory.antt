@@ -27,6 +27,11 @@ ShortRow (Ok n) = n ≤ ROW
 abbrev pub Standing : Rules → (List ℕ → Type 0) → Type 0
 Standing r p = of_bench ResolvedBench r → p r.columns.text.now
 
+-- what holds of every text that has in its columns what is lent of the rules, with its names resolved, wherever its tokens stand
+abbrev pub StandingForAny : Rules → (List ℕ → Type 0) → Type 0
+StandingForAny r p = (text offsets lengths : List ℕ)
+    → ResolvedBench text r.columns.classes.now offsets lengths r.literals.now r.columns.d.now r.references.now r.scopes.now → p text
+
 abbrev pub after_line : Result ℕ Refusal → List ℕ → List ℕ → AfterLine
 after_line r state row = record { answer = answer_of r; state = state; row = row }
 

@@ -4,6 +4,7 @@ use native.Mathlib.Omega.{arith}
 use mathlib.Core.Path.{◌≡◌, sym, ap, ◌∙◌, subst}
 use mathlib.Core.Bool.{Bool, true, false, not}
 use mathlib.Core.List.{List, ◌++◌}
+use mathlib.Core.Logic.{◌⊎◌, inl, inr}
 use mathlib.Core.Option.{some}
 use lib.ListN.{length, get_or, take, drop, length-drop}
 use lib.Seq.{drop-drop}
@@ -119,6 +120,16 @@ module _ {text before : List ℕ} where
         )
         (ap (λ (m : List ℕ). record { answer = 0; tried = m })
         (e ∙ overwritten_parts tried 0 (low_first 8 set) room ∙ ap (λ (k : ℕ). low_first 8 k ++ drop 8 tried) s))
+
+-- the rules of a bench are those of its text
+pub lent_of : {bench text : List ℕ} {rules : Rules} → bench ≡ text → RulesLent bench rules → RulesLent text rules
+lent_of e lent = record { text_is = lent.text_is ∙ e; resolved = lent.resolved }
+
+-- one of the two is none
+pub not_both : {text before after : List ℕ} → (InState text before false) ⊎ ((InState text before true) × InState text after false)
+    → (tried : List ℕ) → record { answer = 33; tried = tried } ≡ tried_in_text text before after tried
+not_both (inl i) tried = none_before i _ tried
+not_both (inr (i, j)) tried = none_after i j tried
 
 -- ---- a text that is refused
 

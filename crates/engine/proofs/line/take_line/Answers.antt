@@ -13,4 +13,4 @@ returns-in-None-clause-taken c b =
 pub returns-in-Some-clause-taken : goal.returns-in-Some-clause-taken
 returns-in-Some-clause-taken c b =
     line_of_record (in_state b c.fingerprint.ensures c.is_state.ensures c.if-not-is_state.false) (header_read b c.in-Some.ensures.1 c.in-Some.ensures.0)
-    (c.take_record.ensures.taken b)
+    (c.take_record.ensures.taken _ _ _ b)
