@@ -3,3 +3,4 @@ pub mod GatheringLaws
 pub mod FeedingLaws
 pub mod LineLaws
 pub mod StartLaws
+pub mod ResumeLaws

@@ -4,18 +4,24 @@
 
 pub mod rows; // what a line prints
 
-ghost use Rattle.std.specs.Prelude.{◌≡◌, ◌≤◌, ◌<◌, ◌⊎◌, length, eqb, MatchOption, MatchResult};
+ghost use Rattle.std.specs.Prelude.{ℕ, List, true, ◌≡◌, ◌≤◌, ◌<◌, ◌⊎◌, length, eqb, MatchOption, MatchResult};
 ghost use Rattle.std.specs.List.{position};
+ghost use Rattle.text.specs.inner_contracts.TokenTable.{columns_of};
 ghost use Rattle.checking.specs.definitions.Verdict;
+ghost use Rattle.checking.specs.inner_contracts.CheckedBench.{has_room};
 ghost use Rattle.cycles.specs.definitions.Readings.{PartOfLine};
 ghost use Rattle.cycles.specs.inner_contracts.HeaderReads;
+ghost use Rattle.cycles.specs.inner_contracts.ReadSets;
+ghost use Rattle.senders.specs.definitions.StateImage;
 ghost use Rattle.engine.specs.definitions.Calls;
+ghost use Rattle.replay.specs.inner_contracts.Awaiting.{memory_of, Stood};
 ghost use Rattle.replay.specs.inner_contracts.Feeding;
-ghost use Rattle.replay.specs.inner_contracts.Feeding.{Kept, Gathers, LineGathered, HeaderTaken, NamesRefused, LinePut, Fed, Finished, Started, BenchRefused, is_over, is_closed};
+ghost use Rattle.replay.specs.inner_contracts.Feeding.{Kept, Gathers, LineGathered, HeaderTaken, NamesRefused, LinePut, Fed, Finished, ReadAs, Started, BenchRefused, Resumed, is_over, is_closed};
 
+use checking::Fault;
 use cycles::layout::{MOST_COLUMNS, MOST_HEADER_BYTES, MOST_ROW_BYTES};
 use engine::refusal::Refusal;
-use engine::room::{AcceptedBench, ResolvedBench, Room};
+use engine::room::{AcceptedBench, ResolvedBench, Room, read_into};
 use rows::{end_row, put_bench_refusal};
 use senders::layout::STATE;
 use std::marker::Model;
@@ -75,7 +81,38 @@ pub fn start<'a, const N: usize>(
     requires room { Feeding.ROOM ≤ length out.old }
     ensures { MatchResult result (Started text.now) (BenchRefused text.now out.new) }
 {
-    match room.read(text) {
+    begin(room.read(text), out)
+}
+
+/// The same over columns of the caller's, of whatever lengths there is room in for the text.
+pub fn start_in<'a>(
+    text: &'a [u8],
+    classes: &'a mut [u8],
+    offsets: &'a mut [u16],
+    lengths: &'a mut [u8],
+    literals: &'a mut [u32],
+    directory: &'a mut [u16],
+    references: &'a mut [u16],
+    scopes: &'a mut [u8],
+    out: &mut [u8],
+) -> Result<Replay<'a>, usize>
+    requires columns { has_room text.now (columns_of classes.old offsets.old lengths.old literals.old) directory.old ≡ true }
+    requires to_resolve { (length classes.old ≤ length references.old) × (ReadSets.SCOPES_BYTES ≤ length scopes.old) }
+    requires room { Feeding.ROOM ≤ length out.old }
+    ensures { MatchResult result (Started text.now) (BenchRefused text.now out.new) }
+{
+    let read = read_into(
+        text, classes, offsets, lengths, literals, directory, references, scopes,
+    );
+    begin(read, out)
+}
+
+// Starts the bench that a text was read as; or puts why it is none.
+fn begin<'a>(read: Result<AcceptedBench<'a>, Fault>, out: &mut [u8]) -> Result<Replay<'a>, usize>
+    requires { Feeding.ROOM ≤ length out.old }
+    ensures { (text : List ℕ) → ReadAs text read.entry → MatchResult result (Started text) (BenchRefused text out.new) }
+{
+    match read {
         Ok(bench) => Ok(Replay::new(bench)),
         Err(fault) => Err(put_bench_refusal(out, fault.kind.code(), fault.at)),
     }
@@ -120,6 +157,68 @@ impl<'a> Replay<'a> {
             kept: 0,
             state,
         }
+    }
+
+    /// A bench that awaits what the caller's memory stands for, as at a state that was stored: at the stage, under the numbers of a header's columns,
+    /// with the bytes of a line that wait for its end. All of it is copied, as much as there is room for.
+    pub fn resume(
+        bench: ResolvedBench<'a>,
+        stage: Stage,
+        columns: &[u16],
+        waiting: &[u8],
+        state: &[u8],
+    ) -> Self
+        requires columns_room { HeaderReads.MOST_COLUMNS ≤ length columns.now }
+        requires state_room { StateImage.STATE ≤ length state.now }
+        requires stood { Stood (memory_of bench stage columns.now waiting.now state.now) }
+        ensures { Resumed (memory_of bench.entry stage columns.now waiting.now state.now) result }
+    {
+        let mut numbers = [0; MOST_COLUMNS];
+        numbers.copy_from_slice(&columns[..MOST_COLUMNS]);
+        let mut image = [0; STATE];
+        image.copy_from_slice(&state[..STATE]);
+        let mut replay = Replay {
+            bench,
+            stage,
+            columns: numbers,
+            line: [0; LINE],
+            kept: 0,
+            state: image,
+        };
+        replay.keep(waiting);
+        replay
+    }
+
+    /// What is awaited.
+    pub fn stage(&self) -> Stage
+        ensures { result ≡ self.now.stage }
+    {
+        self.stage
+    }
+
+    /// The numbers of the header's columns, and room for more.
+    pub fn columns(&self) -> &[u16]
+        ensures is { result.now ≡ self.now.columns }
+        ensures room { length result.now ≡ HeaderReads.MOST_COLUMNS }
+    {
+        &self.columns
+    }
+
+    /// The bytes of a line that wait for its end, as many as there is room for.
+    pub fn waiting(&self) -> &[u8]
+        ensures is { result.now ≡ self.now.waiting }
+        ensures short { length result.now ≤ Feeding.LINE }
+        ensures part { PartOfLine result.now }
+    {
+        &self.line[..self.kept]
+    }
+
+    /// The state.
+    pub fn state(&self) -> &[u8]
+        ensures is { result.now ≡ self.now.state }
+        ensures room { length result.now ≡ StateImage.STATE }
+    {
+        &self.state
     }
 
     // Keeps more bytes of the line, as many as there is room for: a line that fills the room is too long, whatever follows.
@@ -215,7 +314,8 @@ impl<'a> Replay<'a> {
     /// The text has ended: puts what a last line prints that no line feed ends.
     pub fn finish(&mut self, out: &mut [u8]) -> usize
         requires { Feeding.ROOM ≤ length out.old }
-        ensures { Finished self.old out.new result }
+        ensures printed { Finished self.old out.new result }
+        ensures same { self.new.text ≡ self.old.text }
     {
         if self.is_over() {
             return 0;

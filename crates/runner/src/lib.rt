@@ -35,6 +35,7 @@ fn read_some(file: &mut File, room: &mut [u8]) -> usize
 // Reads until the room is full or the file ends.
 fn read_full(file: &mut File, room: &mut [u8]) -> usize
     ensures in_bounds { result ≤ length room.new }
+    ensures prefix { result ≡ length (take result room.new) }
 {
     let mut done = 0;
     while done < room.len() {
@@ -48,7 +49,9 @@ fn read_full(file: &mut File, room: &mut [u8]) -> usize
 }
 
 // What the file holds, as much as there is room for. A missing file is empty.
-fn load<'a>(rt: &HostRuntime, path: &[u8], room: &'a mut [u8]) -> &'a [u8] {
+fn load<'a>(rt: &HostRuntime, path: &[u8], room: &'a mut [u8]) -> &'a [u8]
+    ensures in_bounds { length result.now ≤ length room.old }
+{
     let Some(mut file) = open_file(rt, path) else {
         return &[];
     };

@@ -6,7 +6,7 @@ use mathlib.Core.Path.{◌≡◌, refl, sym, ap, ◌∙◌, subst}
 use mathlib.Core.List.{List, [], ◌∷◌, ◌++◌, append_assoc, append-nil}
 use mathlib.Core.Bool.{Bool, true, false}
 use mathlib.Core.Option.{Option, none, some}
-use lib.ListN.{length, get_or, take, drop, length-append, length-drop, drop_of_length-le}
+use lib.ListN.{length, take, drop, length-append, length-drop, drop_of_length-le}
 use lib.Seq.{length-take-le, take_all, drop-cons, take-append-add}
 use Rattle.std.proofs.lemmas.List.{drop-drop, take-append-le}
 use Rattle.std.specs.Prelude.{◌==◌}
@@ -14,18 +14,7 @@ use borrow.Author.Tests.{eqb-true, eqb-false}
 use Rattle.text.specs.definitions.Syntax.{File}
 use Rattle.cycles.specs.definitions.Header.{Column, header}
 use Rattle.cycles.specs.definitions.Readings.{PartOfLine}
-use Rattle.replay.specs.inner_contracts.Awaiting.{
-  Awaits,
-  awaited_under,
-  prints,
-  awaited_after,
-  prints_at_end,
-  to_print,
-  left_after,
-  Memory,
-  StandsAt,
-  Stands,
-}
+use Rattle.replay.specs.inner_contracts.Awaiting.{Awaits, awaited_under, prints, awaited_after, prints_at_end, to_print, left_after, Memory, StandsAt}
 use Rattle.replay.specs.inner_contracts.Awaiting.Awaits.{names, values, nothing}
 use Rattle.replay.specs.inner_contracts.Feeding.{Gathers, LineGathered, LinePut, Feeding, Finished, is_over}
 use Rattle.replay.specs.declared.Stage.{Stage}
@@ -46,6 +35,7 @@ room_left out used part h e = e ∙ ap length (rest_is out used) ∙ length-drop
 module _ (m : Memory) (chunk : List ℕ) where
   pub feeding_none : (out : List ℕ) → Feeding m chunk m out 0 0
   feeding_none out = record {
+    same = refl;
     inside = omega arith;
     fits = omega arith;
     still = λ h. refl;
@@ -56,6 +46,7 @@ module _ (m : Memory) (chunk : List ℕ) where
     -- the chunk ends before the line does
     pub feeding_waits : Gathers n (take (length chunk - taken) (drop taken chunk)) (length (take (length chunk - taken) (drop taken chunk))) n2 → Feeding m chunk n2 out (length chunk) used
     feeding_waits g0 = let g : Gathers n (drop taken chunk) (length (drop taken chunk)) n2 = subst (λ (l : List ℕ). Gathers n l (length l) n2) (rest_is chunk taken) g0 in record {
+      same = g.same ∙ f.same;
       inside = omega arith;
       fits = f.fits;
       still = λ h. f.still (let i = f.inside in omega arith);
@@ -79,6 +70,7 @@ module _ (m : Memory) (chunk : List ℕ) where
         → r ≤ length part
         → Feeding m chunk n3 out2 (taken + (end + 1)) (used + r)
     feeding_put {end} l0 {n3} part rest0 {out2} {r} p e fits = record {
+      same = p.same ∙ (l.gathers.same ∙ f.same);
       inside = let i = l.inside in let d = length-drop taken chunk in omega arith;
       fits =
           let z = ap length e ∙ length-append (take used out) (part ++ rest0) in

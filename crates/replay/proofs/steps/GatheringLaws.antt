@@ -4,7 +4,7 @@ use native.Mathlib.Omega.{arith}
 use mathlib.Core.Path.{◌≡◌, refl, sym, ap, ◌∙◌, subst}
 use mathlib.Core.List.{List, [], ◌∷◌, ◌++◌, append_assoc}
 use mathlib.Core.Bool.{Bool, true, false, not}
-use lib.ListN.{length, get_or, take, drop, drop_of_length-le}
+use lib.ListN.{length, get_or, take, drop}
 use lib.Seq.{length-take-le, take_all, take_at, take-append-add}
 use lib.Dec.{eqb, ltb, leb}
 use borrow.Author.Tests.{eqb-true, leb-true, leb-false}
@@ -15,7 +15,7 @@ use Rattle.std.proofs.lemmas.Bool.{ltb-true, ltb-false}
 use Rattle.std.proofs.lemmas.List.{take-append-drop}
 use Rattle.cycles.specs.definitions.Readings.{PartOfLine}
 use Rattle.cycles.proofs.laws.ReadingsLaws.{part_append, part_take}
-use Rattle.replay.specs.inner_contracts.Awaiting.{Awaits, to_print, left_after, Memory, Stands, Stood}
+use Rattle.replay.specs.inner_contracts.Awaiting.{to_print, left_after, Memory, Stood}
 use Rattle.replay.specs.declared.Stage.{Stage}
 use Rattle.replay.specs.inner_contracts.Feeding.{LINE, kept, Kept, Gathers, LineGathered}
 use Rattle.replay.proofs.laws.AwaitingLaws.{print_cut, left_cut}
@@ -57,6 +57,7 @@ module _ {m n : Memory} (chunk : List ℕ) (end : ℕ) (k : Kept m (take end chu
 
   pub gathered : Gathers m chunk end n
   gathered = rw k.is (record {
+    same = refl;
     part = part_take LINE (m.waiting ++ take end chunk) all;
     stands = λ a s. s;
     is = λ a rest. ap (to_print a) (joined_up rest) ∙ print_cut LINE (omega arith) a (m.waiting ++ take end chunk) (drop end chunk ++ rest) all;

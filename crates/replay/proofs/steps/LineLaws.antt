@@ -4,7 +4,6 @@ use native.Mathlib.Numerals.{add-one}
 use native.Mathlib.Omega.{arith}
 use mathlib.Core.Path.{◌≡◌, refl, sym, ap, ◌∙◌, subst}
 use mathlib.Core.List.{List, [], ◌∷◌, ◌++◌, append_assoc}
-use mathlib.Core.Option.{Option, none, some}
 use lib.ListN.{length, take, drop, set, length-append}
 use lib.Seq.{take_at, take-suc-set, take-append_seam}
 use Rattle.values.specs.definitions.Forms.{decimal}
@@ -14,36 +13,20 @@ use Rattle.values.proofs.laws.PutLaws.{put_next, put_same}
 use Rattle.values.proofs.laws.FormLaws.{decimal_most}
 use Rattle.text.specs.definitions.Syntax.{File}
 use Rattle.checking.specs.definitions.Verdict.{accepted_file}
-use Rattle.cycles.specs.definitions.Header.{Column, header}
 use Rattle.cycles.specs.definitions.Readings.{PartOfLine}
 use Rattle.cycles.specs.definitions.Row.{row_header}
 use Rattle.cycles.specs.inner_contracts.HeaderReads.{MOST_COLUMNS, NO_COLUMN}
 use Rattle.senders.specs.definitions.Sender.{State}
 use Rattle.senders.specs.definitions.Line.{line}
-use Rattle.senders.specs.definitions.Follow.{fresh}
 use Rattle.senders.specs.definitions.Turns.{state_after}
-use Rattle.senders.specs.definitions.Fingerprint.{fingerprint}
-use Rattle.senders.specs.definitions.StateImage.{state_of}
 use Rattle.std.specs.Prelude.{Result, Ok, Err, get_or, IfOk, MatchResult}
 use Rattle.engine.specs.definitions.Calls.{ROW, length_answer, line_row, header_on_bench, row_written, with_row, AfterRow}
 use Rattle.engine.specs.declared.refusal.Refusal.{Refusal}
 use Rattle.engine.specs.inner_contracts.Refusals.{code_of}
-use Rattle.engine.specs.inner_contracts.LineMemory.{HeaderRead, NoHeader, RecordTaken, LineTaken, LineTold}
+use Rattle.engine.specs.inner_contracts.LineMemory.{HeaderRead, RecordTaken, LineTold}
 use Rattle.engine.proofs.laws.LineLaws.{length_told}
 use Rattle.replay.specs.definitions.Replay.{REFUSED, refusal, bench_refusal, row_for}
-use Rattle.replay.specs.inner_contracts.Awaiting.{
-  Awaits,
-  names_row,
-  awaited_under,
-  prints,
-  awaited_after,
-  Memory,
-  AtNames,
-  AtValues,
-  StandsAt,
-  Stands,
-  Stood,
-}
+use Rattle.replay.specs.inner_contracts.Awaiting.{Awaits, names_row, awaited_under, prints, awaited_after, Memory, StandsAt, Stood}
 use Rattle.replay.specs.inner_contracts.Awaiting.Awaits.{names, values, nothing}
 use Rattle.replay.specs.inner_contracts.Feeding.{ROOM, Takes, LinePut, ended_row, Ended, HeaderTaken, NamesRefused}
 use Rattle.replay.specs.declared.Stage.{Stage}
@@ -115,6 +98,7 @@ module _ (m : Memory) (part : PartOfLine m.waiting) {out : List ℕ} {r : ℕ} w
     names_refused : {why : Refusal} → NamesRefused m.text m.waiting stage why → Ended (Err why) row out r → LinePut m (after m stage columns m.state) out r
     unfolding prints names_row awaited_after awaited_under
     names_refused {why} n e = record {
+      same = refl;
       short = e.short;
       part = part;
       none_waits = refl;
@@ -134,6 +118,7 @@ module _ (m : Memory) (part : PartOfLine m.waiting) {out : List ℕ} {r : ℕ} w
     names_taken : {n : ℕ} → HeaderTaken m.text m.waiting stage columns row n → Ended (Ok n) row out r → LinePut m (after m stage columns m.state) out r
     unfolding prints names_row awaited_after awaited_under
     names_taken {n} t e = record {
+      same = refl;
       short = e.short;
       part = part;
       none_waits = refl;
@@ -165,6 +150,7 @@ module _ (m : Memory) (part : PartOfLine m.waiting) {out : List ℕ} {r : ℕ} w
       → Ended taken row out r → LinePut m (after m m.stage m.columns new_state) out r
   unfolding prints awaited_after row_for state_after line_row
   values_put {count} at {new_state} {before} {row} {taken} t e = record {
+    same = refl;
     short = e.short;
     part = part;
     none_waits = refl;
@@ -196,6 +182,7 @@ module _ (m : Memory) (part : PartOfLine m.waiting) {out : List ℕ} {r : ℕ} w
 pub nothing_put : (m : Memory) (part : PartOfLine m.waiting) (out : List ℕ) → m.stage ≡ Closed → LinePut m (after m m.stage m.columns m.state) out 0
 unfolding prints awaited_after
 nothing_put m part out at = record {
+  same = refl;
   short = omega arith;
   part = part;
   none_waits = refl;

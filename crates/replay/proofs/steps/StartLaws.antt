@@ -1,10 +1,10 @@
 -- The start: a bench that is refused, and one that is accepted with its fresh state.
 use Prim.Native.Nat.{ℕ, ◌≤◌}
 use native.Mathlib.Omega.{arith}
-use mathlib.Core.Path.{◌≡◌, refl, sym, ap, ◌∙◌}
+use mathlib.Core.Path.{◌≡◌, refl, ap}
 use mathlib.Core.List.{List, [], ◌∷◌, ◌++◌}
 use mathlib.Core.Option.{Option, none, some}
-use lib.ListN.{length, take, length-append}
+use lib.ListN.{length, length-append}
 use Rattle.text.specs.definitions.Syntax.{File}
 use Rattle.checking.specs.definitions.Verdict.{Verdict, verdict, accepted_file}
 use Rattle.checking.proofs.laws.VerdictLaws.{accepted_verdict, file_is_accepted}
@@ -13,7 +13,7 @@ use Rattle.values.specs.inner_contracts.Puts.{Put}
 use Rattle.values.proofs.laws.FormLaws.{decimal_most}
 use Rattle.senders.specs.definitions.Follow.{fresh}
 use Rattle.senders.specs.definitions.Fingerprint.{fingerprint}
-use Rattle.senders.specs.definitions.StateImage.{state_of, with_state}
+use Rattle.senders.specs.definitions.StateImage.{with_state}
 use Rattle.senders.proofs.laws.SoundFollow.{fresh_sound}
 use Rattle.senders.proofs.laws.StateLaws.{state_written}
 use Rattle.senders.proofs.laws.StandsLaws.{fingerprint_below}
@@ -78,4 +78,4 @@ module _ {text resolved state : List ℕ} (same : resolved ≡ text) (b : FreshB
   unfolding opening awaited_first
   started =
       let v = file_is_accepted text b.at_names.accepted in
-      rw same (record { none_waits = refl; opened = rw v; stands = rw v b.at_names })
+      rw same (record { text_is = refl; none_waits = refl; opened = rw v; stands = rw v b.at_names })

@@ -99,6 +99,9 @@ pub record Memory : Type 0 where
   pub waiting : List ℕ
   pub state : List ℕ
 
+abbrev pub memory_of : (text : List ℕ) → Stage → (columns waiting state : List ℕ) → Memory
+memory_of text stage columns waiting state = record { text = text; stage = stage; columns = columns; waiting = waiting; state = state }
+
 pub record AtNames (text : List ℕ) (f : File) (state : List ℕ) : Type 0 where
   pub accepted : accepted_file text ≡ some f
   pub state_is : state_of (fingerprint text) f state ≡ some (fresh f)

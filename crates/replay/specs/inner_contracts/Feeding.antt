@@ -1,11 +1,15 @@
 -- What the parts of a replay over chunks of a text promise: contracts.
-use Rattle.std.specs.Prelude.{ℕ, ◌+◌, ◌≤◌, ◌<◌, ◌≡◌, Bool, true, false, List, [], ◌∷◌, ◌++◌, Result, Ok, Err, eqb, length, get_or, take, drop}
+use Rattle.std.specs.Prelude.{ℕ, ◌+◌, ◌≤◌, ◌<◌, ◌≡◌, Bool, true, false, List, [], ◌∷◌, ◌++◌, Result, Ok, Err, MatchResult, eqb, length, get_or, take, drop}
 use Rattle.std.proofs.Math.Option.{some}
 use Rattle.text.specs.definitions.Syntax.{File}
-use Rattle.checking.specs.definitions.Verdict.{verdict, accepted_file}
+use Rattle.checking.specs.definitions.Verdict.{verdict, accepted_file, refused_at}
+use Rattle.checking.specs.declared.faults.Fault.{Fault}
+use Rattle.checking.specs.inner_contracts.FoundFaults.{fault_code}
 use Rattle.cycles.specs.definitions.Readings.{PartOfLine}
 use Rattle.cycles.specs.definitions.Header.{MOST_HEADER_BYTES}
 use Rattle.cycles.specs.definitions.Row.{MOST_ROW_BYTES, row_header}
+use Rattle.cycles.specs.inner_contracts.HeaderReads.{MOST_COLUMNS}
+use Rattle.senders.specs.definitions.StateImage.{STATE}
 use Rattle.engine.specs.declared.refusal.Refusal.{Refusal}
 use Rattle.engine.specs.declared.refusal.Refusal.TheVariants.{Header}
 use Rattle.engine.specs.inner_contracts.LineMemory.{NoHeader, HeaderRead}
@@ -53,6 +57,7 @@ pub record Kept (m : Memory) (bytes : List ℕ) (n : Memory) : Type 0 where
 
 -- the chunk's bytes up to `end` are kept: what is to be printed is the same, and so is what will be left, whatever bytes come after the chunk
 pub record Gathers (m : Memory) (chunk : List ℕ) (end : ℕ) (n : Memory) : Type 0 where
+  pub same : n.text ≡ m.text
   pub part : PartOfLine n.waiting
   pub stands : (a : Awaits) → Stands m a → Stands n a
   pub is : (a : Awaits) (rest : List ℕ) → to_print a (m.waiting ++ (chunk ++ rest)) ≡ to_print a (n.waiting ++ (drop end chunk ++ rest))
@@ -85,6 +90,7 @@ pub record Takes (m : Memory) (a : Awaits) (n : Memory) (out : List ℕ) (r : �
   pub stands : Stands n (awaited_after a m.waiting)
 
 pub record LinePut (m n : Memory) (out : List ℕ) (r : ℕ) : Type 0 where
+  pub same : n.text ≡ m.text
   pub short : r ≤ ROOM
   pub part : PartOfLine m.waiting
   pub none_waits : n.waiting ≡ []
@@ -108,7 +114,9 @@ pub record Goes (m : Memory) (a : Awaits) (chunk : List ℕ) (n : Memory) (out :
   pub is : (rest : List ℕ) → to_print a (m.waiting ++ (chunk ++ rest)) ≡ take used out ++ to_print later (n.waiting ++ (drop taken chunk ++ rest))
   pub left : (rest : List ℕ) → left_after a (m.waiting ++ (chunk ++ rest)) ≡ left_after later (n.waiting ++ (drop taken chunk ++ rest))
 
+-- .. and the bench is the same
 pub record Feeding (m : Memory) (chunk : List ℕ) (n : Memory) (out : List ℕ) (taken used : ℕ) : Type 0 where
+  pub same : n.text ≡ m.text
   pub inside : taken ≤ length chunk
   pub fits : used ≤ length out
   pub still : taken ≡ 0 → used ≡ 0
@@ -138,8 +146,13 @@ pub record Finished (m : Memory) (out : List ℕ) (r : ℕ) : Type 0 where
 
 -- ---- the beginning
 
+-- what a text is read as: its bench, or its fault
+abbrev pub ReadAs : List ℕ → Result (List ℕ) Fault → Type 0
+ReadAs text read = MatchResult read (λ bench. bench ≡ text) (λ fault. verdict text ≡ refused_at (fault_code fault.kind) fault.at)
+
 -- a bench that is accepted, and one that is refused
 pub record Started (text : List ℕ) (m : Memory) : Type 0 where
+  pub text_is : m.text ≡ text
   pub none_waits : m.waiting ≡ []
   pub opened : opening (verdict text) ≡ []
   pub stands : Stands m (awaited_first (verdict text))
@@ -148,3 +161,16 @@ pub record BenchRefused (text out : List ℕ) (used : ℕ) : Type 0 where
   pub fits : used ≤ ROOM
   pub opened : take used out ≡ opening (verdict text)
   pub closes : awaited_first (verdict text) ≡ Awaits.nothing
+
+-- ---- memory that the caller has
+
+-- as much of it as there is room for
+abbrev pub cut : Memory → Memory
+cut m = record { text = m.text; stage = m.stage; columns = take MOST_COLUMNS m.columns; waiting = take LINE m.waiting; state = take STATE m.state }
+
+-- .. which stands for the same: what is to be printed is the same, and so is what will be left, whatever bytes come after those that wait
+pub record Resumed (m n : Memory) : Type 0 where
+  pub is : n ≡ cut m
+  pub stands : (a : Awaits) → Stands m a → Stands n a
+  pub prints : (a : Awaits) (rest : List ℕ) → to_print a (m.waiting ++ rest) ≡ to_print a (n.waiting ++ rest)
+  pub left : (a : Awaits) (rest : List ℕ) → left_after a (m.waiting ++ rest) ≡ left_after a (n.waiting ++ rest)

@@ -1,7 +1,7 @@
 -- A run's steps, one after another.
 use Prim.Native.Nat.{ℕ, ◌-◌, ◌≤◌, ◌<◌}
 use native.Mathlib.Omega.{arith}
-use mathlib.Core.Path.{◌≡◌, refl, sym, subst}
+use mathlib.Core.Path.{◌≡◌, refl, sym, ◌∙◌, subst}
 use mathlib.Core.Bool.{Bool, true, false}
 use mathlib.Core.List.{List, [], ◌∷◌, ◌++◌, append_assoc}
 use lib.Dec.{leb}
@@ -17,12 +17,13 @@ use Rattle.runner.specs.inner_contracts.Passing.{Passed, FilePassed}
 
 module _ (m : Memory) (chunk : List ℕ) where
   pub passed_none : Passed m chunk [] m chunk
-  passed_none = record { printed = []; goes = λ later all w. w }
+  passed_none = record { same = refl; printed = []; goes = λ later all w. w }
 
   -- a part of the chunk is fed, the rest as code lends it
   pub passed_fed : {n n2 : Memory} {rest out : List ℕ} {r : Progress} → Passed m chunk [] n rest → Fed n rest n2 out r
       → Passed m chunk [] n2 (take (length rest - r.taken) (drop r.taken rest))
   passed_fed {n2 = n2} {rest = rest} {out = out} {r = r} p f = record {
+    same = f.fed.same ∙ p.same;
     printed = p.printed ++ take r.used out;
     goes = λ later all w.
         let d = length-drop r.taken rest in
@@ -44,6 +45,7 @@ pub file_more : {m n n2 : Memory} (chunk : List ℕ) → FilePassed m n → Pass
 file_more {m} chunk f p = record {
   chunks = f.chunks ++ chunk ∷ [];
   passed = record {
+    same = p.same ∙ f.passed.same;
     printed = f.passed.printed ++ p.printed;
     goes = λ later all w.
         let a = f.passed.goes (chunk ∷ later) (p.printed ++ all) (reads (p.goes later all w)) in

@@ -1,5 +1,5 @@
 use Rattle.std.proofs.Common.{arith, []}
-use Rattle.replay.proofs.steps.LineLaws.{names_put, values_put, nothing_put, values_known, still_stood}
+use Rattle.replay.proofs.steps.LineLaws.{names_put, values_put, nothing_put, still_stood}
 use Rattle.replay.proofs.Replay.put_line.Goals.{in-Names, in-Values, in-Closed}
 use Rattle.replay.proofs.Replay.put_line.Goals as goal
 
