@@ -2,6 +2,8 @@
 // tests/oracle/to_program.py writes the cases; `stored_texts` and `replay_cases` have what the definitions give for the stored ones.
 #![tactic(auto)]
 
+ghost use Rattle.std.specs.Prelude.{◌≤◌, length};
+
 use std::env::FillError;
 use std::io;
 use std::rt::Env;
@@ -10,7 +12,9 @@ use std::rt::Env;
 const PATH: usize = 4096;
 
 // The parts one after another, as much of them as there is room for.
-fn join<'a>(path: &'a mut [u8], parts: &[&[u8]]) -> &'a [u8] {
+fn join<'a>(path: &'a mut [u8], parts: &[&[u8]]) -> &'a [u8]
+    ensures { length result.now ≤ length path.old }
+{
     let mut end = 0;
     for part in parts {
         let n = part.len().min(path.len() - end);
