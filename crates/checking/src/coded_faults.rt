@@ -1,4 +1,4 @@
-// Faults by their numbers, of whatever list.
+// Faults by their numbers, whatever numbers those are.
 ghost use Rattle.std.specs.Prelude.{◌≡◌};
 ghost use Rattle.checking.specs.definitions.Faults.{fault_unless, earliest};
 ghost use Rattle.checking.specs.inner_contracts.FoundFaults.{merged};

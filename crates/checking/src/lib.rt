@@ -2,7 +2,7 @@
 #![tactic(auto)]
 
 pub mod check; // the check of a text
-pub mod coded_faults; // faults by their numbers, of whatever list
+pub mod coded_faults; // faults by their numbers, whatever those are
 pub mod columns; // the columns and the directory, lent together
 pub mod conditions; // names and kinds of conditions and calls
 pub mod counts; // the counts of a file's items

@@ -1,4 +1,4 @@
-// What a column of a token table and the directory of a file say.
+// What the columns of a token table and the directory of a file say.
 ghost use Rattle.std.specs.Prelude.{◌≡◌, ◌<◌, length, get_or};
 ghost use Rattle.values.specs.definitions.Bytes.{same_bytes};
 ghost use Rattle.checking.specs.inner_contracts.Directory.{name_in, sort_class};

@@ -189,6 +189,7 @@ impl<'a> ResolvedBench<'a> {
 
     /// Takes a record under a header that is read, `columns` with the numbers of its `count` columns, on memory that is a state: the length of its
     /// sender's row, or a refusal.
+    #[inline]
     pub fn take_record(
         &self,
         columns: &[u16],

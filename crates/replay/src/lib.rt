@@ -4,7 +4,7 @@
 
 pub mod rows; // what a line prints
 
-ghost use Rattle.std.specs.Prelude.{ℕ, List, true, ◌≡◌, ◌≤◌, ◌<◌, ◌⊎◌, length, eqb, MatchOption, MatchResult};
+ghost use Rattle.std.specs.Prelude.{true, ◌≡◌, ◌≤◌, ◌<◌, ◌⊎◌, length, eqb, MatchOption, MatchResult};
 ghost use Rattle.std.specs.List.{position};
 ghost use Rattle.text.specs.inner_contracts.TokenTable.{columns_of};
 ghost use Rattle.checking.specs.definitions.Verdict;
@@ -16,9 +16,8 @@ ghost use Rattle.senders.specs.definitions.StateImage;
 ghost use Rattle.engine.specs.definitions.Calls;
 ghost use Rattle.replay.specs.inner_contracts.Awaiting.{memory_of, Stood};
 ghost use Rattle.replay.specs.inner_contracts.Feeding;
-ghost use Rattle.replay.specs.inner_contracts.Feeding.{Kept, Gathers, LineGathered, HeaderTaken, NamesRefused, LinePut, Fed, Finished, ReadAs, Started, BenchRefused, Resumed, is_over, is_closed};
+ghost use Rattle.replay.specs.inner_contracts.Feeding.{Kept, Gathers, LineGathered, HeaderTaken, NamesRefused, LinePut, Fed, Finished, Started, BenchRefused, Resumed, is_over, is_closed};
 
-use checking::Fault;
 use cycles::layout::{MOST_COLUMNS, MOST_HEADER_BYTES, MOST_ROW_BYTES};
 use engine::refusal::Refusal;
 use engine::room::{AcceptedBench, ResolvedBench, Room, read_into};
@@ -72,6 +71,8 @@ impl<'a> Model for Replay<'a> {
 }
 
 /// Starts a bench with its fresh state; or puts its refusal, so many bytes.
+// Not inlined: what it works in leaves the stack before the readings are fed.
+#[inline(never)]
 pub fn start<'a, const N: usize>(
     room: &'a mut Room<N>,
     text: &'a [u8],
@@ -81,7 +82,10 @@ pub fn start<'a, const N: usize>(
     requires room { Feeding.ROOM ≤ length out.old }
     ensures { MatchResult result (Started text.now) (BenchRefused text.now out.new) }
 {
-    begin(room.read(text), out)
+    match room.read(text) {
+        Ok(bench) => Ok(Replay::new(bench)),
+        Err(fault) => Err(put_bench_refusal(out, fault.kind.code(), fault.at)),
+    }
 }
 
 /// The same over columns of the caller's, of whatever lengths there is room in for the text.
@@ -101,20 +105,11 @@ pub fn start_in<'a>(
     requires room { Feeding.ROOM ≤ length out.old }
     ensures { MatchResult result (Started text.now) (BenchRefused text.now out.new) }
 {
-    let read = read_into(
+    match read_into(
         text, classes, offsets, lengths, literals, directory, references, scopes,
-    );
-    begin(read, out)
-}
-
-// Starts the bench that a text was read as; or puts why it is none.
-fn begin<'a>(read: Result<AcceptedBench<'a>, Fault>, out: &mut [u8]) -> Result<Replay<'a>, usize>
-    requires { Feeding.ROOM ≤ length out.old }
-    ensures { (text : List ℕ) → ReadAs text read.entry → MatchResult result (Started text) (BenchRefused text out.new) }
-{
-    match read {
+    ) {
         Ok(bench) => Ok(Replay::new(bench)),
-        Err(fault) => Err(put_bench_refusal(out, fault.kind.code(), fault.at)),
+        Err(found) => Err(put_bench_refusal(out, found.kind.code(), found.at)),
     }
 }
 
@@ -222,6 +217,7 @@ impl<'a> Replay<'a> {
     }
 
     // Keeps more bytes of the line, as many as there is room for: a line that fills the room is too long, whatever follows.
+    #[inline]
     fn keep(&mut self, bytes: &[u8])
         requires { PartOfLine bytes.now }
         ensures { Kept self.old bytes.now self.new }

@@ -32,6 +32,7 @@ pub fn put_bench_refusal(out: &mut [u8], code: u8, at: u32) -> usize
 }
 
 /// Ends a row that stands in the buffer, or puts the refusal of its line.
+#[inline]
 #[tactic(auto, using(crate::proofs::steps::LineLaws::refusal_most))]
 pub fn end_row(row: Result<usize, Refusal>, out: &mut [u8]) -> usize
     requires { IfOk row (λ n. n ≤ Row.MOST_ROW_BYTES) × (Feeding.ROOM ≤ length out.old) }

@@ -95,7 +95,8 @@ impl<'a> Output<'a> {
     }
 
     // Feeds a file, chunk by chunk, as long as something is awaited and what it prints can be written. A proved loop has to end, so the turns are
-    // counted, to a number that no run reaches.
+    // counted, to a number that no run reaches. Not inlined, as `start`: so the chunk is not on the stack while a bench is started.
+    #[inline(never)]
     #[tactic(auto, using(crate::proofs::steps::PassingLaws::file_none))]
     fn pass_file(&mut self, replay: &mut Replay<'_>, file: &mut File)
         ensures { FilePassed replay.old replay.new }

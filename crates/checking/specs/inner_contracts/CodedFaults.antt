@@ -1,4 +1,4 @@
--- Faults by their numbers, of whatever list: what is found, and what two parts of a rule have together.
+-- Faults by their numbers, whatever numbers those are: what is found, and what two parts of a rule have together.
 use Rattle.std.specs.Prelude.{◌≡◌, Some, None}
 use Rattle.std.specs.Prelude as code
 use mathlib.Core.List.{List, ◌++◌}

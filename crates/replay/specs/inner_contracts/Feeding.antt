@@ -1,10 +1,8 @@
 -- What the parts of a replay over chunks of a text promise: contracts.
-use Rattle.std.specs.Prelude.{ℕ, ◌+◌, ◌≤◌, ◌<◌, ◌≡◌, Bool, true, false, List, [], ◌∷◌, ◌++◌, Result, Ok, Err, MatchResult, eqb, length, get_or, take, drop}
+use Rattle.std.specs.Prelude.{ℕ, ◌+◌, ◌≤◌, ◌<◌, ◌≡◌, Bool, true, false, List, [], ◌∷◌, ◌++◌, Result, Ok, Err, eqb, length, get_or, take, drop}
 use Rattle.std.proofs.Math.Option.{some}
 use Rattle.text.specs.definitions.Syntax.{File}
-use Rattle.checking.specs.definitions.Verdict.{verdict, accepted_file, refused_at}
-use Rattle.checking.specs.declared.faults.Fault.{Fault}
-use Rattle.checking.specs.inner_contracts.FoundFaults.{fault_code}
+use Rattle.checking.specs.definitions.Verdict.{verdict, accepted_file}
 use Rattle.cycles.specs.definitions.Readings.{PartOfLine}
 use Rattle.cycles.specs.definitions.Header.{MOST_HEADER_BYTES}
 use Rattle.cycles.specs.definitions.Row.{MOST_ROW_BYTES, row_header}
@@ -145,10 +143,6 @@ pub record Finished (m : Memory) (out : List ℕ) (r : ℕ) : Type 0 where
   pub is : (a : Awaits) → Stands m a → take r out ≡ to_print a m.waiting
 
 -- ---- the beginning
-
--- what a text is read as: its bench, or its fault
-abbrev pub ReadAs : List ℕ → Result (List ℕ) Fault → Type 0
-ReadAs text read = MatchResult read (λ bench. bench ≡ text) (λ fault. verdict text ≡ refused_at (fault_code fault.kind) fault.at)
 
 -- a bench that is accepted, and one that is refused
 pub record Started (text : List ℕ) (m : Memory) : Type 0 where

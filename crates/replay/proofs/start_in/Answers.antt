@@ -1,0 +1,12 @@
+use Rattle.std.proofs.Common.{ap, subst, sym, ◌∙◌}
+use Rattle.checking.specs.definitions.Verdict.{Verdict}
+use Rattle.replay.specs.inner_contracts.Feeding.{Started}
+use Rattle.replay.proofs.steps.StartLaws.{bench_refused}
+use Rattle.replay.proofs.start_in.Goals as goal
+
+pub returns-in-Ok : goal.returns-in-Ok
+returns-in-Ok c = subst (λ text. Started text c.new.result) c.in-Ok.ensures c.new.ensures
+
+pub returns-in-Err : goal.returns-in-Err
+returns-in-Err c =
+    bench_refused (c.in-Err.ensures ∙ ap (λ code. Verdict.refused_at code c.in-Err.found.at) (sym c.code.ensures)) c.requires.room c.put_bench_refusal.ensures
