@@ -16,7 +16,7 @@ ghost use Rattle.senders.specs.definitions.StateImage;
 ghost use Rattle.engine.specs.definitions.Calls;
 ghost use Rattle.replay.specs.inner_contracts.Awaiting.{memory_of, Stood};
 ghost use Rattle.replay.specs.inner_contracts.Feeding;
-ghost use Rattle.replay.specs.inner_contracts.Feeding.{Kept, Gathers, LineGathered, HeaderTaken, NamesRefused, LinePut, Fed, Finished, Started, BenchRefused, Resumed, is_over, is_closed};
+ghost use Rattle.replay.specs.inner_contracts.Feeding.{Kept, GathersOn, LineGatheredOn, HeaderTaken, NamesRefused, LinePutOn, FedOn, Finished, StartedOn, BenchRefused, Resumed, is_over, is_closed};
 
 use cycles::layout::{MOST_COLUMNS, MOST_HEADER_BYTES, MOST_ROW_BYTES};
 use engine::refusal::Refusal;
@@ -80,7 +80,7 @@ pub fn start<'a, const N: usize>(
 ) -> Result<Replay<'a>, usize>
     requires text { (length text.now ≤ N) ⊎ ((Verdict.MOST_BYTES ≤ N) ⊎ (Verdict.MOST_BYTES < length text.now)) }
     requires room { Feeding.ROOM ≤ length out.old }
-    ensures { MatchResult result (Started text.now) (BenchRefused text.now out.new) }
+    ensures { MatchResult result (StartedOn text.now) (BenchRefused text.now out.new) }
 {
     match room.read(text) {
         Ok(bench) => Ok(Replay::new(bench)),
@@ -103,7 +103,7 @@ pub fn start_in<'a>(
     requires columns { has_room text.now (columns_of classes.old offsets.old lengths.old literals.old) directory.old ≡ true }
     requires to_resolve { (length classes.old ≤ length references.old) × (ReadSets.SCOPES_BYTES ≤ length scopes.old) }
     requires room { Feeding.ROOM ≤ length out.old }
-    ensures { MatchResult result (Started text.now) (BenchRefused text.now out.new) }
+    ensures { MatchResult result (StartedOn text.now) (BenchRefused text.now out.new) }
 {
     match read_into(
         text, classes, offsets, lengths, literals, directory, references, scopes,
@@ -140,7 +140,7 @@ fn take_names(
 impl<'a> Replay<'a> {
     /// A bench with its fresh state, which awaits the line of names.
     pub fn new(bench: AcceptedBench<'a>) -> Self
-        ensures { Started bench.entry result }
+        ensures { StartedOn bench.entry result }
     {
         let mut state = [0; STATE];
         bench.put_fresh(&mut state);
@@ -230,7 +230,7 @@ impl<'a> Replay<'a> {
 
     // Keeps the bytes of a line up to its line feed, and answers where that stands; or all of the chunk.
     fn gather(&mut self, chunk: &[u8]) -> Option<usize>
-        ensures { MatchOption result (Gathers self.old chunk.now (length chunk.now) self.new) (LineGathered self.old chunk.now self.new) }
+        ensures { MatchOption result (GathersOn self.old chunk.now (length chunk.now) self.new) (LineGatheredOn self.old chunk.now self.new) }
     {
         let end = line_end(chunk);
         self.keep(&chunk[..end.unwrap_or(chunk.len())]);
@@ -240,7 +240,7 @@ impl<'a> Replay<'a> {
     // Puts what the line prints that waits, which is taken then: how many bytes.
     fn put_line(&mut self, out: &mut [u8]) -> usize
         requires { Feeding.ROOM ≤ length out.old }
-        ensures { LinePut self.old self.new out.new result }
+        ensures { LinePutOn self.old self.new out.new result }
     {
         let Replay {
             bench,
@@ -267,7 +267,7 @@ impl<'a> Replay<'a> {
 
     /// Takes the lines of a chunk, as long as the buffer has room for a row, and keeps the bytes of an unfinished one.
     pub fn feed(&mut self, chunk: &[u8], out: &mut [u8]) -> Progress
-        ensures { Fed self.old chunk.now self.new out.new result }
+        ensures { FedOn self.old chunk.now self.new out.new result }
     {
         let mut taken = 0;
         let mut used = 0;

@@ -3,7 +3,7 @@
 #![tactic(auto)]
 
 ghost use Rattle.std.specs.Prelude.{◌≡◌, ◌≤◌, [], length, take};
-ghost use Rattle.runner.specs.inner_contracts.Passing.{Passed, FilePassed};
+ghost use Rattle.runner.specs.inner_contracts.Passing.{PassedOn, FilePassedOn};
 
 use checking::layout::MOST_BYTES;
 use engine::room::Room;
@@ -84,7 +84,7 @@ impl<'a> Output<'a> {
 
     // Feeds a chunk and writes what it prints.
     fn pass(&mut self, replay: &mut Replay<'_>, chunk: &[u8])
-        ensures { Passed replay.old chunk.now [] replay.new [] }
+        ensures { PassedOn replay.old chunk.now [] replay.new [] }
     {
         let mut rest = chunk;
         while !rest.is_empty() {
@@ -97,9 +97,9 @@ impl<'a> Output<'a> {
     // Feeds a file, chunk by chunk, as long as something is awaited and what it prints can be written. A proved loop has to end, so the turns are
     // counted, to a number that no run reaches. Not inlined, as `start`: so the chunk is not on the stack while a bench is started.
     #[inline(never)]
-    #[tactic(auto, using(crate::proofs::steps::PassingLaws::file_none))]
+    #[tactic(auto, using(crate::proofs::steps::PassingLaws::file_none_on))]
     fn pass_file(&mut self, replay: &mut Replay<'_>, file: &mut File)
-        ensures { FilePassed replay.old replay.new }
+        ensures { FilePassedOn replay.old replay.new }
     {
         let mut chunk = [0; CHUNK];
         for _ in 0..u64::MAX {
@@ -115,9 +115,9 @@ impl<'a> Output<'a> {
     }
 
     // Feeds the file of that name, which is closed then. A file that cannot be opened gives no chunk.
-    #[tactic(auto, using(crate::proofs::steps::PassingLaws::file_none))]
+    #[tactic(auto, using(crate::proofs::steps::PassingLaws::file_none_on))]
     fn pass_path(&mut self, replay: &mut Replay<'_>, path: &[u8])
-        ensures { FilePassed replay.old replay.new }
+        ensures { FilePassedOn replay.old replay.new }
     {
         let Some(mut file) = open_file(self.rt, path) else {
             return;

@@ -1,11 +1,11 @@
 use Rattle.std.proofs.Common.{ap, subst, sym, ◌∙◌}
 use Rattle.checking.specs.definitions.Verdict.{Verdict}
-use Rattle.replay.specs.inner_contracts.Feeding.{Started}
+use Rattle.replay.specs.inner_contracts.Feeding.{StartedOn}
 use Rattle.replay.proofs.steps.StartLaws.{bench_refused}
 use Rattle.replay.proofs.start_in.Goals as goal
 
 pub returns-in-Ok : goal.returns-in-Ok
-returns-in-Ok c = subst (λ text. Started text c.new.result) c.in-Ok.ensures c.new.ensures
+returns-in-Ok c = subst (λ text. StartedOn text c.new.result) c.in-Ok.ensures c.new.ensures
 
 pub returns-in-Err : goal.returns-in-Err
 returns-in-Err c =

@@ -16,7 +16,7 @@ use Rattle.cycles.specs.definitions.Header.{Column, header}
 use Rattle.cycles.specs.definitions.Readings.{PartOfLine}
 use Rattle.replay.specs.inner_contracts.Awaiting.{Awaits, awaited_under, prints, awaited_after, prints_at_end, to_print, left_after, Memory, StandsAt}
 use Rattle.replay.specs.inner_contracts.Awaiting.Awaits.{names, values, nothing}
-use Rattle.replay.specs.inner_contracts.Feeding.{Gathers, LineGathered, LinePut, Feeding, Finished, is_over}
+use Rattle.replay.specs.inner_contracts.Feeding.{Gathers, LineGathered, LinePut, Feeding, GathersOn, LineGatheredOn, LinePutOn, FeedingOn, Finished, is_over}
 use Rattle.replay.specs.declared.Stage.{Stage}
 use Rattle.replay.specs.declared.Stage.TheVariants.{Names, Values, Closed}
 use Rattle.replay.proofs.laws.AwaitingLaws.{print_fed, left_fed, print_last, print_none, nothing_printed}
@@ -35,7 +35,6 @@ room_left out used part h e = e ∙ ap length (rest_is out used) ∙ length-drop
 module _ (m : Memory) (chunk : List ℕ) where
   pub feeding_none : (out : List ℕ) → Feeding m chunk m out 0 0
   feeding_none out = record {
-    same = refl;
     inside = omega arith;
     fits = omega arith;
     still = λ h. refl;
@@ -46,7 +45,6 @@ module _ (m : Memory) (chunk : List ℕ) where
     -- the chunk ends before the line does
     pub feeding_waits : Gathers n (take (length chunk - taken) (drop taken chunk)) (length (take (length chunk - taken) (drop taken chunk))) n2 → Feeding m chunk n2 out (length chunk) used
     feeding_waits g0 = let g : Gathers n (drop taken chunk) (length (drop taken chunk)) n2 = subst (λ (l : List ℕ). Gathers n l (length l) n2) (rest_is chunk taken) g0 in record {
-      same = g.same ∙ f.same;
       inside = omega arith;
       fits = f.fits;
       still = λ h. f.still (let i = f.inside in omega arith);
@@ -70,7 +68,6 @@ module _ (m : Memory) (chunk : List ℕ) where
         → r ≤ length part
         → Feeding m chunk n3 out2 (taken + (end + 1)) (used + r)
     feeding_put {end} l0 {n3} part rest0 {out2} {r} p e fits = record {
-      same = p.same ∙ (l.gathers.same ∙ f.same);
       inside = let i = l.inside in let d = length-drop taken chunk in omega arith;
       fits =
           let z = ap length e ∙ length-append (take used out) (part ++ rest0) in
@@ -118,6 +115,23 @@ module _ (m : Memory) (chunk : List ℕ) where
             drop-cons (drop taken chunk) end 0 l.inside
             ∙ ap (λ (x : ℕ). x ∷ drop (suc end) (drop taken chunk)) l.feeds
             ∙ ap (λ (x : List ℕ). 10 ∷ x) (ap (λ (x : ℕ). drop x (drop taken chunk)) (sym (add-one end)) ∙ drop-drop (end + 1) taken chunk)
+
+-- .. on one bench
+module _ (m : Memory) (chunk : List ℕ) where
+  pub feeding_none_on : (out : List ℕ) → FeedingOn m chunk m out 0 0
+  feeding_none_on out = record { same = refl; feeding = feeding_none m chunk out }
+
+  module _ {n n2 : Memory} {out : List ℕ} {taken used : ℕ} (f : FeedingOn m chunk n out taken used) where
+    pub feeding_waits_on : GathersOn n (take (length chunk - taken) (drop taken chunk)) (length (take (length chunk - taken) (drop taken chunk))) n2
+        → FeedingOn m chunk n2 out (length chunk) used
+    feeding_waits_on g = record { same = g.same ∙ f.same; feeding = feeding_waits m chunk f.feeding g.gathers }
+
+    pub feeding_put_on : {end : ℕ} → LineGatheredOn n (take (length chunk - taken) (drop taken chunk)) n2 end
+        → {n3 : Memory} (part rest : List ℕ) {out2 : List ℕ} {r : ℕ} → LinePutOn n2 n3 part r → out2 ≡ take used out ++ (part ++ rest)
+        → r ≤ length part
+        → FeedingOn m chunk n3 out2 (taken + (end + 1)) (used + r)
+    feeding_put_on l part rest p e fits =
+        record { same = p.same ∙ (l.same ∙ f.same); feeding = feeding_put m chunk f.feeding l.line part rest p.put e fits }
 
 -- ---- the text's end
 

@@ -17,7 +17,7 @@ use Rattle.cycles.specs.definitions.Readings.{PartOfLine}
 use Rattle.cycles.proofs.laws.ReadingsLaws.{part_append, part_take}
 use Rattle.replay.specs.inner_contracts.Awaiting.{to_print, left_after, Memory, Stood}
 use Rattle.replay.specs.declared.Stage.{Stage}
-use Rattle.replay.specs.inner_contracts.Feeding.{LINE, kept, Kept, Gathers, LineGathered}
+use Rattle.replay.specs.inner_contracts.Feeding.{LINE, kept, Kept, Gathers, LineGathered, GathersOn, LineGatheredOn}
 use Rattle.replay.proofs.laws.AwaitingLaws.{print_cut, left_cut}
 
 -- ---- the first line feed
@@ -45,6 +45,9 @@ feed_there (b ∷ l) h = go (feed_there l) (eqb b 10) refl h
 
 -- ---- bytes are kept
 
+pub kept_same : {m n : Memory} {bytes : List ℕ} → Kept m bytes n → n.text ≡ m.text
+kept_same k = ap (λ (x : Memory). x.text) k.is
+
 module _ {m n : Memory} (chunk : List ℕ) (end : ℕ) (k : Kept m (take end chunk) n) (piece : PartOfLine (take end chunk)) where
   all : PartOfLine (m.waiting ++ take end chunk)
   all = part_append m.waiting (take end chunk) k.part piece
@@ -57,12 +60,15 @@ module _ {m n : Memory} (chunk : List ℕ) (end : ℕ) (k : Kept m (take end chu
 
   pub gathered : Gathers m chunk end n
   gathered = rw k.is (record {
-    same = refl;
     part = part_take LINE (m.waiting ++ take end chunk) all;
     stands = λ a s. s;
     is = λ a rest. ap (to_print a) (joined_up rest) ∙ print_cut LINE (omega arith) a (m.waiting ++ take end chunk) (drop end chunk ++ rest) all;
     left = λ a rest. ap (left_after a) (joined_up rest) ∙ left_cut LINE (omega arith) a (m.waiting ++ take end chunk) (drop end chunk ++ rest) all;
   })
+
+  -- .. on one bench
+  pub gathered_on : GathersOn m chunk end n
+  gathered_on = record { same = kept_same k; gathers = gathered }
 
 -- what waits is still a part of a line
 pub kept_stood : {m : Memory} (bytes : List ℕ) → Stood m → PartOfLine bytes → Stood (kept m bytes)
@@ -125,6 +131,15 @@ chunk_gathered {chunk = chunk} h k =
     gathered chunk (length chunk) k
     (subst PartOfLine (take_all (end_of chunk) chunk h ∙ sym (take_all (length chunk) chunk (omega arith))) (part_before chunk))
 
+-- .. on one bench
+pub line_gathered_on : {m n : Memory} {chunk : List ℕ} → end_of chunk < length chunk → Kept m (take (end_of chunk) chunk) n
+    → LineGatheredOn m chunk n (end_of chunk)
+line_gathered_on h k = record { same = kept_same k; line = line_gathered h k }
+
+pub chunk_gathered_on : {m n : Memory} {chunk : List ℕ} → length chunk ≤ end_of chunk → Kept m (take (length chunk) chunk) n
+    → GathersOn m chunk (length chunk) n
+chunk_gathered_on h k = record { same = kept_same k; gathers = chunk_gathered h k }
+
 -- .. as the search for one says
 module _ (chunk : List ℕ) {end : Option ℕ} (e : end ≡ position (λ b. eqb b 10) chunk) {r : ℕ} (i : r ≡ unwrap_or end (length chunk)) where
   found : (b : Bool) → ltb (end_of chunk) (length chunk) ≡ b → end ≡ cond b (Some (end_of chunk)) None
@@ -150,3 +165,12 @@ module _ (chunk : List ℕ) {end : Option ℕ} (e : end ≡ position (λ b. eqb 
       go false h =
           let j : r ≡ length chunk = i ∙ rw (found false h) refl in
           rw (found false h) (chunk_gathered (ltb-false (end_of chunk) (length chunk) h) (subst (λ (x : ℕ). Kept m (take x chunk) n) j k))
+
+  -- .. on one bench
+  pub gathers_on : {m n : Memory} → Kept m (take r chunk) n → MatchOption end (GathersOn m chunk (length chunk) n) (LineGatheredOn m chunk n)
+  gathers_on {m} {n} k = go end (gathers k)
+    where
+      go : (o : Option ℕ) → MatchOption o (Gathers m chunk (length chunk) n) (LineGathered m chunk n)
+          → MatchOption o (GathersOn m chunk (length chunk) n) (LineGatheredOn m chunk n)
+      go None g = record { same = kept_same k; gathers = g }
+      go (Some at) l = record { same = kept_same k; line = l }

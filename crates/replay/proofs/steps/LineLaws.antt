@@ -28,7 +28,7 @@ use Rattle.engine.proofs.laws.LineLaws.{length_told}
 use Rattle.replay.specs.definitions.Replay.{REFUSED, refusal, bench_refusal, row_for}
 use Rattle.replay.specs.inner_contracts.Awaiting.{Awaits, names_row, awaited_under, prints, awaited_after, Memory, StandsAt, Stood}
 use Rattle.replay.specs.inner_contracts.Awaiting.Awaits.{names, values, nothing}
-use Rattle.replay.specs.inner_contracts.Feeding.{ROOM, Takes, LinePut, ended_row, Ended, HeaderTaken, NamesRefused}
+use Rattle.replay.specs.inner_contracts.Feeding.{ROOM, Takes, LinePut, LinePutOn, ended_row, Ended, HeaderTaken, NamesRefused}
 use Rattle.replay.specs.declared.Stage.{Stage}
 use Rattle.replay.specs.declared.Stage.TheVariants.{Names, Values, Closed}
 
@@ -98,7 +98,6 @@ module _ (m : Memory) (part : PartOfLine m.waiting) {out : List ℕ} {r : ℕ} w
     names_refused : {why : Refusal} → NamesRefused m.text m.waiting stage why → Ended (Err why) row out r → LinePut m (after m stage columns m.state) out r
     unfolding prints names_row awaited_after awaited_under
     names_refused {why} n e = record {
-      same = refl;
       short = e.short;
       part = part;
       none_waits = refl;
@@ -118,7 +117,6 @@ module _ (m : Memory) (part : PartOfLine m.waiting) {out : List ℕ} {r : ℕ} w
     names_taken : {n : ℕ} → HeaderTaken m.text m.waiting stage columns row n → Ended (Ok n) row out r → LinePut m (after m stage columns m.state) out r
     unfolding prints names_row awaited_after awaited_under
     names_taken {n} t e = record {
-      same = refl;
       short = e.short;
       part = part;
       none_waits = refl;
@@ -143,6 +141,12 @@ module _ (m : Memory) (part : PartOfLine m.waiting) {out : List ℕ} {r : ℕ} w
     names_put {names = Ok n} t e = names_taken t e
     names_put {names = Err why} t e = names_refused t e
 
+    -- .. on one bench
+    pub names_put_on : {names : Result ℕ Refusal}
+        → MatchResult names (HeaderTaken m.text m.waiting stage columns row) (NamesRefused m.text m.waiting stage)
+        → Ended names row out r → LinePutOn m (after m stage columns m.state) out r
+    names_put_on t e = record { same = refl; put = names_put t e }
+
   -- ---- a line of values
 
   pub values_put : {count : ℕ} → m.stage ≡ Values count → {new_state before row : List ℕ} {taken : Result ℕ Refusal}
@@ -150,7 +154,6 @@ module _ (m : Memory) (part : PartOfLine m.waiting) {out : List ℕ} {r : ℕ} w
       → Ended taken row out r → LinePut m (after m m.stage m.columns new_state) out r
   unfolding prints awaited_after row_for state_after line_row
   values_put {count} at {new_state} {before} {row} {taken} t e = record {
-    same = refl;
     short = e.short;
     part = part;
     none_waits = refl;
@@ -177,12 +180,17 @@ module _ (m : Memory) (part : PartOfLine m.waiting) {out : List ℕ} {r : ℕ} w
       go Names h a q = let z : ◌≡◌ {A = ℕ} 0 1 = cc in absurd (omega arith)
       go Closed h a q = let z : ◌≡◌ {A = ℕ} 0 1 = cc in absurd (omega arith)
 
+  -- .. on one bench
+  pub values_put_on : {count : ℕ} → m.stage ≡ Values count → {new_state before row : List ℕ} {taken : Result ℕ Refusal}
+      → RecordTaken m.text m.columns count m.waiting m.state before new_state row taken
+      → Ended taken row out r → LinePutOn m (after m m.stage m.columns new_state) out r
+  values_put_on at t e = record { same = refl; put = values_put at t e }
+
 -- ---- nothing is awaited
 
 pub nothing_put : (m : Memory) (part : PartOfLine m.waiting) (out : List ℕ) → m.stage ≡ Closed → LinePut m (after m m.stage m.columns m.state) out 0
 unfolding prints awaited_after
 nothing_put m part out at = record {
-  same = refl;
   short = omega arith;
   part = part;
   none_waits = refl;
@@ -195,6 +203,11 @@ nothing_put m part out at = record {
     go Closed h (values _ _ _) q = elim q [ ]
     go Names h a q = let z : ◌≡◌ {A = ℕ} 0 1 = cc in absurd (omega arith)
     go (Values k) h a q = let z : ◌≡◌ {A = ℕ} 0 1 = cc in absurd (omega arith)
+
+-- .. on one bench
+pub nothing_put_on : (m : Memory) (part : PartOfLine m.waiting) (out : List ℕ) → m.stage ≡ Closed
+    → LinePutOn m (after m m.stage m.columns m.state) out 0
+nothing_put_on m part out at = record { same = refl; put = nothing_put m part out at }
 
 -- ---- what is known of memory
 

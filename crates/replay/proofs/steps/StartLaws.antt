@@ -21,7 +21,7 @@ use Rattle.engine.specs.definitions.Calls.{AfterFresh, freshened}
 use Rattle.replay.specs.definitions.Replay.{bench_refusal}
 use Rattle.replay.specs.inner_contracts.Awaiting.{opening, awaited_first, AtNames, Memory, Stood}
 use Rattle.replay.specs.inner_contracts.Awaiting.Awaits.{names}
-use Rattle.replay.specs.inner_contracts.Feeding.{ROOM, Started, BenchRefused}
+use Rattle.replay.specs.inner_contracts.Feeding.{ROOM, Started, StartedOn, BenchRefused}
 use Rattle.replay.specs.declared.Stage.TheVariants.{Names}
 use Rattle.replay.proofs.steps.LineLaws.{printed, refusal_most}
 
@@ -78,4 +78,8 @@ module _ {text resolved state : List ℕ} (same : resolved ≡ text) (b : FreshB
   unfolding opening awaited_first
   started =
       let v = file_is_accepted text b.at_names.accepted in
-      rw same (record { text_is = refl; none_waits = refl; opened = rw v; stands = rw v b.at_names })
+      rw same (record { none_waits = refl; opened = rw v; stands = rw v b.at_names })
+
+  -- .. of its text
+  pub started_on : StartedOn text (first resolved columns state)
+  started_on = record { text_is = same; started = started }

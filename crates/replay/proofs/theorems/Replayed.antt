@@ -11,7 +11,7 @@ use Rattle.replay.specs.definitions.Replay.{replay_by, replay}
 use Rattle.replay.specs.inner_contracts.Awaiting.{Awaits, to_print, awaited_first, Memory, StandsAt, Stands}
 use Rattle.replay.specs.inner_contracts.Awaiting.Awaits.{names, values, nothing}
 use Rattle.replay.specs.inner_contracts.Feeding.{is_closed}
-use Rattle.replay.specs.definitions.InChunks.{joined, Writes, Replays}
+use Rattle.replay.specs.definitions.InChunks.{joined, Writes, Replays, WritesOn, ReplaysOn}
 use Rattle.replay.specs.definitions.InChunks.Writes.{feeds, reads, ends, closes}
 use Rattle.replay.specs.definitions.InChunks.Replays.{begins, refuses}
 use Rattle.replay.specs.declared.Stage.{Stage}
@@ -57,3 +57,15 @@ replayed {text} {chunks} (refuses {out = out} {used = used} r) =
 pub replayed_cut : (bench : List ℕ) {chunks : List (List ℕ)} {all : List ℕ} → Replays (take (MOST_BYTES + 1) bench) chunks all → all ≡ replay bench (joined chunks)
 unfolding replay
 replayed_cut bench {chunks} w = replayed w ∙ ap (λ v. replay_by v (lines (joined chunks))) (verdict_cut bench)
+
+-- ---- a run on one bench is a run
+
+on_writes : {m : Memory} {chunk all : List ℕ} {later : List (List ℕ)} → WritesOn m chunk later all → Writes m chunk later all
+on_writes (WritesOn.feeds f w) = feeds f.fed (on_writes w)
+on_writes (WritesOn.reads w) = reads (on_writes w)
+on_writes (WritesOn.ends h) = ends h
+on_writes (WritesOn.closes e) = closes e
+
+pub on_replays : {text : List ℕ} {chunks : List (List ℕ)} {all : List ℕ} → ReplaysOn text chunks all → Replays text chunks all
+on_replays (ReplaysOn.begins s w) = begins s.started (on_writes w)
+on_replays (ReplaysOn.refuses r) = refuses r

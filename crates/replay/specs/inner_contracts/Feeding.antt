@@ -55,7 +55,6 @@ pub record Kept (m : Memory) (bytes : List ℕ) (n : Memory) : Type 0 where
 
 -- the chunk's bytes up to `end` are kept: what is to be printed is the same, and so is what will be left, whatever bytes come after the chunk
 pub record Gathers (m : Memory) (chunk : List ℕ) (end : ℕ) (n : Memory) : Type 0 where
-  pub same : n.text ≡ m.text
   pub part : PartOfLine n.waiting
   pub stands : (a : Awaits) → Stands m a → Stands n a
   pub is : (a : Awaits) (rest : List ℕ) → to_print a (m.waiting ++ (chunk ++ rest)) ≡ to_print a (n.waiting ++ (drop end chunk ++ rest))
@@ -88,7 +87,6 @@ pub record Takes (m : Memory) (a : Awaits) (n : Memory) (out : List ℕ) (r : �
   pub stands : Stands n (awaited_after a m.waiting)
 
 pub record LinePut (m n : Memory) (out : List ℕ) (r : ℕ) : Type 0 where
-  pub same : n.text ≡ m.text
   pub short : r ≤ ROOM
   pub part : PartOfLine m.waiting
   pub none_waits : n.waiting ≡ []
@@ -112,9 +110,7 @@ pub record Goes (m : Memory) (a : Awaits) (chunk : List ℕ) (n : Memory) (out :
   pub is : (rest : List ℕ) → to_print a (m.waiting ++ (chunk ++ rest)) ≡ take used out ++ to_print later (n.waiting ++ (drop taken chunk ++ rest))
   pub left : (rest : List ℕ) → left_after a (m.waiting ++ (chunk ++ rest)) ≡ left_after later (n.waiting ++ (drop taken chunk ++ rest))
 
--- .. and the bench is the same
 pub record Feeding (m : Memory) (chunk : List ℕ) (n : Memory) (out : List ℕ) (taken used : ℕ) : Type 0 where
-  pub same : n.text ≡ m.text
   pub inside : taken ≤ length chunk
   pub fits : used ≤ length out
   pub still : taken ≡ 0 → used ≡ 0
@@ -146,7 +142,6 @@ pub record Finished (m : Memory) (out : List ℕ) (r : ℕ) : Type 0 where
 
 -- a bench that is accepted, and one that is refused
 pub record Started (text : List ℕ) (m : Memory) : Type 0 where
-  pub text_is : m.text ≡ text
   pub none_waits : m.waiting ≡ []
   pub opened : opening (verdict text) ≡ []
   pub stands : Stands m (awaited_first (verdict text))
@@ -155,6 +150,33 @@ pub record BenchRefused (text out : List ℕ) (used : ℕ) : Type 0 where
   pub fits : used ≤ ROOM
   pub opened : take used out ≡ opening (verdict text)
   pub closes : awaited_first (verdict text) ≡ Awaits.nothing
+
+-- ---- all of it on one bench: no call changes the text that memory is of
+
+pub record GathersOn (m : Memory) (chunk : List ℕ) (end : ℕ) (n : Memory) : Type 0 where
+  pub same : n.text ≡ m.text
+  pub gathers : Gathers m chunk end n
+
+pub record LineGatheredOn (m : Memory) (chunk : List ℕ) (n : Memory) (end : ℕ) : Type 0 where
+  pub same : n.text ≡ m.text
+  pub line : LineGathered m chunk n end
+
+pub record LinePutOn (m n : Memory) (out : List ℕ) (r : ℕ) : Type 0 where
+  pub same : n.text ≡ m.text
+  pub put : LinePut m n out r
+
+pub record FeedingOn (m : Memory) (chunk : List ℕ) (n : Memory) (out : List ℕ) (taken used : ℕ) : Type 0 where
+  pub same : n.text ≡ m.text
+  pub feeding : Feeding m chunk n out taken used
+
+pub record FedOn (m : Memory) (chunk : List ℕ) (n : Memory) (out : List ℕ) (r : Progress) : Type 0 where
+  pub same : n.text ≡ m.text
+  pub fed : Fed m chunk n out r
+
+-- .. and at the beginning it is of the text that is started
+pub record StartedOn (text : List ℕ) (m : Memory) : Type 0 where
+  pub text_is : m.text ≡ text
+  pub started : Started text m
 
 -- ---- memory that the caller has
 

@@ -5,4 +5,4 @@ pub returns-then-is_over-clause-printed : goal.returns-then-is_over-clause-print
 returns-then-is_over-clause-printed c = none_finished _ _ c.is_over.ensures c.if-is_over.true
 
 pub returns-clause-printed : goal.returns-clause-printed
-returns-clause-printed c = last_finished _ _ c.is_over.ensures c.if-is_over.false c.put_line.ensures
+returns-clause-printed c = last_finished _ _ c.is_over.ensures c.if-is_over.false c.put_line.ensures.put

@@ -1,5 +1,5 @@
-use Rattle.runner.specs.inner_contracts.Passing.{FilePassed}
+use Rattle.runner.specs.inner_contracts.Passing.{FilePassedOn}
 use Rattle.runner.proofs.Output.pass_file.Given as goal
 
 abbrev pub invariant-loop : goal.invariant-loop
-invariant-loop l = FilePassed l.fn.replay l.replay
+invariant-loop l = FilePassedOn l.fn.replay l.replay
