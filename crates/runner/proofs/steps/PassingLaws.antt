@@ -88,7 +88,7 @@ goes_on {r = r} f h room = go (leb r.taken 0) refl
 
 module _ (m : Memory) (chunk : List ℕ) where
   pub passed_none_on : PassedOn m chunk [] m chunk
-  passed_none_on = record { same = refl; printed = []; goes = λ later all w. w; goes_on = λ later all w. w }
+  passed_none_on = record { same = refl; printed = []; goes = λ later all w. w; goes_on_bench = λ later all w. w }
 
   pub passed_fed_on : {n n2 : Memory} {rest out : List ℕ} {r : Progress} → PassedOn m chunk [] n rest → FedOn n rest n2 out r
       → PassedOn m chunk [] n2 (take (length rest - r.taken) (drop r.taken rest))
@@ -96,7 +96,7 @@ module _ (m : Memory) (chunk : List ℕ) where
     same = f.same ∙ p.same;
     printed = p.printed ++ take r.used out;
     goes = fed_goes Writes p.printed (take r.used out) r.taken p.goes (λ later all w. feeds f.fed w);
-    goes_on = fed_goes WritesOn p.printed (take r.used out) r.taken p.goes_on (λ later all w. WritesOn.feeds f w);
+    goes_on_bench = fed_goes WritesOn p.printed (take r.used out) r.taken p.goes_on_bench (λ later all w. WritesOn.feeds f w);
   }
 
   pub passed_all_on : {n : Memory} (rest : List ℕ) → length rest ≡ 0 → PassedOn m chunk [] n rest → PassedOn m chunk [] n []
@@ -113,6 +113,6 @@ file_more_on chunk f p = record {
     same = p.same ∙ f.passed.same;
     printed = f.passed.printed ++ p.printed;
     goes = file_goes Writes f.chunks f.passed.printed p.printed f.passed.goes (λ later all w. reads w) p.goes;
-    goes_on = file_goes WritesOn f.chunks f.passed.printed p.printed f.passed.goes_on (λ later all w. WritesOn.reads w) p.goes_on;
+    goes_on_bench = file_goes WritesOn f.chunks f.passed.printed p.printed f.passed.goes_on_bench (λ later all w. WritesOn.reads w) p.goes_on_bench;
   };
 }

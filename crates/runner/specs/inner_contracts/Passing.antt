@@ -20,7 +20,7 @@ pub record PassedOn (m : Memory) (chunk : List ℕ) (more : List (List ℕ)) (n 
   pub same : n.text ≡ m.text
   pub printed : List ℕ
   pub goes : (later : List (List ℕ)) (all : List ℕ) → Writes n rest later all → Writes m chunk (more ++ later) (printed ++ all)
-  pub goes_on : (later : List (List ℕ)) (all : List ℕ) → WritesOn n rest later all → WritesOn m chunk (more ++ later) (printed ++ all)
+  pub goes_on_bench : (later : List (List ℕ)) (all : List ℕ) → WritesOn n rest later all → WritesOn m chunk (more ++ later) (printed ++ all)
 
 pub record FilePassedOn (m n : Memory) : Type 0 where
   pub chunks : List (List ℕ)
